@@ -83,7 +83,7 @@ static inline void set(int *word, int value) {
 
 /* Opens a queue for so many members. */
 static inline pq_queue *opened_as(uint32_t members, uint32_t keeping, uint32_t entries) {
-    pq_options options = { 0, 0, 0, 0, 0, 0 };
+    pq_options options = { 0, 0, 0, 0, 0, 0, 0 };
     pq_queue *queue = NULL;
     options.members = members;
     options.keeping = keeping;
@@ -94,6 +94,23 @@ static inline pq_queue *opened_as(uint32_t members, uint32_t keeping, uint32_t e
 
 static inline pq_queue *opened(uint32_t members) {
     return opened_as(members, PQ_FORGETS, 0);
+}
+
+/* Opens a queue that may have so many items, whose journal has room for so many entries. */
+static inline pq_queue *opened_within(uint64_t most_items, uint32_t entries) {
+    pq_options options = { 0, PQ_FILLS, 0, 0, 0, 0, 0 };
+    pq_queue *queue = NULL;
+    options.entries = entries;
+    options.most_items = most_items;
+    CHECK(pq_open(&options, &queue) == PQ_OK && queue != NULL);
+    return queue;
+}
+
+/* How many items the queue has. */
+static inline uint64_t size_of(pq_queue *queue) {
+    uint64_t size = UINT64_MAX;
+    CHECK(pq_size(pq_own(queue), PQ_FOREVER, &size) == PQ_OK);
+    return size;
 }
 
 /* Joins a queue that has a free member. */

@@ -254,7 +254,7 @@ static void *calls(void *at) {
 
 /* Draws a round. One in eight has a journal of few entries, and in one of eight a member holds the lock. */
 static plan drawn_round(numbers *drawn) {
-    pq_options options = { 0, 0, 0, 0, 0, 0 };
+    pq_options options = { 0, 0, 0, 0, 0, 0, 0 };
     plan it = { NULL, below(drawn, 64) + 1, 0, UINT64_MAX, below(drawn, 8) == 0, 0 };
     uint32_t few = below(drawn, 8);
     it.threads += it.is_kept && it.threads == 1;

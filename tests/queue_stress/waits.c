@@ -154,7 +154,7 @@ static void *all_pushed(void *at) {
 
 /* Draws a round, in half of which each taker goes with its share. */
 static plan drawn_round(numbers *drawn) {
-    pq_options options = { 0, 0, 0, 0, 0, 0 };
+    pq_options options = { 0, 0, 0, 0, 0, 0, 0 };
     plan it = { NULL, below(drawn, 8) + 1, below(drawn, 24) + 1, 0, below(drawn, 2000), UINT64_MAX, NULL, 0, 0, 0 };
     uint32_t few = below(drawn, 4);
     it.each = below(drawn, 2) == 0 ? below(drawn, 6) + 1 : 0;

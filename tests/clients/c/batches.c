@@ -1,8 +1,8 @@
 /* Batches: of no item, of one, of as many as there is room for; one that a refusal ends in its midst says how many were done, and these
-   stay done; a pop returns such a refusal at the next call. */
-#include "../check.h"
+   stay done; a pop returns such a refusal at the next call. A shut ends a long batch between two of its parts. */
+#include "../wrapped.h"
 
-enum { MANY = 100 };
+enum { MANY = 100, PART = 64, LONG = 5 * PART };
 
 static pq_item items[MANY], out[MANY + 1];
 
@@ -45,6 +45,21 @@ static void batches_of_each_size(void) {
     pq_journal_free(journal);
 }
 
+/* A batch that fills its whole room writes nothing after it. */
+static void a_full_room_is_not_left(void) {
+    const size_t rooms[] = { 1, 2, PART - 1, PART, PART + 1, MANY };
+    pq_queue *queue = opened(1);
+    size_t done = 9;
+    for (size_t i = 0; i < sizeof rooms / sizeof *rooms; i++) {
+        const size_t room = rooms[i];
+        CHECK(pq_push_many(pq_own(queue), items, MANY, PQ_FOREVER, &done) == PQ_OK && done == MANY);
+        out[room] = item_of(7, 8);
+        CHECK(pq_pop_due_many(pq_own(queue), 9, out, room, PQ_FOREVER, &done) == PQ_OK && done == room && is_item(out[room], 7, 8));
+        CHECK(pq_pop_due_many(pq_own(queue), 9, out, MANY, PQ_FOREVER, &done) == (room < MANY ? PQ_OK : PQ_EMPTY) && done == MANY - room);
+    }
+    close_and_free(queue);
+}
+
 static void a_journal_fills_in_the_midst(void) {
     pq_queue *queue = opened_as(1, PQ_FILLS, 10);
     pq_item left;
@@ -76,6 +91,49 @@ static void a_shut_queue_refuses_a_batch(void) {
     close_and_free(queue);
 }
 
+/* A long batch that another thread pushes. */
+struct long_batch {
+    pq_member *member;
+    pq_item items[LONG];
+    size_t done;
+};
+
+static void *push_long_batch(void *own) {
+    struct long_batch *it = (struct long_batch *)own;
+    wrapped_next = HOLDS_AND_STOPS;
+    CHECK(pq_push_many(it->member, it->items, LONG, PQ_FOREVER, &it->done) == PQ_SHUT && wrapped_next == HOLDS_NOTHING);
+    return NULL;
+}
+
+/* The first part of a batch asks for memory, and stops there until the queue is shut: this part is the last. What the batch says it did, and
+   nothing else, comes out. */
+static void a_shut_ends_a_batch_after_a_part(void) {
+    static struct long_batch it;
+    pq_queue *queue = opened(1);
+    size_t done = 0, next;
+    it.member = joined(queue);
+    it.done = LONG + 1;
+    for (size_t i = 0; i < LONG; i++) {
+        it.items[i] = item_of(1, i);
+    }
+    pthread_t thread = started(push_long_batch, &it);
+    while (!__atomic_load_n(&wrapped_holds, __ATOMIC_ACQUIRE)) {
+        sleep_ms(1);
+    }
+    CHECK(pq_shut(queue) == PQ_OK);
+    __atomic_store_n(&wrapped_lets_go, 1, __ATOMIC_RELEASE);
+    ended(thread);
+    CHECK(it.done == PART);
+    for (next = 0; pq_pop_due_many(it.member, 1, out, MANY, PQ_FOREVER, &done) == PQ_OK; next += done) {
+        for (size_t i = 0; i < done; i++) {
+            CHECK(is_item(out[i], 1, next + i));
+        }
+    }
+    CHECK(next == PART && pq_take(it.member, out, PQ_FOREVER, NULL) == PQ_SHUT);
+    pq_give_back(it.member);
+    close_and_free(queue);
+}
+
 static void memory_would_forget_in_the_midst(void) {
     enum { KEPT = 65536 };
     pq_queue *queue = opened_as(1, PQ_REFUSES, KEPT);
@@ -96,8 +154,10 @@ static void memory_would_forget_in_the_midst(void) {
 int main(void) {
     fill();
     batches_of_each_size();
+    a_full_room_is_not_left();
     a_journal_fills_in_the_midst();
     a_shut_queue_refuses_a_batch();
+    a_shut_ends_a_batch_after_a_part();
     memory_would_forget_in_the_midst();
     return 0;
 }

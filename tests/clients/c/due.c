@@ -72,7 +72,7 @@ static void nothing_comes_before_its_time(pq_member *member) {
 
 /* A queue with these times, and its member. */
 static pq_member *with_times(pq_queue **queue, uint64_t zero, uint64_t unit) {
-    pq_options options = { 2, PQ_FORGETS, 0, 0, 0, 0 };
+    pq_options options = { 2, PQ_FORGETS, 0, 0, 0, 0, 0 };
     options.time_zero = zero;
     options.time_unit = unit;
     CHECK(pq_open(&options, queue) == PQ_OK);
@@ -251,7 +251,7 @@ static void one_of_many_watches(void) {
     for (uint64_t i = 0; i < JOBS; i++) {
         push(pq_own(many), first + 5 * MS * (i / AT_ONCE), 1);
     }
-    sleeps = 0;
+    set(&sleeps, 0);
     for (int i = 0; i < MANY; i++) {
         push(pq_own(many), first + 5 * MS * JOBS, 0);
         threads[i] = started(work, NULL);
@@ -259,7 +259,7 @@ static void one_of_many_watches(void) {
     for (int i = 0; i < MANY; i++) {
         ended(threads[i]);
     }
-    CHECK(got == JOBS && sleeps <= 5 * (JOBS + MANY));
+    CHECK(got == JOBS && is_set(&sleeps) <= 5 * (JOBS + MANY));
     journal = closed(many);
     CHECK(pq_count(journal, &before) == 2 * (JOBS + MANY) && before == 0);
     pq_journal_free(journal);

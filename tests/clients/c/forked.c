@@ -43,6 +43,7 @@ static void calls(void) {
     CHECK(pq_join(queue, PQ_FOREVER, &joining) == PQ_FORKED && joining == NULL && pq_shut(queue) == PQ_FORKED);
     CHECK(pq_close(queue, &closing) == PQ_FORKED && closing == NULL && pq_close(queue, NULL) == PQ_FORKED);
     CHECK(pq_open(NULL, &another) == PQ_FORKED && another == NULL);
+    CHECK(pq_wait_archived(queue, 0, PQ_NOW) == PQ_FORKED && pq_wait_archived(queue, 9, PQ_FOREVER) == PQ_FORKED);
     /* These return nothing, and change nothing. */
     pq_give_back(member);
     pq_leave(queue);

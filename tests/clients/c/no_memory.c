@@ -1,5 +1,5 @@
 /* Each request for memory is refused in turn: the calls say so, change nothing and lose nothing; and only an opening, a joining, a
-   thread's first call by pq_own, an archive, a push and a close that leaves a journal ask for memory. Linked with --wrap=malloc and so on. */
+   thread's first call by pq_own, an archive, a push, a close that leaves a journal and the reading of one ask for memory. Linked with --wrap=malloc and so on. */
 #include "../check.h"
 
 void *__real_malloc(size_t size);
@@ -75,7 +75,7 @@ static void refuse_after(long asked) {
     } while (0)
 
 static pq_queue *opened_at_last(uint32_t keeping, uint32_t entries) {
-    pq_options options = { 2, 0, 0, 0, 0, 0 };
+    pq_options options = { 2, 0, 0, 0, 0, 0, 0 };
     pq_queue *queue = NULL;
     long asked;
     options.keeping = keeping;
@@ -110,6 +110,61 @@ static int pushed_at_last(pq_member *member, pq_item item, uint64_t number) {
     return 1;
 }
 
+/* Takes out what is left, which is these items. */
+static void are_left(pq_member *member, const pq_item *items, size_t count) {
+    pq_item item;
+    for (size_t i = 0; i < count; i++) {
+        CHECK(pq_pop(member, &item, PQ_FOREVER, NULL) == PQ_OK && is_item(item, items[i].priority, items[i].value));
+    }
+    CHECK(pq_pop_due(member, UINT64_MAX, &item, PQ_FOREVER, NULL) == PQ_EMPTY);
+}
+
+/* Pushes a batch into a new queue, refused where it asks for memory the next time: how many items went in. These stay in, and the next batch
+   has the others. */
+static size_t pushed_while_granted(const pq_options *options, const pq_item *items, size_t count, long asked) {
+    const long had = out;
+    pq_queue *queue = NULL;
+    size_t done = count + 1, others = count;
+    CHECK(pq_open(options, &queue) == PQ_OK);
+    pq_member *member = joined(queue);
+    refuse_after(asked);
+    pq_code code = pq_push_many(member, items, count, PQ_FOREVER, &done);
+    CHECK(code == PQ_OK ? done == count && refused == 0 : code == PQ_NO_MEMORY && done < count && refused == 1);
+    refuse_after(-1);
+    if (asked % 2 == 0) {
+        CHECK(pq_push_many(member, items + done, count - done, PQ_FOREVER, &others) == PQ_OK && others == count - done);
+        are_left(member, items, count);
+    } else {
+        are_left(member, items, done);
+    }
+    pq_give_back(member);
+    close_and_free(queue);
+    CHECK(out == had);
+    return done;
+}
+
+/* Batches of two items and more, of one part and of several: each request for memory of theirs is the first that is refused. */
+static void a_batch_ends_where_memory_does(uint32_t keeping, uint32_t entries) {
+    enum { MOST = 200 };
+    const size_t counts[] = { 2, 3, 64, 65, MOST };
+    pq_options options = { 1, 0, 0, 0, 0, 0, 0 };
+    pq_item items[MOST];
+    options.keeping = keeping;
+    options.entries = entries;
+    for (size_t i = 0; i < MOST; i++) {
+        items[i] = item_of(i / 7, i);
+    }
+    for (size_t i = 0; i < sizeof counts / sizeof *counts; i++) {
+        size_t before = 0, done = pushed_while_granted(&options, items, counts[i], 0);
+        CHECK(done == 0);
+        for (long asked = 1; done < counts[i]; asked++) {
+            before = done;
+            done = pushed_while_granted(&options, items, counts[i], asked);
+            CHECK(done > before);
+        }
+    }
+}
+
 static void archived_at_last(pq_member *member, size_t entries) {
     pq_journal *journal = NULL;
     const long before = out;
@@ -134,6 +189,17 @@ static void asks_for_no_memory(pq_member *member, pq_member *other, uint64_t ent
     CHECK(pq_post(member, PQ_POP, item) == PQ_OK && pq_combine(other) == PQ_OK && pq_poll(member, &item, NULL) == PQ_OK);
     CHECK(pq_place(member) < 2080 && is_item(item, 5, entries - 5) && refused == 0);
     refuse_after(-1);
+}
+
+/* Each time from the begin of the file. */
+static void read_back_at_last(pq_journal *written) {
+    FILE *made = tmpfile();
+    pq_journal *journal = NULL;
+    long asked;
+    CHECK(made != NULL && pq_write(written, fileno(made)) == PQ_OK);
+    AT_LAST(asked, (rewind(made), pq_journal_read(fileno(made), &journal, NULL)), journal == NULL && out == had);
+    CHECK(asked > 3 && pq_count(journal, NULL) == pq_count(written, NULL) && fclose(made) == 0);
+    pq_journal_free(journal);
 }
 
 static int is_open(pq_queue *queue) {
@@ -162,6 +228,7 @@ static void goes_on_without_memory(uint32_t keeping, uint32_t entries) {
     AT_LAST(asked, pq_close(queue, &journal), journal == NULL && out == had && is_open(queue));
     CHECK(asked > 0 && pq_count(journal, NULL) == PUSHES + 7 && pq_read(journal, 0, &entry) == PQ_OK && entry.item.value == 1);
     pq_free(queue, NULL, NULL);
+    read_back_at_last(journal);
     CHECK(pq_take_left(journal, &item) == PQ_OK && is_item(item, 6, PUSHES - 6));
     pq_journal_free(journal);
 }
@@ -185,6 +252,9 @@ static void *has_own_members(void *unused) {
 }
 
 int main(void) {
+    a_batch_ends_where_memory_does(PQ_FILLS, 1000);
+    a_batch_ends_where_memory_does(PQ_FORGETS, 0);
+    CHECK(out == 0);
     for (int i = 0; i < 2; i++) {
         goes_on_without_memory(PQ_FILLS, 100);
         goes_on_without_memory(PQ_FORGETS, 0);

@@ -13,7 +13,7 @@ int main(void) {
     CHECK((__cpu_model.features[0] & SSE41) != 0 && __builtin_cpu_supports("sse4.1"));
     __cpu_model.features[0] &= ~(unsigned)SSE41;
     for (uint32_t keeping = PQ_FORGETS; keeping <= PQ_FILLS; keeping++) {
-        pq_options options = { 0, 0, 0, 0, 0, 0 };
+        pq_options options = { 0, 0, 0, 0, 0, 0, 0 };
         options.keeping = keeping;
         queue = (pq_queue *)&queue;
         CHECK(pq_open(&options, &queue) == PQ_PROCESSOR && queue == NULL);

@@ -6,7 +6,7 @@
 #include <stdarg.h>
 #include <sys/syscall.h>
 
-enum { MEMBERS = 2, THREADS = 200, EACH = 50 };
+enum { MEMBERS = 2, THREADS = 200, EACH = 50, COMING = 10000, PLACES = 2080 };
 
 static pq_queue *queue;
 
@@ -131,7 +131,7 @@ static void *calls_by_turns(void *unused) {
 static void many_threads_share_two_members(void) {
     const uint32_t threads = requests(THREADS);
     pthread_t running[THREADS];
-    uint64_t serials[2080] = { 0 };
+    uint64_t serials[PLACES] = { 0 };
     pq_entry entry;
     queue = opened_as(MEMBERS, PQ_FILLS, 2 * THREADS * EACH);
     for (uint32_t i = 0; i < threads; i++) {
@@ -145,6 +145,36 @@ static void many_threads_share_two_members(void) {
     for (size_t i = 0; i < 2 * threads * EACH; i++) {
         CHECK(pq_read(journal, i, &entry) == PQ_OK && entry.reply == PQ_OK && entry.serial == ++serials[entry.place]);
     }
+    pq_journal_free(journal);
+}
+
+/* Whether the item of this value was popped. */
+static int is_popped[COMING];
+
+static void *comes_and_goes(void *own) {
+    const uint64_t value = (uint64_t)((int *)own - is_popped);
+    pq_item item = item_of(value % 5, value);
+    CHECK(pq_push(pq_own(queue), item, PQ_FOREVER, NULL) == PQ_OK && pq_pop(pq_own(queue), &item, PQ_FOREVER, NULL) == PQ_OK);
+    CHECK(item.value < COMING && __atomic_exchange_n(&is_popped[item.value], 1, __ATOMIC_RELAXED) == 0);
+    return NULL;
+}
+
+/* At most so many of them run at once: a thread begins as the oldest has ended. Each pops one item, and no two pop the same. */
+static void thousands_come_and_go(void) {
+    const uint32_t coming = requests(COMING), at_once = requests(THREADS);
+    pthread_t running[THREADS];
+    pq_item item;
+    queue = opened_as(8, PQ_FILLS, 2 * COMING);
+    for (uint32_t i = 0; i < coming + at_once; i++) {
+        if (i >= at_once) {
+            ended(running[i % at_once]);
+        }
+        if (i < coming) {
+            running[i % at_once] = started(comes_and_goes, &is_popped[i]);
+        }
+    }
+    pq_journal *journal = closed(queue);
+    CHECK(pq_count(journal, NULL) == 2 * coming && pq_take_left(journal, &item) == PQ_EMPTY);
     pq_journal_free(journal);
 }
 
@@ -362,6 +392,7 @@ static void threads_call_while_they_end(void) {
 
 int main(void) {
     many_threads_share_two_members();
+    thousands_come_and_go();
     idle_members_are_taken_over();
     members_that_are_in_use_are_kept();
     a_close_takes_idle_ones_back();

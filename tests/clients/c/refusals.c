@@ -7,7 +7,7 @@
 
 /* An opening that this code ends, and one with the same that it doesn't. */
 static pq_code opening(uint32_t members, uint32_t keeping, uint32_t entries, uint32_t unused) {
-    pq_options options = { 0, 0, 0, 0, 5, 6 };
+    pq_options options = { 0, 0, 0, 0, 5, 6, 0 };
     pq_queue *queue = (pq_queue *)&options;
     pq_code code;
     options.members = members;
@@ -65,7 +65,7 @@ static void refuses_requests_out_of_turn(void) {
     pq_queue *queue = opened(1);
     pq_member *member = joined(queue);
     pq_item item = item_of(7, 8);
-    uint64_t number = 9;
+    uint64_t number = 9, size = 9;
     CHECK(pq_poll(member, &item, &number) == PQ_NOT_PENDING && number == 9 && pq_combine(member) == PQ_OK);
     CHECK(pq_post(member, 3, item) == PQ_BAD_REQUEST && pq_post(member, UINT32_MAX, item) == PQ_BAD_REQUEST);
     CHECK(pq_poll(member, &item, &number) == PQ_NOT_PENDING && pq_post(member, PQ_PUSH, item_of(5, 6)) == PQ_OK);
@@ -73,7 +73,8 @@ static void refuses_requests_out_of_turn(void) {
     refuses_requests(member, PQ_PENDING, in_ms(1000));
     refuses_requests(member, PQ_PENDING, PQ_FOREVER);
     refuses_posts(member, PQ_PENDING);
-    CHECK(pq_post(member, 3, item) == PQ_PENDING || pq_post(member, 3, item) == PQ_BAD_REQUEST);
+    CHECK(pq_size(member, PQ_FOREVER, &size) == PQ_PENDING && size == 9);
+    CHECK(pq_post(member, 3, item) == PQ_BAD_REQUEST);
     CHECK(pq_poll(member, &item, &number) == PQ_PENDING && is_item(item, 7, 8) && number == 9);
     CHECK(pq_combine(member) == PQ_OK && pq_poll(member, &item, &number) == PQ_OK && number == 1);
     CHECK(pq_poll(member, &item, &number) == PQ_NOT_PENDING && pq_unlisten(member) == 0);
@@ -127,11 +128,12 @@ static void refuses_to_wait_for_the_lock(void) {
     pq_member *member = joined(queue);
     pq_journal *journal = (pq_journal *)queue;
     pq_item item = item_of(7, 8);
-    uint64_t number = 0;
+    uint64_t number = 0, size = 9;
     holder other;
     hold(&other, queue, HOLDS_AND_STOPS);
     refuses_requests(member, PQ_TIMED_OUT, PQ_NOW);
     refuses_requests(member, PQ_TIMED_OUT, in_ms(5));
+    CHECK(pq_size(member, PQ_NOW, &size) == PQ_TIMED_OUT && pq_size(member, in_ms(5), &size) == PQ_TIMED_OUT && size == 9);
     CHECK(pq_archive(member, 0, PQ_NOW, &journal) == PQ_TIMED_OUT && journal == NULL);
     CHECK(pq_archive(member, 0, in_ms(5), &journal) == PQ_TIMED_OUT && pq_combine(member) == PQ_TIMED_OUT);
     CHECK(pq_post(member, PQ_PUSH, item_of(0, 5)) == PQ_OK && pq_combine(member) == PQ_TIMED_OUT);

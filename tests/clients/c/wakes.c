@@ -163,7 +163,7 @@ void *__wrap_malloc(size_t size) {
 static pq_queue *queue;
 static pq_member *taker, *other, *third;
 static int notified;
-enum { SLEEPERS = 3 };
+enum { SLEEPERS = 5 };
 
 static struct sleeper {
     pq_member *member;
@@ -248,6 +248,17 @@ static void shut(void) {
     CHECK(pq_shut(queue) == PQ_OK);
 }
 
+/* The last item comes right before the end. */
+static void push_and_shut(void) {
+    push();
+    shut();
+}
+
+static void post_and_shut(void) {
+    CHECK(pq_post(third, PQ_PUSH, item_of(0, 4)) == PQ_OK);
+    shut();
+}
+
 /* What a call of the watched thread is to come to, and the call. */
 static pq_code expected;
 
@@ -302,6 +313,20 @@ static void at_each_moment(void (*call)(void), void (*what)(void), pq_code code)
         end();
     }
     CHECK(comes_at > 6);
+}
+
+/* What is there already is taken without a lock of the system, and by one look at the clock where it is to be due. */
+static void what_is_there_is_taken_at_once(void) {
+    begin(PQ_FORGETS, 0);
+    expected = PQ_OK;
+    comes_at = late_at = LONG_MAX;
+    push();
+    watch(take);
+    CHECK(moment == 0);
+    push();
+    watch(take_due);
+    CHECK(moment == 1);
+    end();
 }
 
 /* The watched thread waits until a deadline, and another waits after it; one item comes at a moment, and the deadline at a later one. Who
@@ -435,8 +460,30 @@ static void a_batch_asks_for_one_wake(void) {
     for (int i = 0; i < SLEEPERS; i++) {
         one_returns(i, PQ_OK);
     }
-    CHECK(count_of(&wakes) >= SLEEPERS && count_of(&wakes) <= 10);
+    CHECK(count_of(&wakes) == SLEEPERS);
     CHECK(pq_pop_due_many(other, 0, items, 10, PQ_FOREVER, &done) == PQ_OK && done == 10 - SLEEPERS);
+    end();
+}
+
+/* Two items wake two of the threads, which take both; the others sleep on. */
+static void a_batch_wakes_as_many_as_it_has_items(void) {
+    const pq_item items[2] = { { 0, 4 }, { 0, 4 } };
+    size_t done = 0;
+    begin(PQ_FORGETS, 0);
+    for (int i = 0; i < SLEEPERS; i++) {
+        one_sleeps(i);
+    }
+    wakes = 0;
+    CHECK(pq_push_many(other, items, 2, PQ_FOREVER, &done) == PQ_OK && done == 2);
+    one_returns(0, PQ_OK);
+    one_returns(1, PQ_OK);
+    is_empty();
+    sleep_ms(10);
+    CHECK(count_of(&wakes) == 2 && count_of(&asleep) == SLEEPERS - 2);
+    shut();
+    for (int i = 2; i < SLEEPERS; i++) {
+        one_returns(i, PQ_SHUT);
+    }
     end();
 }
 
@@ -499,7 +546,10 @@ int main(void) {
     for (size_t i = 0; i < sizeof calls / sizeof *calls; i++) {
         at_each_moment(calls[i], push, PQ_OK);
         at_each_moment(calls[i], shut, PQ_SHUT);
+        at_each_moment(calls[i], push_and_shut, PQ_OK);
+        at_each_moment(calls[i], post_and_shut, PQ_OK);
     }
+    what_is_there_is_taken_at_once();
     waits = pq_take;
     who_goes_at_its_deadline_hands_on();
     who_times_out_at_the_lock_hands_on();
@@ -509,6 +559,7 @@ int main(void) {
     a_full_journal_wakes_all();
     one_wake_is_on_its_way_at_a_time();
     a_batch_asks_for_one_wake();
+    a_batch_wakes_as_many_as_it_has_items();
     nobody_is_woken_without_need();
     who_carries_out_a_push_wakes();
     return 0;

@@ -4,6 +4,8 @@
 #include "flatpq_tasks.hpp"
 
 #include <algorithm>
+#include <chrono>
+#include <cstdio>
 #include <fstream>
 #include <iostream>
 #include <locale>
@@ -95,7 +97,47 @@ static void memory_refuses_or_forgets() {
     }
 }
 
+static void is_read_back() {
+    const char text[] = "1 0 1 push 5 7 pushed\n2 0 2 push 6 8 pushed\n3 0 3 pop got 5 7\n4 0 4 po";
+    const auto file_of = [&](std::size_t length) {
+        std::FILE *made = std::tmpfile();
+        CHECK(made != nullptr && std::fwrite(text, 1, length, made) == length);
+        std::rewind(made);
+        return made;
+    };
+    const auto read = [&](std::size_t length) {
+        std::FILE *made = file_of(length);
+        auto back = flatpq::journal<unsigned>::read_from(fileno(made));
+        std::fclose(made);
+        return back;
+    };
+    auto torn = read(sizeof text - 1);
+    CHECK(torn && torn.is_torn() && torn.lines() == 3 && torn->size() == 3 && torn->read(2)->request == request::pop);
+    CHECK(*torn->take() == (item<unsigned>{6, 8}) && torn->take().error() == code::empty);
+    auto whole = read(sizeof text - 9);
+    CHECK(whole && !whole.is_torn() && whole.lines() == 3);
+    CHECK(!flatpq::journal<>::read_from(-1) && flatpq::journal<>::read_from(-1).error() == code::not_read);
+    std::FILE *made = std::tmpfile();
+    CHECK(made != nullptr && std::fputs("1 0 1 pop empty\n1 0 2 pop empty\n", made) >= 0);
+    std::rewind(made);
+    const auto refused = flatpq::journal<>::read_from(fileno(made));
+    CHECK(refused.error() == code::not_lawful && refused.lines() == 2 && std::fclose(made) == 0);
+}
+
+static void waits_until_archived() {
+    using namespace std::chrono_literals;
+    flatpq::queue<> queue;
+    const auto number = *queue.push(1u, 2);
+    CHECK(queue.wait_archived(number, flatpq::now) == code::timed_out && queue.wait_archived(number, 1ms) == code::timed_out);
+    CHECK(queue.archive(number) && queue.wait_archived(number) == code::ok);
+    CHECK(queue.close() && queue.wait_archived(number + 1) == code::closed);
+    const auto moved = std::move(queue);
+    CHECK(queue.wait_archived(number) == code::no_member);
+}
+
 int main() {
+    is_read_back();
+    waits_until_archived();
     entries_are_read_and_written();
     payloads_show_their_keys();
     memory_refuses_or_forgets();

@@ -143,6 +143,10 @@ static_assert(refuses<flatpq::queue<unsigned>, double>(pushes, pops_due, pops_ma
 static_assert(takes<flatpq::queue<>, unsigned>(pushes, pops_due, pops_many, drains) && takes<flatpq::listener<>, unsigned>(listens));
 static_assert(takes<flatpq::queue<int>, int>(pushes, pops_due, pops_many, drains) && takes<flatpq::queue<double>, int>(pushes, pops_due, drains));
 
+// Nor is one the key of a payload of a batch.
+static_assert(!std::is_constructible_v<flatpq::task<char>, int, char> && std::is_constructible_v<flatpq::task<char>, unsigned, char>);
+static_assert(std::is_constructible_v<flatpq::task<char, int>, int, char>);
+
 // Nothing comes out before its time, what is due at one time comes in the order of its pushes, and what stays is shown exactly.
 static void what_is_due_comes_out_in_time() {
     auto queue = opened<clock_of::time_point, int>();

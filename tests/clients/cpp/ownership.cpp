@@ -19,6 +19,14 @@ static_assert(are_move_only<flatpq::task_queue<std::string>, flatpq::task_member
 static_assert(std::is_trivially_copyable_v<item<>> && sizeof(item<>) == 16 && sizeof(flatpq::member<>) == sizeof(void *));
 static_assert(!std::is_convertible_v<flatpq::queue<>, flatpq::queue<int>> && !std::is_convertible_v<item<int>, item<>>);
 
+#if __cplusplus >= 202002L
+// What a loop reads is a range of the standard library.
+#include <ranges>
+template <class... T> constexpr bool are_ranges = (std::ranges::input_range<T> && ...);
+static_assert(are_ranges<const flatpq::journal<>, const flatpq::task_journal<std::string>>);
+static_assert(are_ranges<decltype(std::declval<flatpq::queue<> &>().drain()), decltype(std::declval<flatpq::journal<> &>().left())>);
+#endif
+
 static flatpq::queue<> opened_for(std::uint32_t members) { return *flatpq::queue<>::open({members}); }
 
 // Each call of one that was moved from, or closed, by these.

@@ -62,6 +62,27 @@ static void each_is_moved_once_in_and_once_out() {
     CHECK(queue.push(3, counted(9)) && member.take(1h)->payload.number() == 9);
 }
 
+// The batches are larger than those that go under one lock.
+static void a_batch_moves_each_once_in_and_once_out() {
+    constexpr int count = 150;
+    auto queue = opened_for(1);
+    std::vector<task> batch;
+    batch.reserve(count);
+    for (int key = 0; key < count; ++key) {
+        batch.emplace_back(key, counted(key));
+    }
+    moves = 0;
+    CHECK(queue.push_many(batch).count == count && moves == count && live == count);
+    const auto few = queue.pop_due_many(9, count);
+    CHECK(few->size() == 10 && moves == count + 10 && live == count);
+    const auto others = queue.pop_due_many(count, 2 * count);
+    CHECK(others->size() == count - 10 && moves == 2 * count && live == count);
+    for (int key = 0; key < count; ++key) {
+        const auto &it = key < 10 ? (*few)[static_cast<std::size_t>(key)] : (*others)[static_cast<std::size_t>(key - 10)];
+        CHECK(it.payload.number() == key && batch[static_cast<std::size_t>(key)].payload.number() == -1);
+    }
+}
+
 // A push that is refused so: the payload is where it was.
 template <class To> static void is_refused(To &to, code why, flatpq::deadline until = {}) {
     counted payload(7);
@@ -290,6 +311,7 @@ static void kinds() {
 
 int main() {
     each_is_moved_once_in_and_once_out();
+    a_batch_moves_each_once_in_and_once_out();
     a_refused_one_is_where_it_was();
     a_copy_is_pushed_or_nothing();
     what_is_left_is_dropped();

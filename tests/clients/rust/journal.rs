@@ -1,7 +1,8 @@
 //! Journals: their entries by iterators, their text, and what writing them comes to.
-use flatpq::{Item, Queue, Request, TaskQueue};
+use flatpq::{Error, Item, NotReadBack, Queue, ReadBack, Request, TaskJournal, TaskQueue, Until};
 use std::fs::File;
-use std::io::{self, Write};
+use std::io::{self, Seek, Write};
+use std::time::Duration;
 
 fn item(priority: u64, value: u64) -> Option<Item> {
     Some(Item { priority, value })
@@ -113,4 +114,54 @@ fn a_queue_of_payloads_has_keys_and_tokens() {
     let entry = journal.get(0).unwrap();
     assert_eq!(entry.item.map(|it| it.priority), Some((1 << 63) - 1));
     assert_eq!((entry.number, entry.serial), (1, 1));
+}
+
+fn read_back(name: &str, text: &str) -> Result<ReadBack<u64>, NotReadBack> {
+    let path = std::env::temp_dir().join(format!("flatpq-{name}-{}", std::process::id()));
+    let mut options = File::options();
+    let mut file = options
+        .read(true)
+        .write(true)
+        .create_new(true)
+        .open(&path)
+        .unwrap();
+    std::fs::remove_file(&path).unwrap();
+    file.write_all(text.as_bytes()).unwrap();
+    file.rewind().unwrap();
+    TaskJournal::read_from(&file)
+}
+
+#[test]
+fn a_journal_is_read_back() {
+    let text = "1 0 1 push 5 7 pushed\n2 0 2 push 6 8 pushed\n3 0 3 pop got 5 7\n";
+    let mut read = read_back("whole", text).unwrap();
+    let mut written = Vec::new();
+    read.journal.write_to(&mut written).unwrap();
+    assert_eq!((written, read.lines, read.is_torn), (text.into(), 3, false));
+    assert_eq!(read.journal.left().collect::<Vec<_>>(), [(6, 8)]);
+    let torn = read_back("torn", &format!("{text}4 0 4 po")).unwrap();
+    assert_eq!((torn.lines, torn.is_torn, torn.journal.len()), (3, true, 3));
+    let refused = read_back("refused", &format!("{text}4 0 3 pop got 6 8\n")).unwrap_err();
+    let wanted = NotReadBack {
+        line: 4,
+        error: Error::NotLawful,
+    };
+    assert_eq!(refused, wanted);
+    let folder = TaskJournal::<u64>::read_from(File::open("/").unwrap());
+    assert_eq!(folder.map_err(Error::from).err(), Some(Error::NotRead));
+}
+
+#[test]
+fn a_wait_ends_once_the_entry_is_archived() {
+    let queue = Queue::new().unwrap();
+    let number = queue.push(5_u64, 7_u64).unwrap();
+    let late = Err(Error::TimedOut);
+    assert_eq!(queue.until(Until::NOW).wait_archived(number), late);
+    let soon = queue.until(Duration::from_millis(2));
+    assert_eq!(soon.wait_archived(number), late);
+    std::thread::scope(|scope| {
+        let waiting = scope.spawn(|| queue.wait_archived(number));
+        queue.archive(number).unwrap();
+        assert_eq!(waiting.join().unwrap(), Ok(()));
+    });
 }

@@ -169,6 +169,13 @@ fn a_waker_drops_its_member() {
         drop(posting);
         assert_eq!(queue.pop(), Ok(Some((1, 2))));
     });
+    // A joining does, as no other member is left.
+    drops_a_member(|queue| {
+        let (mut posting, _third) = (queue.join().unwrap(), queue.join().unwrap());
+        posting.post_push(1, 2).unwrap();
+        drop(posting);
+        drop(queue.join().unwrap());
+    });
 }
 
 #[test]

@@ -1,0 +1,169 @@
+/* A journal that was written is read back, with the same entries and the same items left. A torn last line is left out; a line that may not
+   come next is refused by its number; and a read that fails says so. */
+#include "../check.h"
+
+#include <fcntl.h>
+#include <string.h>
+
+enum { KEPT = 65536 };
+
+/* A file with this text, at its begin. */
+static int file_of(const char *text, size_t length) {
+    FILE *made = tmpfile();
+    CHECK(made != NULL);
+    int file = dup(fileno(made));
+    CHECK(file >= 0 && fclose(made) == 0 && write(file, text, length) == (ssize_t)length && lseek(file, 0, SEEK_SET) == 0);
+    return file;
+}
+
+/* Reads this text: the code, and the number of lines. */
+static pq_code reads(const char *text, size_t length, pq_journal **journal, uint64_t *line) {
+    int file = file_of(text, length);
+    *journal = NULL;
+    *line = 99;
+    pq_code code = pq_journal_read(file, journal, line);
+    CHECK(close(file) == 0 && (*journal != NULL) == (code == PQ_OK || code == PQ_TORN));
+    return code;
+}
+
+static void has_the_same(pq_journal *a, pq_journal *b) {
+    pq_entry one, other;
+    pq_item item, same;
+    uint64_t before, behind;
+    size_t count = pq_count(a, &before);
+    CHECK(pq_count(b, &behind) == count && before == behind);
+    for (size_t i = 0; i < count; i++) {
+        CHECK(pq_read(a, i, &one) == PQ_OK && pq_read(b, i, &other) == PQ_OK && memcmp(&one, &other, sizeof one) == 0);
+    }
+    while (pq_take_left(a, &item) == PQ_OK) {
+        CHECK(pq_take_left(b, &same) == PQ_OK && is_item(same, item.priority, item.value));
+    }
+    CHECK(pq_take_left(b, &same) == PQ_EMPTY);
+}
+
+/* Requests of two members. */
+static void makes(pq_queue *queue, uint32_t count) {
+    pq_member *members[2] = { joined(queue), joined(queue) };
+    pq_item item;
+    for (uint32_t i = 0; i < count; i++) {
+        CHECK(pq_push(members[i % 2], item_of(i * 2654435761u % 1000, UINT64_MAX - i), PQ_FOREVER, NULL) == PQ_OK);
+        if (i % 3 == 0) {
+            CHECK(pq_peek(members[0], &item, PQ_FOREVER, NULL) == PQ_OK && pq_pop(members[1], &item, PQ_FOREVER, NULL) == PQ_OK);
+        }
+    }
+    pq_give_back(members[0]);
+    pq_give_back(members[1]);
+}
+
+static void is_read_back(uint32_t count) {
+    pq_queue *queue = opened(2);
+    pq_journal *read = NULL, *written;
+    uint64_t line = 0;
+    int file = file_of("", 0);
+    pq_item item;
+    CHECK(pq_pop(pq_own(queue), &item, PQ_FOREVER, NULL) == PQ_EMPTY && pq_peek(pq_own(queue), &item, PQ_FOREVER, NULL) == PQ_EMPTY);
+    makes(queue, count);
+    written = closed(queue);
+    CHECK(pq_write(written, file) == PQ_OK && lseek(file, 0, SEEK_SET) == 0 && pq_journal_read(file, &read, &line) == PQ_OK);
+    CHECK(line == pq_count(written, NULL) && close(file) == 0);
+    has_the_same(written, read);
+    pq_journal_free(written);
+    pq_journal_free(read);
+}
+
+/* Of more entries than memory keeps all are read, and the last are there. */
+static void keeps_the_last(void) {
+    pq_queue *queue = opened(2);
+    pq_journal *read = NULL, *part, *whole;
+    uint64_t line = 0, before = 0, archived = 0;
+    int file = file_of("", 0);
+    for (int i = 0; i < 3; i++) {
+        makes(queue, 20000);
+        CHECK(pq_archive(pq_own(queue), archived, PQ_FOREVER, &part) == PQ_OK && pq_write(part, file) == PQ_OK);
+        archived += pq_count(part, NULL);
+        pq_journal_free(part);
+    }
+    pq_leave(queue);
+    whole = closed(queue);
+    CHECK(lseek(file, 0, SEEK_SET) == 0 && pq_journal_read(file, &read, &line) == PQ_OK && line == archived && close(file) == 0);
+    CHECK(pq_count(read, &before) == KEPT && before == archived - KEPT);
+    has_the_same(whole, read);
+    pq_journal_free(whole);
+    pq_journal_free(read);
+}
+
+#define PUSHED "1 3 1 push 5 1 pushed\n2 3 4 push 6 2 pushed\n"
+
+static void is_refused(const char *last, uint64_t number) {
+    char text[1000];
+    pq_journal *journal;
+    uint64_t line;
+    size_t length = (size_t)snprintf(text, sizeof text, PUSHED "%s", last);
+    CHECK(reads(text, length, &journal, &line) == PQ_NOT_LAWFUL && line == number);
+}
+
+static void refuses_what_may_not_come_next(void) {
+    const char *const unlawful[] = { "4 3 5 pop got 5 1\n", "2 3 5 pop got 5 1\n", "3 3 4 pop got 5 1\n", "3 3 3 pop got 5 1\n",
+        "3 3 5 pop got 6 2\n", "3 3 5 pop empty\n", "3 3 5 least least 5 2\n", "garbage\n", "\n", "3 3 5 pop got 5 1 \n",
+        "3 3 5 pop got 5 1\r\n", "3 3 5 pop\n", "3 70000 1 pop got 5 1\n", "3,3,5,pop,5,1\n", "{\"number\": 3}\n",
+        "3 3 5 push 18446744073709551616 1 pushed\n" };
+    char longest[400];
+    for (size_t i = 0; i < sizeof unlawful / sizeof *unlawful; i++) {
+        is_refused(unlawful[i], 3);
+    }
+    memset(longest, '3', sizeof longest);
+    longest[sizeof longest - 1] = 0;
+    is_refused(longest, 3);
+    longest[sizeof longest - 2] = '\n';
+    is_refused(longest, 3);
+    is_refused("3 3 5 pop got 5 1\n3 3 6 pop got 6 2\n", 4);
+}
+
+static void leaves_a_torn_line_out(void) {
+    const char *const torn[] = { "3", "3 3 5 pop got 5 1", "garbage" };
+    char text[200];
+    pq_journal *journal;
+    pq_item item;
+    uint64_t line;
+    for (size_t i = 0; i < sizeof torn / sizeof *torn; i++) {
+        size_t length = (size_t)snprintf(text, sizeof text, PUSHED "%s", torn[i]);
+        CHECK(reads(text, length, &journal, &line) == PQ_TORN && line == 2 && pq_count(journal, NULL) == 2);
+        CHECK(pq_take_left(journal, &item) == PQ_OK && is_item(item, 5, 1) && pq_take_left(journal, &item) == PQ_OK && is_item(item, 6, 2));
+        CHECK(pq_take_left(journal, &item) == PQ_EMPTY);
+        pq_journal_free(journal);
+    }
+    CHECK(reads("1", 1, &journal, &line) == PQ_TORN && line == 0 && pq_count(journal, NULL) == 0);
+    pq_journal_free(journal);
+    CHECK(reads("", 0, &journal, &line) == PQ_OK && line == 0 && pq_count(journal, NULL) == 0 && pq_take_left(journal, &item) == PQ_EMPTY);
+    pq_journal_free(journal);
+}
+
+static void a_read_fails(void) {
+    pq_journal *journal = (pq_journal *)&journal;
+    uint64_t line = 9;
+    int folder = open("/", O_RDONLY);
+    CHECK(folder >= 0 && pq_journal_read(folder, &journal, NULL) == PQ_NOT_READ && journal == NULL && close(folder) == 0);
+    CHECK(pq_journal_read(folder, &journal, &line) == PQ_NOT_READ && journal == NULL && line == 0);
+}
+
+/* A pipe from which no more can be read now, and that is no end of the file. */
+static void a_read_fails_midway(void) {
+    static const char text[] = PUSHED "3 3";
+    pq_journal *journal = (pq_journal *)&journal;
+    uint64_t line = 9;
+    int ends[2];
+    CHECK(pipe2(ends, O_NONBLOCK) == 0 && write(ends[1], text, sizeof text - 1) == (ssize_t)sizeof text - 1);
+    CHECK(pq_journal_read(ends[0], &journal, &line) == PQ_NOT_READ && journal == NULL && line == 2);
+    CHECK(close(ends[0]) == 0 && close(ends[1]) == 0);
+}
+
+int main(void) {
+    is_read_back(0);
+    is_read_back(requests(20000));
+    keeps_the_last();
+    refuses_what_may_not_come_next();
+    leaves_a_torn_line_out();
+    a_read_fails();
+    a_read_fails_midway();
+    return 0;
+}

@@ -1,0 +1,116 @@
+/* pq_size: how many items there are after each call that puts some in or takes some out, without an entry; a count carries out what others have
+   posted, and wakes a thread that waits for its item; and beside other threads it is a number that the queue had. */
+#include "../check.h"
+
+static void is_of(pq_queue *queue, pq_member *member, uint64_t wanted) {
+    const uint64_t until[] = { PQ_FOREVER, PQ_NOW, in_ms(60000) };
+    for (size_t i = 0; i < sizeof until / sizeof *until; i++) {
+        uint64_t size = UINT64_MAX;
+        CHECK(pq_size(member, until[i], &size) == PQ_OK && size == wanted && size_of(queue) == wanted);
+    }
+}
+
+static void follows_each_call(void) {
+    const pq_item many[] = { { 3, 3 }, { 4, 4 }, { 5, 5 } };
+    pq_queue *queue = opened(3);
+    pq_member *member = joined(queue), *poster = joined(queue);
+    pq_item item, items[3];
+    uint64_t number = 0;
+    size_t done = 0;
+    is_of(queue, member, 0);
+    CHECK(pq_push(member, item_of(9, 9), PQ_FOREVER, NULL) == PQ_OK && pq_push(pq_own(queue), item_of(1, 1), PQ_NOW, NULL) == PQ_OK);
+    is_of(queue, member, 2);
+    CHECK(pq_push_many(member, many, 3, PQ_FOREVER, &done) == PQ_OK && done == 3);
+    is_of(queue, member, 5);
+    CHECK(pq_peek(member, &item, PQ_FOREVER, NULL) == PQ_OK && pq_pop_due(member, 0, &item, PQ_FOREVER, NULL) == PQ_NOT_DUE);
+    is_of(queue, member, 5);
+    CHECK(pq_pop(member, &item, PQ_FOREVER, NULL) == PQ_OK && pq_take(member, &item, PQ_FOREVER, NULL) == PQ_OK && is_item(item, 3, 3));
+    is_of(queue, member, 3);
+    CHECK(pq_pop_due_many(member, 5, items, 3, PQ_FOREVER, &done) == PQ_OK && done == 2);
+    is_of(queue, member, 1);
+    /* The count carries out what was posted. */
+    CHECK(pq_post(poster, PQ_PUSH, item_of(2, 2)) == PQ_OK);
+    is_of(queue, member, 2);
+    CHECK(pq_poll(poster, &item, NULL) == PQ_OK && pq_post(poster, PQ_POP, item) == PQ_OK);
+    is_of(queue, member, 1);
+    CHECK(pq_poll(poster, &item, NULL) == PQ_OK && is_item(item, 2, 2) && pq_shut(queue) == PQ_OK);
+    is_of(queue, member, 1);
+    CHECK(pq_pop(member, &item, PQ_FOREVER, &number) == PQ_OK && number == 13);
+    is_of(queue, member, 0);
+    pq_give_back(member);
+    pq_give_back(poster);
+    pq_leave(queue);
+    pq_journal *journal = closed(queue);
+    CHECK(pq_count(journal, NULL) == 13);
+    pq_journal_free(journal);
+}
+
+static void *take_one(void *own) {
+    pq_item item;
+    CHECK(pq_take(pq_own((pq_queue *)own), &item, PQ_FOREVER, NULL) == PQ_OK && is_item(item, 5, 6));
+    return NULL;
+}
+
+static void wakes_those_that_wait(void) {
+    pq_queue *queue = opened(3);
+    pq_member *poster = joined(queue);
+    pthread_t taker = started(take_one, queue);
+    pq_item item;
+    uint64_t size;
+    sleep_ms(20);
+    CHECK(pq_post(poster, PQ_PUSH, item_of(5, 6)) == PQ_OK);
+    /* The taker may already have the item. */
+    CHECK(pq_size(pq_own(queue), PQ_FOREVER, &size) == PQ_OK && size <= 1);
+    ended(taker);
+    CHECK(pq_poll(poster, &item, NULL) == PQ_OK && size_of(queue) == 0);
+    pq_give_back(poster);
+    close_and_free(queue);
+}
+
+enum { SIDES = 4, MOST = 8 };
+static pq_queue *shared;
+static int is_over;
+
+/* One thread of two pushes, and the other pops, as often as they can. */
+static void *push_or_pop(void *own) {
+    const int pushes = *(const int *)own % 2;
+    pq_item item = item_of(1, 1);
+    while (!is_set(&is_over)) {
+        pq_code code = pushes ? pq_push(pq_own(shared), item, pq_after(100000), NULL) : pq_take(pq_own(shared), &item, pq_after(100000), NULL);
+        CHECK(code == PQ_OK || code == PQ_TIMED_OUT || code == (pushes ? PQ_FULL : PQ_EMPTY));
+    }
+    return NULL;
+}
+
+static void is_never_above_the_bound(void) {
+    int sides[SIDES];
+    pthread_t threads[SIDES];
+    pq_options options = { 0, 0, 0, 0, 0, 0, MOST };
+    uint64_t size = 0, seen = 0;
+    CHECK(pq_open(&options, &shared) == PQ_OK);
+    for (int i = 0; i < SIDES; i++) {
+        sides[i] = i;
+        threads[i] = started(push_or_pop, &sides[i]);
+    }
+    for (uint32_t i = 0; i < requests(20000) || seen == 0; i++) {
+        CHECK(pq_size(pq_own(shared), PQ_FOREVER, &size) == PQ_OK && size <= MOST);
+        seen += size > 0;
+    }
+    set(&is_over, 1);
+    for (int i = 0; i < SIDES; i++) {
+        ended(threads[i]);
+    }
+    for (size = size_of(shared); size > 0; size--) {
+        pq_item item;
+        CHECK(size_of(shared) == size && pq_pop(pq_own(shared), &item, PQ_FOREVER, NULL) == PQ_OK);
+    }
+    CHECK(size_of(shared) == 0);
+    pq_free(shared, NULL, NULL);
+}
+
+int main(void) {
+    follows_each_call();
+    wakes_those_that_wait();
+    is_never_above_the_bound();
+    return 0;
+}

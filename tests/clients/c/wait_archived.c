@@ -1,0 +1,140 @@
+/* A thread waits until an entry is archived: not at all, until a deadline, until an archive counts it, or until the queue is closed or freed.
+   What the archiver did before happens before what the thread does after. */
+#include "../check.h"
+
+enum { THREADS = 4 };
+
+static void archives(pq_queue *queue, uint64_t archived) {
+    pq_journal *journal = NULL;
+    CHECK(pq_archive(pq_own(queue), archived, PQ_FOREVER, &journal) == PQ_OK);
+    pq_journal_free(journal);
+}
+
+static void pushes(pq_queue *queue, int count) {
+    for (int i = 0; i < count; i++) {
+        CHECK(pq_push(pq_own(queue), item_of(1, 2), PQ_FOREVER, NULL) == PQ_OK);
+    }
+}
+
+static void returns_in_time(void) {
+    pq_queue *queue = opened(1);
+    CHECK(pq_wait_archived(queue, 0, PQ_NOW) == PQ_OK && pq_wait_archived(queue, 1, PQ_NOW) == PQ_TIMED_OUT);
+    pushes(queue, 3);
+    archives(queue, 0);
+    const uint64_t end = in_ms(20);
+    CHECK(pq_wait_archived(queue, 1, end) == PQ_TIMED_OUT && pq_now() >= end);
+    archives(queue, 2);
+    CHECK(pq_wait_archived(queue, 1, PQ_NOW) == PQ_OK && pq_wait_archived(queue, 2, PQ_FOREVER) == PQ_OK);
+    archives(queue, 1);
+    CHECK(pq_wait_archived(queue, 2, PQ_NOW) == PQ_OK && pq_wait_archived(queue, 3, PQ_NOW) == PQ_TIMED_OUT);
+    close_and_free(queue);
+}
+
+/* An archive counts as many as it is passed, also where there are fewer entries yet. */
+static void counts_what_it_is_passed(void) {
+    pq_queue *queue = opened(1);
+    archives(queue, 2);
+    pushes(queue, 3);
+    CHECK(pq_wait_archived(queue, 2, PQ_NOW) == PQ_OK && pq_wait_archived(queue, 3, PQ_NOW) == PQ_TIMED_OUT);
+    close_and_free(queue);
+}
+
+/* A refused archive counts nothing. */
+static void counts_no_refused_archive(void) {
+    pq_queue *queue = opened(1);
+    pq_journal *journal = NULL;
+    pushes(queue, 65536 + 10);
+    CHECK(pq_archive(pq_own(queue), 5, PQ_FOREVER, &journal) == PQ_FORGOTTEN && pq_wait_archived(queue, 5, PQ_NOW) == PQ_TIMED_OUT);
+    close_and_free(queue);
+}
+
+typedef struct waiting {
+    pthread_t thread;
+    pq_queue *queue;
+    uint64_t number;
+    pq_code code;
+    int found;
+} waiting;
+
+static int written[THREADS + 1];
+
+static void *waits(void *at) {
+    waiting *own = (waiting *)at;
+    own->code = pq_wait_archived(own->queue, own->number, PQ_FOREVER);
+    if (own->code == PQ_OK) {
+        own->found = written[own->number];
+    }
+    return NULL;
+}
+
+static void start_all(waiting *all, pq_queue *queue) {
+    for (uint32_t i = 0; i < THREADS; i++) {
+        all[i].queue = queue;
+        all[i].number = i + 1;
+        all[i].found = 0;
+        all[i].thread = started(waits, &all[i]);
+    }
+    sleep_ms(20);
+}
+
+static void end_all(waiting *all, uint32_t begin, pq_code code) {
+    for (uint32_t i = begin; i < THREADS; i++) {
+        ended(all[i].thread);
+        CHECK(all[i].code == code && all[i].found == (code == PQ_OK ? (int)i + 1 : 0));
+    }
+}
+
+/* Each is woken once its entry is archived, and not before; the last one by the end of the queue. */
+static void are_woken(void) {
+    waiting all[THREADS];
+    pq_queue *queue = opened(1);
+    pushes(queue, THREADS);
+    start_all(all, queue);
+    for (uint32_t i = 0; i < THREADS; i++) {
+        written[i + 1] = (int)i + 1;
+        archives(queue, i + 1);
+        ended(all[i].thread);
+        CHECK(all[i].code == PQ_OK && all[i].found == (int)i + 1);
+    }
+    close_and_free(queue);
+}
+
+static void one_archive_wakes_all(void) {
+    waiting all[THREADS];
+    pq_queue *queue = opened(1);
+    pushes(queue, THREADS);
+    start_all(all, queue);
+    archives(queue, THREADS);
+    end_all(all, 0, PQ_OK);
+    close_and_free(queue);
+}
+
+static void end_with_the_queue(int is_closed) {
+    waiting all[THREADS];
+    pq_queue *queue = opened(1);
+    pushes(queue, THREADS);
+    archives(queue, 1);
+    start_all(all, queue);
+    ended(all[0].thread);
+    CHECK(all[0].code == PQ_OK);
+    if (is_closed) {
+        CHECK(pq_close(queue, NULL) == PQ_OK);
+        end_all(all, 1, PQ_CLOSED);
+        CHECK(pq_wait_archived(queue, 1, PQ_NOW) == PQ_OK && pq_wait_archived(queue, 2, PQ_FOREVER) == PQ_CLOSED);
+        pq_free(queue, NULL, NULL);
+    } else {
+        pq_free(queue, NULL, NULL);
+        end_all(all, 1, PQ_CLOSED);
+    }
+}
+
+int main(void) {
+    returns_in_time();
+    counts_what_it_is_passed();
+    counts_no_refused_archive();
+    are_woken();
+    one_archive_wakes_all();
+    end_with_the_queue(1);
+    end_with_the_queue(0);
+    return 0;
+}

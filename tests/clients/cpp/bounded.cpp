@@ -1,0 +1,80 @@
+// How many items a queue has, and queues with a bound: a push is refused at once or at its deadline, and its payload stays where it was; or it
+// waits until an item is taken out, or the queue is shut.
+#include "../check.h"
+#include "flatpq_tasks.hpp"
+
+#include <atomic>
+#include <memory>
+#include <string>
+#include <thread>
+#include <utility>
+#include <vector>
+
+using namespace std::chrono_literals;
+using flatpq::code;
+
+static flatpq::options within(std::uint64_t most_items) {
+    flatpq::options asked;
+    asked.most_items = most_items;
+    return asked;
+}
+
+static void items_are_counted() {
+    flatpq::queue<> queue;
+    auto member = queue.join().value();
+    CHECK(*queue.size() == 0 && *member.size(flatpq::now) == 0);
+    CHECK(queue.push(5u, 6) && queue.push_many(std::vector<flatpq::item<>>{{1, 2}, {3, 4}}));
+    CHECK(*queue.size() == 3 && *member.size(1h) == 3);
+    CHECK(member.pop() && *queue.clear() == 2 && *member.size() == 0);
+    CHECK(member.post(flatpq::request::pop) == code::ok && member.size().error() == code::pending);
+    auto moved = std::move(member);
+    CHECK(member.size().error() == code::no_member && *queue.size() == 0);
+}
+
+static void a_full_queue_refuses() {
+    flatpq::task_queue<std::string> queue(within(1));
+    std::string text = "stays";
+    CHECK(queue.push(5u, std::string("five")));
+    CHECK(queue.push(6u, std::move(text), flatpq::now).error() == code::full && text == "stays");
+    const auto begun = std::chrono::steady_clock::now();
+    CHECK(queue.push(6u, std::move(text), 20ms).error() == code::full && text == "stays" && std::chrono::steady_clock::now() - begun >= 20ms);
+    std::vector<flatpq::task<std::string>> many;
+    many.emplace_back(7u, "seven");
+    many.emplace_back(8u, "eight");
+    CHECK(*queue.size() == 1 && queue.take()->payload == "five");
+    const auto pushed = queue.push_many(many, 20ms);
+    CHECK(!pushed && pushed.count == 1 && pushed.error == code::full && many[1].payload == "eight" && *queue.size() == 1);
+}
+
+static void no_push_is_posted() {
+    flatpq::queue<> queue(within(1));
+    CHECK(queue.post(flatpq::request::push, {1, 2}) == code::bad_request && queue.post(flatpq::request::pop) == code::ok);
+    CHECK(queue.combine() == code::ok && queue.poll().error() == code::empty);
+}
+
+static void a_push_waits_for_room() {
+    flatpq::queue<> queue(within(1));
+    std::atomic<bool> is_in{false};
+    CHECK(queue.push(5u, 1));
+    std::thread waits([&] {
+        CHECK(queue.push(6u, 2));
+        is_in = true;
+    });
+    std::this_thread::sleep_for(20ms);
+    CHECK(!is_in && queue.take()->value == 1);
+    waits.join();
+    CHECK(is_in);
+    std::thread refused([&] { CHECK(queue.push(7u, 3).error() == code::shut); });
+    std::this_thread::sleep_for(20ms);
+    CHECK(queue.shut() == code::ok);
+    refused.join();
+    CHECK(queue.take()->value == 2 && queue.take().error() == code::shut && *queue.size() == 0);
+}
+
+int main() {
+    items_are_counted();
+    a_full_queue_refuses();
+    no_push_is_posted();
+    a_push_waits_for_room();
+    return 0;
+}

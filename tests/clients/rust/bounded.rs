@@ -1,0 +1,138 @@
+//! How many payloads a queue has, and queues with a bound: a push is refused at once or at its deadline, and its payload comes back; or it waits
+//! until a payload is taken out, or the queue is shut. Futures that take are woken meanwhile.
+use flatpq::{Error, Options, Queue, TaskQueue, Until};
+use std::future::Future;
+use std::pin::Pin;
+use std::sync::Arc;
+use std::task::{Context, Poll, Wake, Waker};
+use std::thread::{self, Thread};
+use std::time::{Duration, Instant};
+
+fn bounded<T: Send>(most_items: u64) -> TaskQueue<T> {
+    Options::new().most_items(most_items).open().unwrap()
+}
+
+#[test]
+fn payloads_are_counted() {
+    let queue: TaskQueue<String> = TaskQueue::new().unwrap();
+    let mut member = queue.join().unwrap();
+    assert_eq!((queue.len(), queue.is_empty()), (Ok(0), Ok(true)));
+    queue.push(5, "five".to_string()).unwrap();
+    queue
+        .push_many((6..9).map(|key| (key, key.to_string())))
+        .unwrap();
+    assert_eq!((member.len(), member.is_empty()), (Ok(4), Ok(false)));
+    assert_eq!(queue.until(Until::NOW).len(), Ok(4));
+    assert_eq!(member.until(Duration::from_secs(60)).is_empty(), Ok(false));
+    assert_eq!(member.pop().unwrap().unwrap().0, 5);
+    assert_eq!(queue.clear(), Ok(3));
+    assert_eq!((queue.len(), member.number()), (Ok(0), 5));
+}
+
+#[test]
+fn counts_are_refused_while_a_post_waits() {
+    let queue = Queue::new().unwrap();
+    let mut member = queue.join().unwrap();
+    member.post_push(1, 2).unwrap();
+    assert_eq!(member.len(), Err(Error::Pending));
+    assert_eq!((queue.len(), member.poll()), (Ok(1), Ok(Some((1, 2)))));
+}
+
+#[test]
+fn a_full_queue_refuses() {
+    let queue = bounded(2);
+    assert_eq!(
+        queue
+            .push_many([(1, "one"), (2, "two")])
+            .map_err(|it| it.error),
+        Ok(2)
+    );
+    let refused = queue.until(Until::NOW).push(3, "three").unwrap_err();
+    assert_eq!((refused.error, refused.payload), (Error::Full, "three"));
+    let soon = Instant::now() + Duration::from_millis(20);
+    let refused = queue.until(soon).push(3, "three").unwrap_err();
+    assert_eq!((refused.error, refused.payload), (Error::Full, "three"));
+    assert!(Instant::now() >= soon && queue.len() == Ok(2));
+    assert_eq!(queue.pop(), Ok(Some((1, "one"))));
+    let until = queue.until(Duration::from_millis(20));
+    let refused = until.push_many([(3, "three"), (4, "four")]).unwrap_err();
+    assert_eq!(
+        (refused.error, refused.payload),
+        (Error::Full, vec![(4, "four")])
+    );
+    assert!(Error::Full.to_string().contains("full"));
+}
+
+#[test]
+fn no_push_is_posted() {
+    let queue: Queue = bounded(1);
+    let mut member = queue.join().unwrap();
+    assert_eq!(member.post_push(1, 2), Err(Error::BadRequest));
+    assert_eq!(member.post_pop(), Ok(()));
+}
+
+#[test]
+fn a_push_waits_for_room() {
+    let queue = bounded(1);
+    queue.push(5, String::from("five")).unwrap();
+    thread::scope(|scope| {
+        let one = scope.spawn(|| queue.push(6, String::from("six")));
+        thread::sleep(Duration::from_millis(20));
+        assert!(!one.is_finished());
+        assert_eq!(queue.take().unwrap().0, 5);
+        assert!(one.join().unwrap().is_ok());
+        let many = scope.spawn(|| queue.push_many((7..9).map(|key| (key, key.to_string()))));
+        assert_eq!(queue.take().unwrap().0, 6);
+        assert_eq!(queue.take().unwrap().0, 7);
+        assert_eq!(many.join().unwrap().map_err(|it| it.error), Ok(2));
+        let shut = scope.spawn(|| queue.push(9, String::from("nine")));
+        thread::sleep(Duration::from_millis(20));
+        queue.shut().unwrap();
+        let refused = shut.join().unwrap().unwrap_err();
+        assert_eq!(
+            (refused.error, refused.payload.as_str()),
+            (Error::Shut, "nine")
+        );
+    });
+    assert_eq!(queue.len(), Ok(1));
+}
+
+struct Unparks(Thread);
+
+impl Wake for Unparks {
+    fn wake(self: Arc<Unparks>) {
+        self.0.unpark();
+    }
+}
+
+fn ready<F: Future>(mut future: Pin<&mut F>) -> F::Output {
+    let waker = Waker::from(Arc::new(Unparks(thread::current())));
+    loop {
+        match future.as_mut().poll(&mut Context::from_waker(&waker)) {
+            Poll::Ready(output) => return output,
+            Poll::Pending => thread::park(),
+        }
+    }
+}
+
+/// A producer that waits for room may be the one that has a future woken.
+#[test]
+fn futures_are_woken_while_producers_wait() {
+    const EACH: u64 = 2000;
+    let queue: Queue = bounded(1);
+    let sum = thread::scope(|scope| {
+        for first in 0..4 {
+            let queue = &queue;
+            scope.spawn(move || {
+                for it in 0..EACH {
+                    queue.push(it, first * EACH + it).unwrap();
+                }
+            });
+        }
+        (0..4 * EACH).fold(0, |sum, _| {
+            let taken = ready(Box::pin(queue.take_async()).as_mut());
+            sum + taken.unwrap().1
+        })
+    });
+    assert_eq!((sum, queue.len()), ((0..4 * EACH).sum(), Ok(0)));
+}

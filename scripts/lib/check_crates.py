@@ -1,38 +1,36 @@
-"""Says whether each crate of crates.txt has a page, crates/NAME/README.md, that tells the same of each: under its name a sentence,
-and below each of HEADINGS, in this order, some text; in MOST words at most. What files and names it tells is looked for by
-check_paths. One is counted for each crate.
+"""Says whether the table of crates in docs/ARCHITECTURE.md has a row for each crate of crates.txt: what it is, what it gives the layer
+above, and where to begin reading. What files and names it has is looked for by check_paths. One is counted for each crate.
 """
-import os
-import re
 
 import crate_list
 from tree import TOP, text_of
 
-HEADINGS = ["## Start at", "## What is proved", "## What is only tested", "## A caller"]
-MOST = 120
+HEAD = ["Crate", "What it is", "What it gives the layer above", "Begin at"]
 
 
-def faults_of(crate, text):
-    """Returns what is wrong with the page of this crate."""
-    parts = re.split(r"(?m)^(#.*)$", text)
-    headings, told = parts[1::2], parts[2::2]
-    faults = [] if headings == [f"# {crate}", *HEADINGS] else [f"its headings are {', '.join(headings)}"]
-    faults += ["something stands above its name"] * bool(parts[0])
-    faults += [f"nothing stands below {heading}" for heading, it in zip(headings, told) if not it.strip()]
-    count = len(text.split())
-    return faults + [f"it has {count} words, more than {MOST}"] * (count > MOST)
+def cells_of(line):
+    """Returns what stands in the columns of a row."""
+    return [it.strip() for it in line.strip("|").split("|")]
+
+
+def rows():
+    """Returns the rows of the table below its head, by what their first columns name."""
+    lines = text_of(f"{TOP}/docs/ARCHITECTURE.md").splitlines()
+    begins = next((at for at, it in enumerate(lines) if cells_of(it) == HEAD), len(lines))
+    table = []
+    for line in lines[begins + 2 :]:
+        if not line.startswith("|"):
+            break
+        table.append(cells_of(line))
+    return {it[0].strip("`"): it for it in table}
 
 
 def check():
     """Prints what is wrong, and returns how many passed and failed."""
-    crates, failed = sorted(crate_list.crates()), 0
-    for crate in crates:
-        page = f"{TOP}/crates/{crate}/README.md"
-        if os.path.isfile(page):
-            faults = faults_of(crate, text_of(page))
-        else:
-            faults = ["it is not there"]
-        for it in faults:
-            print(f"FAILED crates/{crate}/README.md: {it}")
-        failed += bool(faults)
-    return len(crates) - failed, failed
+    wanted, shown = set(crate_list.crates()), rows()
+    faults = {it: "it has no row" for it in wanted - set(shown)}
+    faults |= {it: "crates.txt has no such crate" for it in set(shown) - wanted}
+    faults |= {name: "a column is empty, or one too many" for name, it in shown.items() if len(it) != len(HEAD) or not all(it)}
+    for name in sorted(faults):
+        print(f"FAILED table of crates: {name}: {faults[name]}")
+    return len(wanted | set(shown)) - len(faults), len(faults)

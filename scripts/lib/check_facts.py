@@ -5,7 +5,8 @@ a line '# protects: FACT', and none stands elsewhere, where nobody tries it. A f
 strongest wrong bodies, those of must-fail/ with a line '# strongest', and a fact without one by any edit. Each of the strongest
 says in a line '# at: GOAL' where it is refused, or, of a definition, by '# refused: FUNCTION', since the test would else try its
 function as it stands too. A row of a table begins with the functions, types or traits whose contracts say it: they stand in the
-sources of the crates that end the row. One is counted for each fact.
+sources of the crates that end the row. A contract cites each name in its column "Definition", itself or by other definitions. One is
+counted for each fact.
 """
 import glob
 import os
@@ -18,6 +19,10 @@ from tree import TOP, text_of
 PARTS = (WRONG_BODIES, PROGRAMS)
 # Headings of the part that are no facts.
 BESIDE = ("Safety", "Wrong bodies")
+# A clause of a contract, a definition of a specification, and a name in one.
+CLAUSE = re.compile(r"(?ms)^ *(?:pub )?(?:ensures|requires|ghost(?! use))\b.*?\}[;,]?$")
+DEFINITION = re.compile(r"(?ms)^ *(?:(?:abbrev|pub|record|data) )+([\w']+)(.*?)(?=^ *(?:abbrev|pub|record|data) |\Z)")
+NAME = re.compile(r"[\w']+")
 
 
 def facts():
@@ -61,13 +66,48 @@ def faults_of_edits(said):
             yield f"{name}: no edit of {' or '.join(f'/{it}/' for it in PARTS)} protects it"
 
 
+def faults_of_row(cells, crates):
+    """Returns which names of a row's first column no crate has, of those that the row names."""
+    if len(cells) != 3:
+        return [f"a row has {len(cells)} columns, not 3: {cells[0]}"]
+    names = re.findall(r"`(\w+)`", cells[0])
+    named = {*crates.intersection(names), *re.findall(r"`(\w+)/specs/", cells[2])}
+    paths = [path for it in named for path in glob.glob(f"{TOP}/crates/{it}/src/**/*.rt", recursive=True)]
+    words = set(re.findall(r"\w+", "".join(text_of(it) for it in paths))) | named
+    return [f"{', '.join(sorted(named))}: no {it}" for it in names if it not in words]
+
+
 def faults_of_rows(said):
+    crates = set(os.listdir(f"{TOP}/crates"))
     for fact, text in said.items():
-        for first, last in re.findall(r"(?m)^\| ([^|]*`[^|]*) \|.*\| ([^|]*) \|$", text):
-            crates = re.findall(r"`(\w+)`", last)
-            paths = [path for it in crates for path in glob.glob(f"{TOP}/crates/{it}/src/**/*.rt", recursive=True)]
-            words = set(re.findall(r"\w+", "".join(text_of(it) for it in paths)))
-            yield from (f"docs/PROOF.md: {fact}: {last} has no {it}" for it in re.findall(r"`(\w+)`", first) if it not in words)
+        for row in re.findall(r"(?m)^\| (.*`.*) \|$", text):
+            yield from (f"docs/PROOF.md: {fact}: {it}" for it in faults_of_row(row.split(" | "), crates))
+
+
+def sources_of(folder, ending):
+    """Returns the text of each file of all crates that is in such a folder and ends so."""
+    return map(text_of, glob.glob(f"{glob.escape(TOP)}/crates/*/{folder}/**/*{ending}", recursive=True))
+
+
+def cited():
+    """Returns the names that contracts cite, themselves or by definitions."""
+    definitions, found = {}, set()
+    for name, text in (it for source in sources_of("specs", ".antt") for it in DEFINITION.findall(re.sub("--.*", "", source))):
+        definitions.setdefault(name, set()).update(NAME.findall(text))
+    new = {name for source in sources_of("src", ".rt") for clause in CLAUSE.findall(source) for name in NAME.findall(clause)}
+    while new:
+        found |= new
+        new = {it for name in new for it in definitions.get(name, ())} - found
+    return found
+
+
+def faults_of_definitions(said):
+    known = cited()
+    for fact, text in said.items():
+        head, *rows = [it.split("|") for it in re.findall(r"(?m)^\|.*", text)] or [[]]
+        at = head.index(" Definition ") if rows else 0
+        names = [name for row in rows for name in re.findall(r"`([\w']+)`", row[at])]
+        yield from (f"docs/PROOF.md: {fact}: no contract cites {it}, nor a definition that one cites" for it in names if it not in known)
 
 
 def print_map(asked):
@@ -83,7 +123,7 @@ def print_map(asked):
 def check():
     """Prints what is wrong, and returns how many passed and failed."""
     said = facts()
-    faults = [*faults_of_edits(said), *faults_of_rows(said)]
+    faults = [*faults_of_edits(said), *faults_of_rows(said), *faults_of_definitions(said)]
     for it in faults:
         print(f"FAILED {it}")
     return max(len(said) - len(faults), 0), len(faults)

@@ -1,22 +1,17 @@
 """Says whether the files that the documents name are there, and have the names that stand behind them, and whether their links lead
 somewhere.
 
-A file is named in backquotes, from the top or below crates/, as in `pq_types/specs/Item.antt`; behind a
-colon may come names in it, as in `pq_types/specs/Item.antt`: `IsItem`, `item_word`. In a table whose last
-column names a crate, or two, the names in backquotes before it are tests and wrong bodies of these, or rows,
-which are the program's. A link leads to a file, and behind a # to a heading of it. One is counted for each document.
+A file is named in backquotes, from the top or below crates/, as in `pq_types/specs/Item.antt`; after a colon may come names in it, as in
+`pq_types/specs/Item.antt`: `IsItem`, `item_word`. A link leads to a file, and after a # to a heading of it. One is counted for each document.
 """
 import glob
 import os
 import re
 
-from transcripts import all_rows
 from tree import TOP, text_of
 
-PROGRAM = "flatpq"
 CRATES = "|".join(sorted(os.listdir(f"{TOP}/crates")))
 PLACES = f"(?:{CRATES})/(?:src|specs|proofs|must-fail)|crates|docs|scripts|tests|examples|include|library|bindings"
-SHOWN = re.compile(rf"(?m)^\|.*\| ([^|]*) \| ((?:`(?:{CRATES})`(?:, )?)+) \|$")
 NAMED = re.compile(rf"`((?:{PLACES})/[\w./-]*)`((?::|,| and|\s|`\w+`)*)")
 
 
@@ -24,24 +19,6 @@ def found(path):
     """Returns the file or folder of this name, from the top or below crates/."""
     tried = [f"{TOP}/{path}", f"{TOP}/crates/{path}"]
     return next((it for it in tried if os.path.exists(it)), None)
-
-
-def shown_by(crate):
-    """Returns the names of the crate's tests and wrong bodies, and of the rows where it is the program."""
-    sources = glob.glob(f"{TOP}/crates/{crate}/src/**/*.rt", recursive=True)
-    names = {it for file in sources for it in re.findall(r"#\[test\]\s+fn (\w+)", text_of(file))}
-    names |= {os.path.basename(it)[: -len(".edit")] for it in glob.glob(f"{TOP}/crates/{crate}/must-fail/*.edit")}
-    return names | set(all_rows()) if crate == PROGRAM else names
-
-
-def faults_of_tables(text):
-    """Returns which tests, edits and rows of a table are not there."""
-    faults = []
-    for cell, last in SHOWN.findall(text):
-        crates = re.findall(r"`(\w+)`", last)
-        names = set().union(*map(shown_by, crates))
-        faults += [f"{' or '.join(crates)} has no {it}" for it in re.findall(r"`([\w-]+)`", cell) if it not in names]
-    return faults
 
 
 def headings_of(text):
@@ -77,10 +54,9 @@ def faults_of(text):
 
 def check():
     """Prints what is wrong, and returns how many passed and failed."""
-    files = [f"{TOP}/README.md", f"{TOP}/bindings/README.md"]
-    files += sorted(it for place in ("docs/*.md", "crates/*/README.md") for it in glob.glob(f"{TOP}/{place}"))
+    files = [f"{TOP}/README.md", f"{TOP}/bindings/README.md", *sorted(glob.glob(f"{TOP}/docs/*.md"))]
     texts = {it: text_of(it) for it in files}
-    faults = {it: faults_of(text) + faults_of_tables(text) + faults_of_links(it, text) for it, text in texts.items()}
+    faults = {it: faults_of(text) + faults_of_links(it, text) for it, text in texts.items()}
     for file, wrong in faults.items():
         for it in wrong:
             print(f"FAILED {os.path.relpath(file, TOP)}: {it}")

@@ -1,0 +1,57 @@
+"""The record of the wrong bodies that the prover refused, REFUSED: a line for each crate, 'crate count edits sources date toolchain'.
+
+The two sums are of the crate's edits and of its src, specs and proofs, as they stood when all of its wrong bodies were tried.
+"""
+import datetime
+import hashlib
+import os
+import subprocess
+
+from edits import WRONG_BODIES, edits_of
+from sources import PARTS
+from tree import TOP
+
+RECORD = f"{TOP}/REFUSED"
+HEAD = "# crate, wrong bodies that the prover refused, sum of these edits, sum of the crate's sources, date, toolchain\n"
+
+
+def sum_of_edits(crate):
+    """Returns a sum of what the crate's wrong bodies change, and of where each is to be refused."""
+    told = [(it.name(), it.pairs, it.said("# at: "), it.said("# refused: ")) for it in edits_of(WRONG_BODIES, crate)]
+    return hashlib.sha256(repr(told).encode()).hexdigest()[:16]
+
+
+def sum_of_sources(crate):
+    """Returns a sum of all files of the crate that a proof reads."""
+    whole, top = hashlib.sha256(), f"{TOP}/crates/{crate}"
+    for folder in sorted(folder for part in PARTS for folder, _, _ in os.walk(f"{top}/{part}")):
+        for name in sorted(os.listdir(folder)):
+            if os.path.isfile(f"{folder}/{name}"):
+                with open(f"{folder}/{name}", "rb") as it:
+                    whole.update(f"{hashlib.sha256(it.read()).hexdigest()}  {os.path.relpath(folder, top)}/{name}\n".encode())
+    return whole.hexdigest()[:16]
+
+
+def sums_of(crate):
+    """Returns the number of the crate's wrong bodies, the sum of these, and that of its sources."""
+    return str(len(edits_of(WRONG_BODIES, crate))), sum_of_edits(crate), sum_of_sources(crate)
+
+
+def recorded():
+    """Returns the words of each crate's line, by its name."""
+    if not os.path.isfile(RECORD):
+        return {}
+    with open(RECORD, encoding="utf-8") as it:
+        return {words[0]: tuple(words[1:]) for words in map(str.split, it) if words and words[0] != "#"}
+
+
+def write(sums):
+    """Enters these crates, whose sums are those from before the trial, where they still have them: those that were left out."""
+    changed = [crate for crate, told in sums.items() if sums_of(crate) != told]
+    kit = subprocess.run(["rt", "version"], capture_output=True, text=True, check=True).stdout.split()[0]
+    lines = recorded() | {crate: (*told, str(datetime.date.today()), kit) for crate, told in sums.items() if crate not in changed}
+    with open(f"{RECORD}.new", "w", encoding="utf-8") as it:
+        it.write(HEAD)
+        it.writelines(f"{' '.join([crate, *lines[crate]])}\n" for crate in sorted(lines) if edits_of(WRONG_BODIES, crate))
+    os.replace(f"{RECORD}.new", RECORD)
+    return changed

@@ -1,13 +1,12 @@
 -- What a contract sees of a Book, and runs of requests on one.
 use Rattle.std.specs.Prelude.{Bool, ◌≡◌, ℕ, ◌<◌, ◌≤◌, List, [], ◌∷◌, ◌++◌}
-use Rattle.pq_types.specs.Item.{Item}
 use Rattle.pq_types.specs.Asked.{Request}
 use Rattle.pq_types.specs.Asked.{Reply}
 use Rattle.pq_types.specs.Asked.{Answer}
 use Rattle.pq_types.specs.declared.answer.Answer.TheVariants.{Entered, BookFull, NoMemory}
 use Rattle.pq_types.specs.Asked.{Line}
 use Rattle.pq_types.specs.declared.journal.TheConstants.{MOST_LINES, GREATEST_NUMBER}
-use Rattle.pq_types.specs.Queue.{IsProperReplyOf, content_after}
+use Rattle.pq_types.specs.Queue.{IsProperReplyOf}
 use Rattle.pq_types.specs.History.{last_serial, journal_after, MayAnswer}
 use Rattle.leftist_heap.specs.declared.store.TheConstants.{MOST_ITEMS}
 use Rattle.pq_book.specs.declared.book.BookError.{BookError}
@@ -90,8 +89,3 @@ entered_requests (d ∷ ds) = with_entered d.answer d.request (entered_requests 
 abbrev pub entered_replies : List Dealing → List Reply
 entered_replies [] = []
 entered_replies (d ∷ ds) = with_reply d.answer (entered_replies ds)
-
--- the content that requests leave one after another, from this content on
-abbrev pub content_after_all : List Item → List Request → List Item
-content_after_all xs [] = xs
-content_after_all xs (q ∷ qs) = content_after_all (content_after xs q) qs

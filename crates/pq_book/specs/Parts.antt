@@ -2,9 +2,9 @@
 use Rattle.std.specs.Prelude.{◌≡◌, ℕ, ◌-◌, ◌≤◌, List, map, length}
 use Rattle.pq_types.specs.Asked.{Line}
 use Rattle.pq_types.specs.declared.journal.TheConstants.{MOST_LINES}
-use Rattle.pq_types.specs.History.{left, IsLegal, SerialsRise}
+use Rattle.pq_types.specs.History.{left, entries_of, IsLegal, SerialsRise}
 use Rattle.pq_book.specs.Book.{Volume}
-use Rattle.pq_book.specs.Entry.{Entry, item_of, entries_of}
+use Rattle.pq_types.specs.Entry.{Entry, item_of}
 use Rattle.pq_book.specs.Pages.{page_of, AreLast}
 
 -- the entries of the book's store, how many lines of its journal are forgotten, and the others

@@ -1,14 +1,15 @@
-// A store of items with the journal of its requests: memory holds the last lines of the journal, all of
-// a short one, and a contract sees all of every one.
+// A store of items with the journal of what was done on it: memory holds the last lines of the journal, all
+// of a short one, and a contract sees all of every one.
 ghost use Rattle.std.specs.Prelude.{◌≡◌, ◌+◌, ◌-◌, ◌≢◌, ◌<◌, ◌≤◌, ◌↔◌, ◌⊎◌, [], ◌∷◌, ◌++◌, length};
 ghost use Rattle.std.specs.Prelude.{map, drop, OnErr, OnOk, OnSome, IfOk, IfSome, IfNone, IsSome, IsErrOf};
 ghost use Rattle.std.specs.List.{AllByRecursion};
 ghost use Rattle.pq_types.specs.Queue.{IsPush, reply_to};
 ghost use Rattle.pq_types.specs.Mail.{IsProperAnswerOf};
 ghost use Rattle.pq_types.specs.History.{left, IsLegal, SerialsRise, last_serial, journal_after, MayAnswer};
+ghost use Rattle.pq_types.specs.Operation.{Asked};
 ghost use Rattle.pq_book.specs.Book.{IsRoom, IsLongRoom, IsAnswerWithin, AllHaveRoom, MayDeal, dealing, book_code};
 ghost use Rattle.pq_book.specs.Parts.{AreParts};
-ghost use Rattle.pq_book.specs.Entry.{item_of, entries_after};
+ghost use Rattle.pq_types.specs.Entry.{item_of, entries_after};
 ghost use Rattle.pq_book.specs.Pages.{page_of, AreLast};
 ghost use Rattle.leftist_heap.specs.Store.{first_of};
 
@@ -18,10 +19,12 @@ use crate::lines::{LastLines, LinesError};
 use crate::pages::Journal;
 use leftist_heap::{MOST_ITEMS, Store};
 use pq_types::laws::{law_items_stay_in_range, law_one_more_line, law_request_is_proper};
-use pq_types::{Answer, GREATEST_NUMBER, Item, Line, MOST_LINES, Part, Reply, Request};
+use pq_types::{Answer, GREATEST_NUMBER, Item, Line, MOST_LINES, Operation, Part, Reply, Request};
 use std::alloc::{AllocError, Allocator};
 use std::marker::Model;
 use thiserror::Error;
+
+pub mod removal;
 
 /// Why there is no Book.
 #[derive(Clone, Copy, Debug, PartialEq, Eq, Error)]
@@ -46,8 +49,8 @@ impl BookError {
     }
 }
 
-/// A store of items and the journal of the requests that were carried out on it. Its store always
-/// holds what the journal's requests leave on the empty queue, each item with the journal line of
+/// A store of items and the journal of the requests and removals that were carried out on it. Its
+/// store always holds what the journal leaves on the empty queue, each item with the journal line of
 /// its push; each line has the reply of that queue, and the serials of each place rise strictly. In
 /// memory is a page of the journal: all lines of one with room for 1,048,576 at most, else the last
 /// 65,536. A contract sees the room and the whole journal.
@@ -140,10 +143,10 @@ impl<S: Store<Entry<P>>, A: Allocator, P: Part> Book<S, A, P> {
         };
         let told = reply;
         self.journal.add(Line {
-            place,
             serial,
-            request,
+            operation: Operation::asked(request),
             reply: told,
+            place,
         });
         Answer::Entered(number, reply)
     }
@@ -153,7 +156,6 @@ impl<S: Store<Entry<P>>, A: Allocator, P: Part> Book<S, A, P> {
     pub fn first(&self) -> Option<Item<P>>
         ensures { result ≡ first_of (left self.now.journal) }
     {
-        law_one_more_line();
         match self.store.least() {
             Some(entry) => Some(entry.item()),
             None => None,
@@ -164,7 +166,6 @@ impl<S: Store<Entry<P>>, A: Allocator, P: Part> Book<S, A, P> {
     pub fn items(&self) -> u64
         ensures { result ≡ length (left self.now.journal) }
     {
-        law_one_more_line();
         self.store.len() as u64
     }
 
@@ -247,7 +248,6 @@ impl<S: Store<Entry<P>>, A: Allocator, P: Part> Book<S, A, P> {
         requires { IsSome place.old }
         ensures { IfSome place.old (λ book. AreParts book (S.content result.0) result.1 result.2.items) }
     {
-        law_one_more_line();
         let Some(book) = place.take() else {
             unreachable!()
         };
@@ -267,7 +267,6 @@ impl<S: Store<Entry>, A: Allocator> Book<S, A> {
     pub fn into_parts(self) -> (S, u64, Vec<Line, A>)
         ensures { AreParts self (S.content result.0) result.1 result.2.items }
     {
-        law_one_more_line();
         let Book {
             store,
             journal,
@@ -286,7 +285,7 @@ fn carried_out_within<S: Store<Entry<P>>, P: Part>(
 ) -> Option<Reply<Item<P>>>
     requires lines { AllByRecursion (λ e. e.line < line) (S.content store.old) }
     ensures reply { IfSome result (λ reply. reply ≡ reply_to (map item_of (S.content store.old)) request) }
-    ensures entries { OnSome result (S.content store.new ≡ entries_after (S.content store.old) line request) }
+    ensures entries { OnSome result (S.content store.new ≡ entries_after (S.content store.old) line (Asked request)) }
     ensures none { IfNone result (IsPush request × (S.content store.new ≡ S.content store.old)) }
     ensures full { IfNone result (S.room store.old ≤ length (S.content store.old) ⊎ MOST_ITEMS ≤ length (S.content store.old)) }
 {
@@ -306,7 +305,7 @@ fn carried_out<S: Store<Entry<P>>, P: Part>(
     requires room { IsPush request → length (S.content store.old) < MOST_ITEMS }
     requires lines { AllByRecursion (λ e. e.line < line) (S.content store.old) }
     ensures reply { IfSome result (λ reply. reply ≡ reply_to (map item_of (S.content store.old)) request) }
-    ensures entries { OnSome result (S.content store.new ≡ entries_after (S.content store.old) line request) }
+    ensures entries { OnSome result (S.content store.new ≡ entries_after (S.content store.old) line (Asked request)) }
     ensures none { IfNone result (IsPush request × (S.content store.new ≡ S.content store.old)) }
     ensures full { IfNone result (S.room store.old ≤ length (S.content store.old)) }
 {

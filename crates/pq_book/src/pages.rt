@@ -4,7 +4,7 @@ ghost use Rattle.std.specs.Prelude.{drop, vec_len, vec_capacity, IfOk, OnOk, OnE
 ghost use Rattle.pq_book.specs.Pages.{Pages, all, turned};
 
 use crate::forgotten::Forgotten;
-use pq_types::{Item, Line, Part, Reply, Request};
+use pq_types::{Item, Line, Operation, Part, Reply, Request};
 use std::alloc::{AllocError, Allocator};
 use std::marker::Model;
 
@@ -190,10 +190,10 @@ fn written_page<A: Allocator, P: Part>(
     let mut made = Vec::with_capacity(alloc, lines)?;
     for written in 0..lines {
         made.push_reserved(Line {
-            place: 0,
             serial: 0,
-            request: Request::Least,
+            operation: Operation::asked(Request::Least),
             reply: Reply::Empty,
+            place: 0,
         });
     }
     Ok(made)

@@ -1,6 +1,6 @@
 -- What one more line does to a journal.
-use Rattle.std.proofs.Common.{Bool, ◌≡◌, ℕ, ◌+◌, ◌<◌, ◌≤◌, true, false, List, [], ◌∷◌, ◌++◌, length, refl, arith}
-use Rattle.std.specs.Prelude.{max, ◌==◌, if◌then◌else◌}
+use Rattle.std.proofs.Common.{Bool, ◌≡◌, ℕ, ◌+◌, ◌<◌, ◌≤◌, true, false, List, [], ◌∷◌, ◌++◌, length, map, refl, sym, ◌∙◌, ap, subst, arith}
+use Rattle.std.specs.Prelude.{max, ◌==◌, if◌then◌else◌, ◌↔◌, Some}
 use Rattle.std.specs.List.{AllByRecursion}
 use Rattle.std.proofs.lemmas.Bool.Decides.{nat_tests}
 use Rattle.pq_types.specs.Asked.{Request}
@@ -8,28 +8,104 @@ use Rattle.pq_types.specs.declared.request.Request.TheVariants.{Push, Pop, Least
 use Rattle.pq_types.specs.Asked.{Line}
 use Rattle.pq_types.specs.Item.{Item}
 use Rattle.pq_types.specs.Item.{IsItemOf, not_above}
+use Rattle.pq_types.specs.Asked.{Operation}
+use Rattle.pq_types.specs.Operation.{Asked, ByTicket, Remove}
 use Rattle.pq_types.specs.Queue.{AreItemsOf, IsAscending, IsProperRequestOf, IsProperReplyOf, content_after, reply_to, with_item}
-use Rattle.pq_types.specs.History.{left, left_from, IsLegal, IsLegalFrom, SerialsRise, last_serial}
+use Rattle.pq_types.specs.Queue.{replies_from, content_after_all}
+use Rattle.pq_types.specs.Entry.{Entry, entry, item_of, entry_not_above, with_entry, without, entries_after, reply_by, item_at, taken, IsProperOperationOf}
+use Rattle.pq_types.specs.History.{left, entries_from, entries_of, IsLegal, IsLegalFrom, SerialsRise, last_serial}
+use Rattle.pq_types.specs.History.{HasNoRemovals, IsAsked, asked_before, requests_of, replies_of}
 
 -- what holds of each item, and of one more
 pub all_more : {A : Type 0} (P : A → Type 0) (xs : List A) (x : A) → AllByRecursion P xs → P x → AllByRecursion P (xs ++ x ∷ [])
 all_more P [] x h p = (p, tt)
 all_more P (y ∷ ys) x h p = (h.0, all_more P ys x h.1 p)
 
-left_from_more : (xs : List Item) (ls : List Line) (l : Line) → left_from xs (ls ++ l ∷ []) ≡ content_after (left_from xs ls) l.request
-left_from_more xs [] l = refl
-left_from_more xs (m ∷ ls) l = left_from_more (content_after xs m.request) ls l
+entries_from_more : (es : List Entry) (n : ℕ) (ls : List Line) (l : Line)
+    → entries_from es n (ls ++ l ∷ []) ≡ entries_after (entries_from es n ls) (n + length ls) l.operation
+entries_from_more es n [] l = ap (λ m. entries_after es m l.operation) (omega arith)
+entries_from_more es n (m ∷ ls) l =
+    entries_from_more (entries_after es n m.operation) (n + 1) ls l
+    ∙ ap (λ k. entries_after (entries_from (entries_after es n m.operation) (n + 1) ls) k l.operation) (omega arith)
 
-pub left_more : (ls : List Line) (l : Line) → left (ls ++ l ∷ []) ≡ content_after (left ls) l.request
-left_more ls l = left_from_more [] ls l
+pub entries_more : (ls : List Line) (l : Line) → entries_of (ls ++ l ∷ []) ≡ entries_after (entries_of ls) (length ls + 1) l.operation
+entries_more ls l = entries_from_more [] 1 ls l ∙ ap (λ k. entries_after (entries_of ls) k l.operation) (omega arith)
 
-legal_from_more : (xs : List Item) (ls : List Line) (l : Line) → IsLegalFrom xs ls → l.reply ≡ reply_to (left_from xs ls) l.request
-    → IsLegalFrom xs (ls ++ l ∷ [])
-legal_from_more xs [] l h e = (e, tt)
-legal_from_more xs (m ∷ ls) l h e = (h.0, legal_from_more (content_after xs m.request) ls l h.1 e)
+-- without their lines, the entries are put in as items are
+map-put : (e : Entry) (es : List Entry) → map item_of (with_entry e es) ≡ with_item (item_of e) (map item_of es)
+map-put e [] = refl
+map-put e (f ∷ es) = at_choice (map-put e es) (entry_not_above f e) where
+  at_choice : map item_of (with_entry e es) ≡ with_item (item_of e) (map item_of es) → (b : Bool)
+      → map item_of (if b then f ∷ with_entry e es else e ∷ f ∷ es)
+      ≡ (if b then item_of f ∷ with_item (item_of e) (map item_of es) else item_of e ∷ item_of f ∷ map item_of es)
+  at_choice h true = ap (λ xs. item_of f ∷ xs) h
+  at_choice h false = refl
 
-pub legal_more : (ls : List Line) (l : Line) → IsLegal ls → l.reply ≡ reply_to (left ls) l.request → IsLegal (ls ++ l ∷ [])
-legal_more ls l h e = legal_from_more [] ls l h e
+map-asked : (es : List Entry) (n : ℕ) (q : Request) → map item_of (entries_after es n (Asked q)) ≡ content_after (map item_of es) q
+map-asked es n (Push x) = map-put (entry n x) es
+map-asked [] n Pop = refl
+map-asked (e ∷ es) n Pop = refl
+map-asked es n Least = refl
+
+pub left_more : (ls : List Line) (l : Line) (q : Request) → l.operation ≡ Asked q → left (ls ++ l ∷ []) ≡ content_after (left ls) q
+left_more ls l q is =
+    ap (map item_of) (entries_more ls l)
+    ∙ ap (λ d. map item_of (entries_after (entries_of ls) (length ls + 1) d)) is ∙ map-asked (entries_of ls) (length ls + 1) q
+
+legal_from_more : (es : List Entry) (n : ℕ) (ls : List Line) (l : Line) → IsLegalFrom es n ls → l.reply ≡ reply_by (entries_from es n ls) l.operation
+    → IsLegalFrom es n (ls ++ l ∷ [])
+legal_from_more es n [] l h e = (e, tt)
+legal_from_more es n (m ∷ ls) l h e = (h.0, legal_from_more (entries_after es n m.operation) (n + 1) ls l h.1 e)
+
+pub legal_more : (ls : List Line) (l : Line) → IsLegal ls → l.reply ≡ reply_by (entries_of ls) l.operation → IsLegal (ls ++ l ∷ [])
+legal_more ls l h e = legal_from_more [] 1 ls l h e
+
+-- a journal without removals leaves what its requests do
+left_asked : (es : List Entry) (n : ℕ) (ls : List Line) → HasNoRemovals ls
+    → map item_of (entries_from es n ls) ≡ content_after_all (map item_of es) (requests_of ls)
+left_asked es n [] h = refl
+left_asked es n (l ∷ ls) h = step l.operation h.0 (λ xs. left_asked xs (n + 1) ls h.1) where
+  step : (d : Operation) → IsAsked d → ((xs : List Entry) → map item_of (entries_from xs (n + 1) ls) ≡ content_after_all (map item_of xs) (requests_of ls))
+      → map item_of (entries_from (entries_after es n d) (n + 1) ls) ≡ content_after_all (map item_of es) (asked_before d (requests_of ls))
+  step (Asked q) a rest = rest (entries_after es n (Asked q)) ∙ ap (λ ys. content_after_all ys (requests_of ls)) (map-asked es n q)
+  step (ByTicket (Remove i)) a rest = absurd a
+
+both : {A : Type 0} {x y : A} {xs ys : List A} → x ≡ y → xs ≡ ys → x ∷ xs ≡ y ∷ ys
+both {A} {x} {y} {xs} {ys} e es = ap (λ z. z ∷ xs) e ∙ ap (λ zs. y ∷ zs) es
+
+heads : {A : Type 0} {x y : A} {xs ys : List A} → x ∷ xs ≡ y ∷ ys → x ≡ y
+heads {A} {x} {y} {xs} {ys} e = ap first e where
+  first : List A → A
+  first [] = x
+  first (z ∷ zs) = z
+
+tails : {A : Type 0} {x y : A} {xs ys : List A} → x ∷ xs ≡ y ∷ ys → xs ≡ ys
+tails {A} {x} {y} {xs} {ys} e = ap rest e where
+  rest : List A → List A
+  rest [] = []
+  rest (z ∷ zs) = zs
+
+-- and is legal where its replies are those to its requests
+replied : (es : List Entry) (n : ℕ) (ls : List Line) → HasNoRemovals ls → IsLegalFrom es n ls → replies_of ls ≡ replies_from (map item_of es) (requests_of ls)
+replied es n [] h legal = refl
+replied es n (l ∷ ls) h legal = step l.operation h.0 legal.0 (replied (entries_after es n l.operation) (n + 1) ls h.1 legal.1) where
+  step : (d : Operation) → IsAsked d → l.reply ≡ reply_by es d → replies_of ls ≡ replies_from (map item_of (entries_after es n d)) (requests_of ls)
+      → l.reply ∷ replies_of ls ≡ replies_from (map item_of es) (asked_before d (requests_of ls))
+  step (Asked q) a e rest = both e (rest ∙ ap (λ ys. replies_from ys (requests_of ls)) (map-asked es n q))
+  step (ByTicket (Remove i)) a e rest = absurd a
+
+legal_by : (es : List Entry) (n : ℕ) (ls : List Line) → HasNoRemovals ls → replies_of ls ≡ replies_from (map item_of es) (requests_of ls) → IsLegalFrom es n ls
+legal_by es n [] h e = tt
+legal_by es n (l ∷ ls) h e = step l.operation h.0 e (λ r. legal_by (entries_after es n l.operation) (n + 1) ls h.1 r) where
+  step : (d : Operation) → IsAsked d → l.reply ∷ replies_of ls ≡ replies_from (map item_of es) (asked_before d (requests_of ls))
+      → (replies_of ls ≡ replies_from (map item_of (entries_after es n d)) (requests_of ls) → IsLegalFrom (entries_after es n d) (n + 1) ls)
+      → (l.reply ≡ reply_by es d) × IsLegalFrom (entries_after es n d) (n + 1) ls
+  step (Asked q) a e rest = (heads e, rest (tails e ∙ sym (ap (λ ys. replies_from ys (requests_of ls)) (map-asked es n q))))
+  step (ByTicket (Remove i)) a e rest = absurd a
+
+pub without_removals : (ls : List Line) → HasNoRemovals ls
+    → (left ls ≡ content_after_all [] (requests_of ls)) × (IsLegal ls ↔ (replies_of ls ≡ replies_from [] (requests_of ls)))
+without_removals ls h = (left_asked [] 1 ls h, (replied [] 1 ls h, legal_by [] 1 ls h))
 
 pub rise_more : (ls : List Line) (l : Line) → SerialsRise ls → AllByRecursion (λ m. l.place ≡ m.place → m.serial < l.serial) ls
     → SerialsRise (ls ++ l ∷ [])
@@ -57,25 +133,57 @@ reply_proper wide (y ∷ ys) Pop h = h.0
 reply_proper wide [] Least h = tt
 reply_proper wide (y ∷ ys) Least h = h.0
 
-length-with_item : (x : Item) (ys : List Item) → length (with_item x ys) ≡ length ys + 1
-length-with_item x [] = refl
-length-with_item x (y ∷ ys) =
-    elim (not_above y x) as (λ b. length (if b then y ∷ with_item x ys else x ∷ y ∷ ys)
-    ≡ length (y ∷ ys) + 1) [ true ↦ omega (arith, length-with_item x ys) | false ↦ omega arith ]
+-- what holds of each item, without one entry
+all_without : (P : Item → Type 0) (i : ℕ) (es : List Entry) → AllByRecursion P (map item_of es) → AllByRecursion P (map item_of (without i es))
+all_without P i [] h = tt
+all_without P i (e ∷ es) h =
+    elim (e.line == i) as (λ b. AllByRecursion P (map item_of (if b then es else e ∷ without i es))) [ true ↦ h.1 | false ↦ (h.0, all_without P i es h.1) ]
 
-content_longer : (ys : List Item) (q : Request) → length (content_after ys q) ≤ length ys + 1
-content_longer ys (Push x) = omega (arith, length-with_item x ys)
-content_longer [] Pop = omega arith
-content_longer (y ∷ ys) Pop = omega arith
-content_longer ys Least = omega arith
+-- what is done by a ticket keeps them too
+pub entries_items : (wide : Bool) (es : List Entry) (n : ℕ) (o : Operation) → IsProperOperationOf wide o → AreItemsOf wide (map item_of es)
+    → AreItemsOf wide (map item_of (entries_after es n o))
+entries_items wide es n (Asked q) i h = subst (AreItemsOf wide) (sym (map-asked es n q)) (content_items wide (map item_of es) q i h)
+entries_items wide es n (ByTicket (Remove i)) u h = all_without (IsItemOf wide) i es h
 
-length-left_from : (xs : List Item) (ls : List Line) → length (left_from xs ls) ≤ length xs + length ls
-length-left_from xs [] = omega arith
-length-left_from xs (l ∷ ls) = omega (arith, length-left_from (content_after xs l.request) ls, content_longer xs l.request)
+taken_proper : (wide : Bool) (i : ℕ) (es : List Entry) → AreItemsOf wide (map item_of es) → IsProperReplyOf wide (taken (item_at i es))
+taken_proper wide i [] h = tt
+taken_proper wide i (e ∷ es) h =
+    elim (e.line == i) as (λ b. IsProperReplyOf wide (taken (if b then Some (item_of e) else item_at i es))) [ true ↦ h.0 | false ↦ taken_proper wide i es h.1 ]
+
+pub reply_by_proper : (wide : Bool) (es : List Entry) (o : Operation) → AreItemsOf wide (map item_of es) → IsProperReplyOf wide (reply_by es o)
+reply_by_proper wide es (Asked q) h = reply_proper wide (map item_of es) q h
+reply_by_proper wide es (ByTicket (Remove i)) h = taken_proper wide i es h
+
+length-with_entry : (e : Entry) (es : List Entry) → length (with_entry e es) ≡ length es + 1
+length-with_entry e [] = refl
+length-with_entry e (f ∷ es) =
+    elim (entry_not_above f e) as (λ b. length (if b then f ∷ with_entry e es else e ∷ f ∷ es)
+    ≡ length (f ∷ es) + 1) [ true ↦ omega (arith, length-with_entry e es) | false ↦ omega arith ]
+
+length-without : (i : ℕ) (es : List Entry) → length (without i es) ≤ length es
+length-without i [] = omega arith
+length-without i (e ∷ es) =
+    elim (e.line == i) as (λ b. length (if b then es else e ∷ without i es)
+    ≤ length (e ∷ es)) [ true ↦ omega arith | false ↦ omega (arith, length-without i es) ]
+
+entries_longer : (es : List Entry) (n : ℕ) (d : Operation) → length (entries_after es n d) ≤ length es + 1
+entries_longer es n (Asked (Push x)) = omega (arith, length-with_entry (entry n x) es)
+entries_longer [] n (Asked Pop) = omega arith
+entries_longer (e ∷ es) n (Asked Pop) = omega arith
+entries_longer es n (Asked Least) = omega arith
+entries_longer es n (ByTicket (Remove i)) = omega (arith, length-without i es)
+
+length-entries_from : (es : List Entry) (n : ℕ) (ls : List Line) → length (entries_from es n ls) ≤ length es + length ls
+length-entries_from es n [] = omega arith
+length-entries_from es n (l ∷ ls) = omega (arith, length-entries_from (entries_after es n l.operation) (n + 1) ls, entries_longer es n l.operation)
+
+length-items : (es : List Entry) → length (map item_of es) ≡ length es
+length-items [] = refl
+length-items (e ∷ es) = omega (arith, length-items es)
 
 -- the queue has no more items than the journal has lines
 pub length-left : (ls : List Line) → length (left ls) ≤ length ls
-length-left ls = omega (arith, length-left_from [] ls)
+length-left ls = omega (arith, length-entries_from [] 1 ls, length-items (entries_of ls))
 
 -- the greatest serial of a place after one more line
 pub last_serial-snoc : (place : ℕ) (ls : List Line) (l : Line)
@@ -110,10 +218,22 @@ content_ascending [] Pop a = tt
 content_ascending (x ∷ xs) Pop a = a.1
 content_ascending xs Least a = a
 
-left_from_ascending : (xs : List Item) (ls : List Line) → IsAscending xs → IsAscending (left_from xs ls)
-left_from_ascending xs [] a = a
-left_from_ascending xs (l ∷ ls) a = left_from_ascending (content_after xs l.request) ls (content_ascending xs l.request a)
+ascending_without : (i : ℕ) (es : List Entry) → IsAscending (map item_of es) → IsAscending (map item_of (without i es))
+ascending_without i [] a = tt
+ascending_without i (e ∷ es) a =
+    elim (e.line == i) as (λ b. IsAscending (map item_of (if b then es else e ∷ without i es))) [
+      | true ↦ a.1
+      | false ↦ (all_without (λ y. not_above (item_of e) y ≡ true) i es a.0, ascending_without i es a.1)
+    ]
+
+entries_ascending : (es : List Entry) (n : ℕ) (d : Operation) → IsAscending (map item_of es) → IsAscending (map item_of (entries_after es n d))
+entries_ascending es n (Asked q) a = subst IsAscending (sym (map-asked es n q)) (content_ascending (map item_of es) q a)
+entries_ascending es n (ByTicket (Remove i)) a = ascending_without i es a
+
+entries_from_ascending : (es : List Entry) (n : ℕ) (ls : List Line) → IsAscending (map item_of es) → IsAscending (map item_of (entries_from es n ls))
+entries_from_ascending es n [] a = a
+entries_from_ascending es n (l ∷ ls) a = entries_from_ascending (entries_after es n l.operation) (n + 1) ls (entries_ascending es n l.operation a)
 
 -- what a journal leaves is ascending
 pub left_ascending : (ls : List Line) → IsAscending (left ls)
-left_ascending ls = left_from_ascending [] ls tt
+left_ascending ls = entries_from_ascending [] 1 ls tt

@@ -5,6 +5,7 @@ use Rattle.pq_types.specs.declared.answer.Reply.{Reply as ReplyOf}
 use Rattle.pq_types.specs.declared.answer.Answer.{Answer as AnswerOf}
 use Rattle.pq_types.specs.declared.journal.Line.{Line as LineOf}
 use Rattle.pq_types.specs.declared.mail.Mail.{Mail as MailOf}
+use Rattle.pq_types.specs.Operation.{OperationOf}
 
 abbrev pub Request : Type 0
 Request = RequestOf Item
@@ -14,6 +15,9 @@ Reply = ReplyOf Item
 
 abbrev pub Answer : Type 0
 Answer = AnswerOf Item
+
+abbrev pub Operation : Type 0
+Operation = OperationOf Item
 
 abbrev pub Line : Type 0
 Line = LineOf Item

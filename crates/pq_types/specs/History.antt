@@ -1,5 +1,5 @@
 -- The journal: what its lines leave in the queue, and when it is the history of one queue.
-use Rattle.std.specs.Prelude.{◌≡◌, ℕ, ◌+◌, ◌<◌, max, if◌then◌else◌, ◌==◌, List, [], ◌∷◌, ◌++◌, length}
+use Rattle.std.specs.Prelude.{◌≡◌, ℕ, ◌+◌, ◌<◌, max, if◌then◌else◌, ◌==◌, List, [], ◌∷◌, ◌++◌, length, map}
 use Rattle.std.specs.List.{AllByRecursion}
 use Rattle.pq_types.specs.Item.{Item}
 use Rattle.pq_types.specs.Asked.{Request}
@@ -7,29 +7,40 @@ use Rattle.pq_types.specs.Asked.{Reply}
 use Rattle.pq_types.specs.Asked.{Answer}
 use Rattle.pq_types.specs.declared.answer.Answer.TheVariants.{Entered, BookFull, NoMemory}
 use Rattle.pq_types.specs.Asked.{Line}
-use Rattle.pq_types.specs.Queue.{content_after, reply_to, IsPush}
+use Rattle.pq_types.specs.Asked.{Operation}
+use Rattle.pq_types.specs.Operation.{Asked, ByTicket, Remove}
+use Rattle.pq_types.specs.Queue.{IsPush}
+use Rattle.pq_types.specs.Entry.{Entry, item_of, entries_after, reply_by}
+
+-- the journal line of this place, serial, operation and reply
+abbrev pub line_of : ℕ → ℕ → Operation → Reply → Line
+line_of place serial operation reply = record { place = place; serial = serial; operation = operation; reply = reply }
 
 -- the journal line of this place, serial, request and reply
 abbrev pub line : ℕ → ℕ → Request → Reply → Line
-line place serial request reply = record { place = place; serial = serial; request = request; reply = reply }
+line place serial request reply = line_of place serial (Asked request) reply
 
--- the content after the lines' requests, from this content on
-abbrev pub left_from : List Item → List Line → List Item
-left_from xs [] = xs
-left_from xs (l ∷ ls) = left_from (content_after xs l.request) ls
+-- the entries after these lines, of which the first has this number
+abbrev pub entries_from : List Entry → ℕ → List Line → List Entry
+entries_from es number [] = es
+entries_from es number (l ∷ ls) = entries_from (entries_after es number l.operation) (number + 1) ls
 
--- the content that the journal's requests leave on the empty queue
+-- the entries that a journal leaves: of each item in the queue the line that put it in
+abbrev pub entries_of : List Line → List Entry
+entries_of lines = entries_from [] 1 lines
+
+-- the content that the journal leaves on the empty queue
 abbrev pub left : List Line → List Item
-left lines = left_from [] lines
+left lines = map item_of (entries_of lines)
 
--- each line has the reply of the one-thread queue, from this content on
-abbrev pub IsLegalFrom : List Item → List Line → Type 0
-IsLegalFrom xs [] = Unit {0}
-IsLegalFrom xs (l ∷ ls) = (l.reply ≡ reply_to xs l.request) × IsLegalFrom (content_after xs l.request) ls
+-- each line has the reply of the one-thread queue, from these entries and this number on
+abbrev pub IsLegalFrom : List Entry → ℕ → List Line → Type 0
+IsLegalFrom es number [] = Unit {0}
+IsLegalFrom es number (l ∷ ls) = (l.reply ≡ reply_by es l.operation) × IsLegalFrom (entries_after es number l.operation) (number + 1) ls
 
 -- a legal history: each line has the reply that the one-thread queue gives there
 abbrev pub IsLegal : List Line → Type 0
-IsLegal lines = IsLegalFrom [] lines
+IsLegal lines = IsLegalFrom [] 1 lines
 
 -- the serials of each place rise strictly, so no post stands there twice
 abbrev pub SerialsRise : List Line → Type 0
@@ -41,17 +52,60 @@ abbrev pub last_serial : ℕ → List Line → ℕ
 last_serial place [] = 0
 last_serial place (l ∷ ls) = max (if l.place == place then l.serial else 0) (last_serial place ls)
 
--- the journal after a request is answered: an entered one has a line at the end, any other has none
-abbrev pub journal_after : List Line → ℕ → ℕ → Request → Answer → List Line
-journal_after lines place serial request (Entered number reply) = lines ++ line place serial request reply ∷ []
-journal_after lines place serial request BookFull = lines
-journal_after lines place serial request NoMemory = lines
+-- an operation that wants room for an item
+abbrev pub PutsIn : Operation → Type 0
+PutsIn (Asked request) = IsPush request
+PutsIn (ByTicket ticketed) = ⊥
 
--- What a request may be answered where the journal has these lines and room for so many: BookFull
+-- the journal after something is answered: what is entered has a line at the end, anything else has none
+abbrev pub journal_by : List Line → ℕ → ℕ → Operation → Answer → List Line
+journal_by lines place serial operation (Entered number reply) = lines ++ line_of place serial operation reply ∷ []
+journal_by lines place serial operation BookFull = lines
+journal_by lines place serial operation NoMemory = lines
+
+-- the journal after a request is answered
+abbrev pub journal_after : List Line → ℕ → ℕ → Request → Answer → List Line
+journal_after lines place serial request answer = journal_by lines place serial (Asked request) answer
+
+-- the journal after a removal of what this line put in is answered
+abbrev pub journal_after_removal : List Line → ℕ → ℕ → ℕ → Answer → List Line
+journal_after_removal lines place serial i answer = journal_by lines place serial (ByTicket (Remove i)) answer
+
+-- What an operation may be answered where the journal has these lines and room for so many: BookFull
 -- where it is full; else the next line's number and the one-thread queue's reply, or, to a push
 -- alone, NoMemory.
+abbrev pub MayDo : ℕ → List Line → Operation → Answer → Type 0
+MayDo room lines operation (Entered number reply) =
+    (length lines < room) × (number ≡ length lines + 1) × (reply ≡ reply_by (entries_of lines) operation)
+MayDo room lines operation BookFull = length lines ≡ room
+MayDo room lines operation NoMemory = (length lines < room) × PutsIn operation
+
+-- what a request may be answered
 abbrev pub MayAnswer : ℕ → List Line → Request → Answer → Type 0
-MayAnswer room lines request (Entered number reply) =
-    (length lines < room) × (number ≡ length lines + 1) × (reply ≡ reply_to (left lines) request)
-MayAnswer room lines request BookFull = length lines ≡ room
-MayAnswer room lines request NoMemory = (length lines < room) × IsPush request
+MayAnswer room lines request answer = MayDo room lines (Asked request) answer
+
+-- what a removal of what this line put in may be answered
+abbrev pub MayRemove : ℕ → List Line → ℕ → Answer → Type 0
+MayRemove room lines i answer = MayDo room lines (ByTicket (Remove i)) answer
+
+-- the line is no removal
+abbrev pub IsAsked : Operation → Type 0
+IsAsked (Asked q) = Unit {0}
+IsAsked (ByTicket (Remove i)) = ⊥
+
+abbrev pub HasNoRemovals : List Line → Type 0
+HasNoRemovals lines = AllByRecursion (λ l. IsAsked l.operation) lines
+
+-- the requests of the lines, in their order
+abbrev pub asked_before : Operation → List Request → List Request
+asked_before (Asked q) qs = q ∷ qs
+asked_before (ByTicket (Remove i)) qs = qs
+
+abbrev pub requests_of : List Line → List Request
+requests_of [] = []
+requests_of (l ∷ ls) = asked_before l.operation (requests_of ls)
+
+-- and their replies
+abbrev pub replies_of : List Line → List Reply
+replies_of [] = []
+replies_of (l ∷ ls) = l.reply ∷ replies_of ls

@@ -1,24 +1,39 @@
 -- What the laws about journals and contents say, for whoever builds on them (src/laws.rt proves
 -- them).
-use Rattle.std.specs.Prelude.{◌≡◌, ℕ, ◌^◌, ◌<◌, ◌≤◌, max, Bool, if◌then◌else◌, ◌==◌, List, [], ◌∷◌, ◌++◌, length}
+use Rattle.std.specs.Prelude.{◌≡◌, ℕ, ◌+◌, ◌^◌, ◌<◌, ◌≤◌, max, Bool, if◌then◌else◌, ◌==◌, List, [], ◌∷◌, ◌++◌, length, map, ◌↔◌}
 use Rattle.std.specs.List.{AllByRecursion}
 use Rattle.pq_types.specs.Item.{Item}
-use Rattle.pq_types.specs.Asked.{Request}
+use Rattle.pq_types.specs.Asked.{Request, Operation}
 use Rattle.pq_types.specs.Asked.{Line}
 use Rattle.pq_types.specs.declared.control.Control.{Control}
 use Rattle.pq_types.specs.Item.{IsItem, item_word}
 use Rattle.pq_types.specs.Mail.{IsProperControl, control_word}
 use Rattle.pq_types.specs.Queue.{AreItemsOf, IsAscending, IsProperRequestOf, IsProperReplyOf, content_after, reply_to}
-use Rattle.pq_types.specs.History.{left, IsLegal, SerialsRise, last_serial}
+use Rattle.pq_types.specs.Operation.{Asked}
+use Rattle.pq_types.specs.Queue.{replies_from, content_after_all}
+use Rattle.pq_types.specs.Entry.{Entry, item_of, entries_after, reply_by, IsProperOperationOf}
+use Rattle.pq_types.specs.History.{left, entries_of, IsLegal, SerialsRise, last_serial, HasNoRemovals, requests_of, replies_of}
 
 -- one more line's request is carried out on what the others leave
 abbrev pub LeavesOneMore : Type 0
-LeavesOneMore = (lines : List Line) (line : Line) → left (lines ++ line ∷ []) ≡ content_after (left lines) line.request
+LeavesOneMore = (lines : List Line) (line : Line) (request : Request) → line.operation ≡ Asked request
+    → left (lines ++ line ∷ []) ≡ content_after (left lines) request
+
+-- and whatever it says was done, on the entries
+abbrev pub EntersOneMore : Type 0
+EntersOneMore = (lines : List Line) (line : Line) → entries_of (lines ++ line ∷ []) ≡ entries_after (entries_of lines) (length lines + 1) line.operation
 
 -- a legal history stays one with a line that has the queue's reply
 abbrev pub StaysLegal : Type 0
-StaysLegal = (lines : List Line) (line : Line) → IsLegal lines → line.reply ≡ reply_to (left lines) line.request
+StaysLegal = (lines : List Line) (line : Line) → IsLegal lines → line.reply ≡ reply_by (entries_of lines) line.operation
     → IsLegal (lines ++ line ∷ [])
+
+-- A journal without removals leaves what its requests leave one after another, and it is a legal history
+-- exactly where its replies are those of the one-thread queue to them.
+abbrev pub WithoutRemovals : Type 0
+WithoutRemovals = (lines : List Line) → HasNoRemovals lines
+    → (left lines ≡ content_after_all [] (requests_of lines))
+    × (IsLegal lines ↔ (replies_of lines ≡ replies_from [] (requests_of lines)))
 
 -- serials still rise with a line whose serial is above each of its place
 abbrev pub StillRises : Type 0
@@ -50,6 +65,17 @@ ItemsStayInRange = (wide : Bool) (content : List Item) (request : Request) → I
 abbrev pub RepliesAreProper : Type 0
 RepliesAreProper = (wide : Bool) (content : List Item) (request : Request) → AreItemsOf wide content
     → IsProperReplyOf wide (reply_to content request)
+
+-- what is done keeps the items of entries in their range, where a request's item is in it
+abbrev pub EntriesStayInRange : Type 0
+EntriesStayInRange =
+    (wide : Bool) (entries : List Entry) (number : ℕ) (operation : Operation) → IsProperOperationOf wide operation
+    → AreItemsOf wide (map item_of entries) → AreItemsOf wide (map item_of (entries_after entries number operation))
+
+-- and so the replies to it
+abbrev pub RepliesByAreProper : Type 0
+RepliesByAreProper = (wide : Bool) (entries : List Entry) (operation : Operation) → AreItemsOf wide (map item_of entries)
+    → IsProperReplyOf wide (reply_by entries operation)
 
 -- a control has one word, and a word one control
 abbrev pub ControlWordsDiffer : Type 0

@@ -1,7 +1,10 @@
 pub mod Item
+pub mod Operation
 pub mod Asked
 pub mod Queue
+pub mod Entry
 pub mod History
 pub mod Control
 pub mod Mail
 pub mod Laws
+pub mod Outs

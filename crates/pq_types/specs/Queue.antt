@@ -49,6 +49,11 @@ abbrev pub replies_from : List Item → List Request → List Reply
 replies_from xs [] = []
 replies_from xs (q ∷ qs) = reply_to xs q ∷ replies_from (content_after xs q) qs
 
+-- the content that requests leave one after another, from this content on
+abbrev pub content_after_all : List Item → List Request → List Item
+content_after_all xs [] = xs
+content_after_all xs (q ∷ qs) = content_after_all (content_after xs q) qs
+
 -- a request whose item is in the range
 abbrev pub IsProperRequestOf : Bool → Request → Type 0
 IsProperRequestOf wide (Push x) = IsItemOf wide x

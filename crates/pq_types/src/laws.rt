@@ -1,8 +1,9 @@
 // What holds of the definitions alone, whatever code there is. A call of a law runs nothing: it
 // hands the law's facts to the proof of its caller.
-ghost use Rattle.pq_types.specs.Laws.{LeavesOneMore, StaysLegal, StillRises, SerialOfOneMore};
+ghost use Rattle.pq_types.specs.Laws.{LeavesOneMore, EntersOneMore, WithoutRemovals, StaysLegal, StillRises, SerialOfOneMore};
 ghost use Rattle.pq_types.specs.Laws.{NoMoreItemsThanLines, LeavesAscending};
-ghost use Rattle.pq_types.specs.Laws.{ItemsStayInRange, RepliesAreProper};
+ghost use Rattle.pq_types.specs.Laws.{ItemsStayInRange, RepliesAreProper, EntriesStayInRange, RepliesByAreProper};
+ghost use Rattle.pq_types.specs.Outs.{VainAreTold};
 ghost use Rattle.pq_types.specs.Queue.{IsProperRequestOf};
 ghost use Rattle.pq_types.specs.Laws.{ControlWordsDiffer, ItemWordsDiffer, WordsFit};
 
@@ -13,6 +14,7 @@ use crate::request::Request;
 /// A journal that gains a line: what it leaves, and when it stays the history of one queue.
 pub fn law_one_more_line()
     ensures left { LeavesOneMore }
+    ensures entries { EntersOneMore }
     ensures legal { StaysLegal }
     ensures rise { StillRises }
     ensures last_serial { SerialOfOneMore }
@@ -20,10 +22,22 @@ pub fn law_one_more_line()
     ensures ascending { LeavesAscending }
 {}
 
+/// A journal without removals: it leaves what its requests leave, and is legal where its replies are those to them.
+pub fn law_without_removals()
+    ensures { WithoutRemovals }
+{}
+
+/// A removal that takes nothing out replies Empty.
+pub fn law_removals()
+    ensures { VainAreTold }
+{}
+
 /// Proper requests keep the items of a content in their range, and so the replies.
 pub fn law_items_stay_in_range()
     ensures content { ItemsStayInRange }
     ensures reply { RepliesAreProper }
+    ensures entries { EntriesStayInRange }
+    ensures replies { RepliesByAreProper }
 {}
 
 /// A request is proper: its item is in the range of its width.

@@ -11,6 +11,7 @@ pub mod item;
 pub mod journal;
 pub mod laws;
 pub mod mail;
+pub mod operation;
 pub mod part;
 pub mod request;
 
@@ -19,5 +20,6 @@ pub use control::{Control, Kind, Notice, Outcome};
 pub use item::Item;
 pub use journal::{GREATEST_NUMBER, GREATEST_SERIAL, Line, MOST_LINES};
 pub use mail::Mail;
+pub use operation::{Done, Operation};
 pub use part::Part;
 pub use request::Request;

@@ -3,9 +3,9 @@ use Rattle.std.specs.Prelude.{Option, Some, None}
 use Rattle.pq_types.specs.Item.{Item}
 use Rattle.pq_types.specs.History.{left}
 use Rattle.leftist_heap.specs.Store.{first_of}
-use Rattle.pq_book.specs.Entry.{Entry}
+use Rattle.pq_types.specs.Entry.{Entry}
 use Rattle.pq_book.specs.Book.{Volume}
-use Rattle.pq_book.specs.Entry.{item_of}
+use Rattle.pq_types.specs.Entry.{item_of}
 use Rattle.pq_book.proofs.KeptLemmas.{items_left}
 use Rattle.pq_book.proofs.book.Book.first.Goals as goal
 
@@ -24,10 +24,10 @@ first_left es xs first items is = sym (ap item_in is) ∙ first_item es ∙ ap f
 
 pub returns-in-Some : goal.returns-in-Some
 returns-in-Some g c =
-    let items = items_left c.law_one_more_line.ensures.left _ _ _ _ c.self.invariant.0 ∙ ap (λ (b : Volume). left b.journal) c.self.view_is in
+    let items = items_left _ _ _ _ c.self.invariant.0 ∙ ap (λ (b : Volume). left b.journal) c.self.view_is in
     ap Some c.item.ensures ∙ first_left _ _ (Some c.in-Some.entry.now) items c.in-Some.ensures
 
 pub returns-in-None : goal.returns-in-None
 returns-in-None g c =
-    let items = items_left c.law_one_more_line.ensures.left _ _ _ _ c.self.invariant.0 ∙ ap (λ (b : Volume). left b.journal) c.self.view_is in
+    let items = items_left _ _ _ _ c.self.invariant.0 ∙ ap (λ (b : Volume). left b.journal) c.self.view_is in
     first_left _ _ None items c.in-None.ensures

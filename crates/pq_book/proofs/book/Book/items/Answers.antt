@@ -6,5 +6,5 @@ use Rattle.pq_book.proofs.book.Book.items.Goals as goal
 
 pub returns : goal.returns
 returns g c =
-    c.len.ensures.len ∙ as_many_left c.law_one_more_line.ensures.left _ _ _ _ c.self.invariant.0
+    c.len.ensures.len ∙ as_many_left _ _ _ _ c.self.invariant.0
     ∙ ap (λ (b : Volume). length (left b.journal)) c.self.view_is

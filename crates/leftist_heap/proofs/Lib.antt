@@ -11,3 +11,6 @@ pub mod Holes
 pub mod Shuffles
 pub mod Arrays
 pub mod Sifts
+pub mod Placings
+pub mod Removals
+pub mod Levels

@@ -7,7 +7,7 @@ use Rattle.leftist_heap.specs.Sifting.{place_above, StandsBefore, IsHeapBy, IsRi
 use Rattle.leftist_heap.proofs.Orders.{IsExactOrder, itself}
 
 -- the same place or another
-by_place : {G : Type 0} (k j : ℕ) → (k ≡ j → G) → (k ≢ j → G) → G
+pub by_place : {G : Type 0} (k j : ℕ) → (k ≡ j → G) → (k ≢ j → G) → G
 by_place {G} k j same other = by_test (eqb k j) refl where
   by_test : (b : Bool) → eqb k j ≡ b → G
   by_test true e = same (eqb-true k j e)
@@ -73,6 +73,17 @@ module _ {X : Type 0} (goes_before : X → X → Bool) where
             (o.trans _ _ _ over (by _ _ _ _ (ap (λ m. get_or xs m d) (sym e)) refl (h.others k first (omega arith) n d))));
       }
 
+    -- what took the place of the item at j sinks
+    pub replaced : (xs ys : List X) (j : ℕ) → IsHeapBy goes_before xs → length ys + 1 ≡ length xs
+        → ((k : ℕ) (d : X) → k ≢ j → k + 1 < length xs → get_or ys k d ≡ get_or xs k d) → IsSinking goes_before ys j
+    replaced xs ys j h size same = record {
+      others = λ k first last apart over d.
+          by _ _ _ _ (same (place_above k) d over (omega arith)) (same k d apart (omega arith)) (h k first (omega arith) d);
+      spanned = λ k deep first last e d.
+          by _ _ _ _ (same (place_above j) d (omega arith) (omega arith)) (same k d (omega arith) (omega arith))
+          (o.trans _ _ _ (h j deep (omega arith) d) (by _ _ _ _ (ap (λ m. get_or xs m d) (sym e)) refl (h k first (omega arith) d)));
+    }
+
     -- the first may stand before all
     top : (xs : List X) → IsHeapBy goes_before xs → (d : X) (fuel k : ℕ) → k ≤ fuel → k < length xs → goes_before (get_or xs 0 d) (get_or xs k d) ≡ true
     top xs h d zero k a b = by _ _ _ _ refl (ap (λ m. get_or xs m d) (let z : k ≡ 0 = omega arith in z)) (itself goes_before o (get_or xs 0 d))
@@ -136,16 +147,13 @@ module _ {X : Type 0} (goes_before : X → X → Bool) where
         spanned = λ k deep first last e d. absurd (omega arith);
       }
 
-  -- what took the place of the first sinks
-  pub popped : (xs ys : List X) → IsHeapBy goes_before xs → length ys + 1 ≡ length xs
-      → ((k : ℕ) (d : X) → k ≢ 0 → k + 1 < length xs → get_or ys k d ≡ get_or xs k d) → IsSinking goes_before ys 0
-  popped xs ys h size same = record {
-    others = λ k first last apart over d.
-        by _ _ _ _ (same (place_above k) d over (omega arith)) (same k d apart (omega arith)) (h k first (omega arith) d);
-    spanned = λ k deep first last e d. absurd (omega arith);
-  }
+  -- a heap without its last item
+  pub shorter : (xs ys : List X) (j : ℕ) → IsHeapBy goes_before xs → length ys + 1 ≡ length xs → j + 1 ≡ length xs
+      → ((k : ℕ) (d : X) → k ≢ j → k + 1 < length xs → get_or ys k d ≡ get_or xs k d) → IsHeapBy goes_before ys
+  shorter xs ys j h size last same k first within d =
+      by _ _ _ _ (same (place_above k) d (omega arith) (omega arith)) (same k d (omega arith) (omega arith)) (h k first (omega arith) d)
 
-all_from : {X : Type 0} (P : X → Type 0) (xs : List X) → ((k : ℕ) (d : X) → k < length xs → P (get_or xs k d)) → AllByRecursion P xs
+pub all_from : {X : Type 0} (P : X → Type 0) (xs : List X) → ((k : ℕ) (d : X) → k < length xs → P (get_or xs k d)) → AllByRecursion P xs
 all_from P [] h = tt
 all_from P (x ∷ xs) h = (h 0 x (omega arith), all_from P xs (λ k d l. h (suc k) d (omega arith)))
 

@@ -6,3 +6,5 @@ pub mod Node
 pub mod ArrayHeap
 pub mod Sifting
 pub mod AnyStore
+pub mod Tickets
+pub mod Places

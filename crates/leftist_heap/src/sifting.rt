@@ -14,7 +14,7 @@ use core::slots::{Slots, with_slots};
 // How many places are below each. Those from `8 i - 6` to `8 i + 1` are below place i, and below the first is the second alone. Each step
 // down waits for the memory that decides the next, and with eight below there are a third of the steps that there are with two. Eight
 // items of 24 bytes fill three lines of the cache, where the array begins 16 bytes into a line, as a large array of the C library does.
-const BELOW: usize = 8;
+pub(crate) const BELOW: usize = 8;
 
 // An item of a row, and how many places it lies from the beginning of a run.
 #[derive(Clone, Copy)]
@@ -39,7 +39,7 @@ fn spot_at<T>(row: &Slots<T>, from: usize, step: usize) -> Spot<'_, T>
 
 // Whether the first item is lower than the second.
 #[inline(always)]
-fn is_lower<T: Exact>(first: &T, second: &T) -> bool
+pub(crate) fn is_lower<T: Exact>(first: &T, second: &T) -> bool
     ensures { Compares (not_above_by T.cmp) first.now second.now result }
 {
     first.cmp(second).is_lt()
@@ -62,7 +62,7 @@ fn lower_of<'a, T: Exact>(first: Spot<'a, T>, second: Spot<'a, T>) -> Spot<'a, T
 // selects without a branch, but in its caller's loop the compiler would make a branch of each `lower_of`. A processor guesses half of
 // such branches wrong, and a pop takes twice as long.
 #[inline(never)]
-fn lowest_of_eight<T: Exact>(row: &Slots<T>, from: usize) -> usize
+pub(crate) fn lowest_of_eight<T: Exact>(row: &Slots<T>, from: usize) -> usize
     requires within { from + 8 ≤ slots_len row.now }
     requires filled { Filled (slots_filled row.now) from (from + 8) }
     ensures { IsLowest (not_above_by T.cmp) (slots_items row.now) from (from + 8) result }
@@ -77,7 +77,7 @@ fn lowest_of_eight<T: Exact>(row: &Slots<T>, from: usize) -> usize
 }
 
 // The place of the lowest of all items from here on.
-fn lowest_from<T: Exact>(row: &Slots<T>, from: usize) -> usize
+pub(crate) fn lowest_from<T: Exact>(row: &Slots<T>, from: usize) -> usize
     requires within { from < slots_len row.now }
     requires filled { Filled (slots_filled row.now) from (slots_len row.now) }
     ensures { IsLowest (not_above_by T.cmp) (slots_items row.now) from (slots_len row.now) result }
@@ -92,7 +92,7 @@ fn lowest_from<T: Exact>(row: &Slots<T>, from: usize) -> usize
 // Moves the item of another place into the hole, which is at that place from then on. Contracts see in the hole the item that was taken
 // out of it.
 #[inline(always)]
-fn move_hole<T>(row: &mut Slots<T>, hole: usize, item: &T, other: usize)
+pub(crate) fn move_hole<T>(row: &mut Slots<T>, hole: usize, item: &T, other: usize)
     requires { HasHole row.old hole × (other < slots_len row.old) × (other ≢ hole) }
     ensures hole { HasHole row.new other × SamePlaces row.old row.new }
     ensures items { seen row.new other item.now ≡ swap (seen row.old hole item.now) hole other }

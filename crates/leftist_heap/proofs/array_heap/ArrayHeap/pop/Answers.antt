@@ -7,19 +7,20 @@ use Rattle.leftist_heap.specs.Sifting.{IsHeapBy, IsSinking}
 use Rattle.leftist_heap.specs.ArrayHeap.{Holding}
 use Rattle.leftist_heap.proofs.Orders.{exact_order}
 use Rattle.leftist_heap.proofs.Arrays.{content-popped}
-use Rattle.leftist_heap.proofs.Sifts.{popped, low_popped}
+use Rattle.leftist_heap.proofs.Sifts.{replaced, low_popped}
 use Rattle.leftist_heap.proofs.array_heap.ArrayHeap.pop.Goals as goal
 
 pub sink-requires-clause-sinking : goal.sink-requires-clause-sinking
 sink-requires-clause-sinking g c =
     let before = not_above_by g.T.Ord.cmp in
+    let o = exact_order g.T.Ord.cmp g.met.T.Ord.total g.met.T.Exact.equal_is_same in
     let xs = c.self.inside.heap.items in
     let took = c.swap_remove-item.ensures in
     let size = c.self.inside.heap.ok.0 in
     let left = c.swap_remove-item.new.self.ok.0 in
     let len = took.len in
     subst (λ l. IsSinking before l 0) (sym c.deref_mut.ensures.value)
-    (popped before xs c.swap_remove-item.new.self.items c.self.invariant (omega arith) (λ k d n l. took.by_index.1 k d n (omega arith)))
+    (replaced before o xs c.swap_remove-item.new.self.items 0 c.self.invariant (omega arith) (λ k d n l. took.by_index.1 k d n (omega arith)))
 
 pub invariant_of-self : goal.invariant_of-self
 invariant_of-self g c =

@@ -1,0 +1,50 @@
+use Rattle.std.proofs.Common.{sym, subst, ◌∙◌, ap, length, arith}
+use Rattle.std.proofs.lemmas.List.Sorted.{length_permutation}
+use Rattle.leftist_heap.specs.Order.{with_item_by, not_above_by}
+use Rattle.leftist_heap.specs.ArrayHeap.{Holding}
+use Rattle.leftist_heap.specs.Places.{HasNone, IsPlaced}
+use Rattle.leftist_heap.proofs.Orders.{exact_order}
+use Rattle.leftist_heap.proofs.Arrays.{content-pushed, length-content}
+use Rattle.leftist_heap.proofs.Placings.{placed_still}
+use Rattle.leftist_heap.proofs.ticket_heap.TicketHeapStore.push.Goals as goal
+
+pub put_in-requires-clause-few : goal.put_in-requires-clause-few
+put_in-requires-clause-few g c =
+    let size = sym (length-content (not_above_by g.T.Ord.cmp) c.self.inside.heap.items) ∙ ap (λ (s : Holding _). length s.items) c.self.view_is in
+    let few = c.requires in
+    omega arith
+
+pub returns-clause-ok : goal.returns-clause-ok
+returns-clause-ok g c =
+    let before = not_above_by g.T.Ord.cmp in
+    let o = exact_order g.T.Ord.cmp g.met.T.Ord.total g.met.T.Exact.equal_is_same in
+    let xs = c.self.inside.heap.items in
+    let x = c.args.item in
+    content-pushed before o x xs c.put_in.new.heap.items c.in_default.ensures.permutation ∙ ap (λ (s : Holding _). with_item_by before x s.items) c.self.view_is
+
+pub returns-in-Err-clause-full : goal.returns-in-Err-clause-full
+returns-in-Err-clause-full g c =
+    let size = sym (length-content (not_above_by g.T.Ord.cmp) c.self.inside.heap.items) ∙ ap (λ (s : Holding _). length s.items) c.self.view_is in
+    let room = ap (λ (s : Holding _). s.room) c.self.view_is in
+    let refused = c.in-Err.ensures.full in
+    omega arith
+
+pub invariant_of-self-2 : goal.invariant_of-self-2
+invariant_of-self-2 g c =
+    let xs = c.self.inside.heap.items in
+    let put = c.in_default.ensures in
+    let counted = length_permutation _ _ put.permutation in
+    let size = sym (length-content (not_above_by g.T.Ord.cmp) xs) ∙ ap (λ (s : Holding _). length s.items) c.self.view_is in
+    let few = c.requires in
+    let opened = c.opens-is_kept.ensures in
+    let its = c.ticket.ensures in
+    record {
+      heap = put.heap;
+      few = omega arith;
+      placed = λ e.
+          put.placed (ap (g.P.Places.table c.opens-is_kept.new.places).keeps (sym its) ∙ opened.kept e)
+          (subst (HasNone g.T.HasTicket.ticket_of xs (length xs)) its
+          (subst (λ l. HasNone g.T.HasTicket.ticket_of l (length l) c.ticket.result) c.deref.ensures.value (opened.free e)))
+          (placed_still g.T.HasTicket.ticket_of xs _ _ opened.others
+          (subst (IsPlaced g.T.HasTicket.ticket_of (g.P.Places.table c.self.inside.places)) c.deref.ensures.value (opened.placed e)));
+    }

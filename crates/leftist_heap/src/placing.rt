@@ -1,0 +1,187 @@
+// How an item rises and sinks in an array heap that keeps the places of all tickets.
+ghost use Rattle.std.specs.Prelude.{◌≡◌, ◌^◌, ◌<◌, ◌≤◌, ◌≢◌, length};
+ghost use Rattle.std.specs.List.{swap};
+ghost use Rattle.std.specs.List.Sorted.{IsPermutation};
+ghost use Rattle.core.specs.Mem.Slots.{slots_items, slots_len, SamePlaces, IsFull, Refills};
+ghost use Rattle.std_alloc.specs.Vec.Detached.{HasHole, seen};
+ghost use Rattle.leftist_heap.specs.Order.{not_above_by};
+ghost use Rattle.leftist_heap.specs.Sifting.{IsHeapBy, IsRising, IsSinking};
+ghost use Rattle.leftist_heap.specs.Places.{IsPlaced, IsPlacedBut};
+
+use crate::places::Places;
+use crate::sifting::{BELOW, is_lower, lowest_from, lowest_of_eight, move_hole};
+use crate::ticket_store::HasTicket;
+use core::slots::{Slots, with_slots};
+
+// Moves the item of another place into the hole, and marks the place for its ticket.
+#[inline(always)]
+fn move_marked<T: HasTicket, P: Places>(
+    row: &mut Slots<T>,
+    places: &mut P,
+    hole: usize,
+    item: &T,
+    other: usize,
+)
+    requires hole { HasHole row.old hole × (other < slots_len row.old) × (other ≢ hole) }
+    requires small { slots_len row.old < 2 ^ 32 }
+    ensures hole { HasHole row.new other × SamePlaces row.old row.new }
+    ensures items { seen row.new other item.now ≡ swap (seen row.old hole item.now) hole other }
+    ensures placed { IsPlacedBut T.ticket_of (P.table places.old) (seen row.old hole item.now) hole
+        → IsPlacedBut T.ticket_of (P.table places.new) (seen row.new other item.now) other }
+{
+    places.mark(row.get(other).ticket(), hole);
+    move_hole(row, hole, item, other);
+}
+
+// Moves the hole up until its item may stand after the one above it, and returns its place.
+fn rise_from<T: HasTicket, P: Places>(
+    row: &mut Slots<T>,
+    places: &mut P,
+    mut hole: usize,
+    item: &T,
+) -> usize
+    requires hole { HasHole row.old hole }
+    requires small { slots_len row.old < 2 ^ 32 }
+    requires rising { IsRising (not_above_by T.cmp) (seen row.old hole item.now) hole }
+    ensures hole { HasHole row.new result × SamePlaces row.old row.new }
+    ensures permutation { IsPermutation (seen row.old hole item.now) (seen row.new result item.now) }
+    ensures heap { IsHeapBy (not_above_by T.cmp) (seen row.new result item.now) }
+    ensures placed { IsPlacedBut T.ticket_of (P.table places.old) (seen row.old hole item.now) hole
+        → IsPlacedBut T.ticket_of (P.table places.new) (seen row.new result item.now) result }
+{
+    while 0 < hole {
+        let above = (hole + 6) / BELOW;
+        if !is_lower(item, row.get(above)) {
+            return hole;
+        }
+        move_marked(row, places, hole, item, above);
+        hole = above;
+    }
+    hole
+}
+
+// Moves the hole from any place but the first down to one with none below it, by way of the lowest item below it each time, and returns
+// its place.
+fn sink_from<T: HasTicket, P: Places>(
+    row: &mut Slots<T>,
+    places: &mut P,
+    mut hole: usize,
+    item: &T,
+) -> usize
+    requires hole { HasHole row.old hole × (0 < hole) }
+    requires small { slots_len row.old < 2 ^ 32 }
+    requires sinking { IsSinking (not_above_by T.cmp) (seen row.old hole item.now) hole }
+    ensures hole { HasHole row.new result × SamePlaces row.old row.new }
+    ensures permutation { IsPermutation (seen row.old hole item.now) (seen row.new result item.now) }
+    ensures rising { IsRising (not_above_by T.cmp) (seen row.new result item.now) result }
+    ensures placed { IsPlacedBut T.ticket_of (P.table places.old) (seen row.old hole item.now) hole
+        → IsPlacedBut T.ticket_of (P.table places.new) (seen row.new result item.now) result }
+{
+    let len = row.len();
+    // The places up to this one have eight below them, and only the next one may have fewer.
+    let last_full = (len - 2) / BELOW;
+    while hole <= last_full {
+        let low = lowest_of_eight(row, BELOW * (hole - 1) + 2);
+        move_marked(row, places, hole, item, low);
+        hole = low;
+    }
+    let last_group = BELOW * last_full + 2;
+    if last_full + 1 < hole || last_group == len {
+        return hole;
+    }
+    let low = lowest_from(row, last_group);
+    move_marked(row, places, hole, item, low);
+    low
+}
+
+// The same from any place. Where the first place is the hole, only the second is below it.
+fn sink_to_end<T: HasTicket, P: Places>(
+    row: &mut Slots<T>,
+    places: &mut P,
+    hole: usize,
+    item: &T,
+) -> usize
+    requires hole { HasHole row.old hole }
+    requires small { slots_len row.old < 2 ^ 32 }
+    requires sinking { IsSinking (not_above_by T.cmp) (seen row.old hole item.now) hole }
+    ensures hole { HasHole row.new result × SamePlaces row.old row.new }
+    ensures permutation { IsPermutation (seen row.old hole item.now) (seen row.new result item.now) }
+    ensures rising { IsRising (not_above_by T.cmp) (seen row.new result item.now) result }
+    ensures placed { IsPlacedBut T.ticket_of (P.table places.old) (seen row.old hole item.now) hole
+        → IsPlacedBut T.ticket_of (P.table places.new) (seen row.new result item.now) result }
+{
+    if row.len() == 1 {
+        return hole;
+    }
+    if hole == 0 {
+        move_marked(row, places, 0, item, 1);
+        return sink_from(row, places, 1, item);
+    }
+    sink_from(row, places, hole, item)
+}
+
+// The row after its item at this place rose.
+fn risen<T: HasTicket, P: Places>(mut row: Slots<T>, mut places: P, at: usize) -> (Slots<T>, P, ())
+    requires full { IsFull row }
+    requires within { at < slots_len row }
+    requires small { slots_len row < 2 ^ 32 }
+    requires rising { IsRising (not_above_by T.cmp) (slots_items row) at }
+    ensures refills { Refills row result.0 }
+    ensures permutation { IsPermutation (slots_items row) (slots_items result.0) }
+    ensures heap { IsHeapBy (not_above_by T.cmp) (slots_items result.0) }
+    ensures placed { IsPlacedBut T.ticket_of (P.table places) (slots_items row) at → IsPlaced T.ticket_of (P.table result.1) (slots_items result.0) }
+{
+    let item = row.take(at);
+    let hole = rise_from(&mut row, &mut places, at, &item);
+    places.mark(item.ticket(), hole);
+    row.put(hole, item);
+    (row, places, ())
+}
+
+// The row after its item at this place sank or rose. It came from the end, so most of the time it sinks there: it does so without a look
+// at it, and then rises.
+fn settled<T: HasTicket, P: Places>(
+    mut row: Slots<T>,
+    mut places: P,
+    at: usize,
+) -> (Slots<T>, P, ())
+    requires full { IsFull row }
+    requires within { at < slots_len row }
+    requires small { slots_len row < 2 ^ 32 }
+    requires sinking { IsSinking (not_above_by T.cmp) (slots_items row) at }
+    ensures refills { Refills row result.0 }
+    ensures permutation { IsPermutation (slots_items row) (slots_items result.0) }
+    ensures heap { IsHeapBy (not_above_by T.cmp) (slots_items result.0) }
+    ensures placed { IsPlacedBut T.ticket_of (P.table places) (slots_items row) at → IsPlaced T.ticket_of (P.table result.1) (slots_items result.0) }
+{
+    let item = row.take(at);
+    let end = sink_to_end(&mut row, &mut places, at, &item);
+    let hole = rise_from(&mut row, &mut places, end, &item);
+    places.mark(item.ticket(), hole);
+    row.put(hole, item);
+    (row, places, ())
+}
+
+// Moves the item at this place up until it stands below one that may stand before it.
+pub fn rise<T: HasTicket, P: Places>(items: &mut [T], places: &mut P, at: usize)
+    requires within { at < length items.old }
+    requires small { length items.old < 2 ^ 32 }
+    requires rising { IsRising (not_above_by T.cmp) items.old at }
+    ensures permutation { IsPermutation items.old items.new }
+    ensures heap { IsHeapBy (not_above_by T.cmp) items.new }
+    ensures placed { IsPlacedBut T.ticket_of (P.table places.old) items.old at → IsPlaced T.ticket_of (P.table places.new) items.new }
+{
+    unsafe { with_slots(items, places, at, risen) }
+}
+
+// Moves the item at this place down or up until it stands between items where it may.
+pub fn settle<T: HasTicket, P: Places>(items: &mut [T], places: &mut P, at: usize)
+    requires within { at < length items.old }
+    requires small { length items.old < 2 ^ 32 }
+    requires sinking { IsSinking (not_above_by T.cmp) items.old at }
+    ensures permutation { IsPermutation items.old items.new }
+    ensures heap { IsHeapBy (not_above_by T.cmp) items.new }
+    ensures placed { IsPlacedBut T.ticket_of (P.table places.old) items.old at → IsPlaced T.ticket_of (P.table places.new) items.new }
+{
+    unsafe { with_slots(items, places, at, settled) }
+}

@@ -11,7 +11,8 @@ use prog.Atomic.{either}
 use Rattle.atomic_table.specs.Table.{State, Act, Valid, keeps, takes, gives, step, stepped, put_back, carried_after, rest}
 use Rattle.atomic_table.proofs.Lists.{exchanged, set_here, set_again}
 use Rattle.pq_types.specs.Item.{Item, IsItemOf}
-use Rattle.pq_types.specs.Asked.{Request}
+use Rattle.pq_types.specs.Asked.{Request, Operation}
+use Rattle.pq_types.specs.Entry.{IsProperOperationOf}
 use Rattle.pq_types.specs.Asked.{Answer}
 use Rattle.pq_types.specs.declared.answer.Answer.TheVariants.{NoMemory}
 use Rattle.pq_types.specs.declared.answer.Answer.TheVariants as answer
@@ -24,18 +25,18 @@ use Rattle.pq_types.specs.declared.control.Kind.TheVariants as kind
 use Rattle.pq_types.specs.Asked.{Line}
 use Rattle.pq_types.specs.declared.journal.TheConstants.{GREATEST_NUMBER}
 use Rattle.pq_types.specs.Queue.{IsProperRequestOf}
-use Rattle.pq_types.specs.History.{journal_after, MayAnswer}
+use Rattle.pq_types.specs.History.{journal_after, journal_by, MayAnswer, MayDo}
 use Rattle.pq_types.specs.Laws.{ControlWordsDiffer}
 use Rattle.pq_book.specs.Book.{Volume}
 use Rattle.desk_core.specs.Beyond.{NextIsUnknown}
 use Rattle.desk_core.specs.Dealing.{IsReached, Takes, MovesReach}
 use Rattle.desk_core.specs.Desk.{Desk, Has, time, volume, put, locked, freed, with_control, with_cell, with_pen}
-use Rattle.desk_core.specs.Steps.{Event, actor, Drafts, Posts, Tries, Reads, ReadsItem, LaysItem, Answers, Applies, Releases, ReleasesWith, Looks, SeesItem, TakesItem, Step}
-use Rattle.desk_core.specs.Keeping.{DraftKeeps, PostKeeps, LeadKeeps, MissKeeps, ReadKeeps, ReadItemKeeps, LayItemKeeps, AnswerKeeps, ApplyKeeps, ReleaseKeeps, ReleaseWithKeeps, LookKeeps, SeeItemKeeps, TakeItemKeeps, DueIsNew, PensAreSeated}
+use Rattle.desk_core.specs.Steps.{Event, actor, Drafts, Posts, Tries, Reads, ReadsItem, LaysItem, Answers, Applies, Releases, ReleasesBy, Looks, SeesItem, TakesItem, Step}
+use Rattle.desk_core.specs.Keeping.{DraftKeeps, PostKeeps, LeadKeeps, MissKeeps, ReadKeeps, ReadItemKeeps, LayItemKeeps, AnswerKeeps, ApplyKeeps, ReleaseKeeps, ReleaseByKeeps, LookKeeps, SeeItemKeeps, TakeItemKeeps, DueIsNew, PensAreSeated}
 use Rattle.desk_core.specs.Knows.{Knows, LeadersKnow, HomeIsKnown}
 use Rattle.desk_core.specs.Clauses.{RuleGivesClauses}
 use Rattle.desk_core.specs.Layout.{lock_at, control_at, item_at, LockStored, ControlStored, ItemStored, Loaded, WordsAreReadBack}
-use Rattle.desk_core.specs.Pen.{IsIdle, IsKept, after_draft, after_post, after_lead, after_miss, after_read, after_read_item, after_lay, after_answer, after_apply, after_release, after_release_with, after_look, after_see, after_take}
+use Rattle.desk_core.specs.Pen.{IsIdle, IsKept, after_draft, after_post, after_lead, after_miss, after_read, after_read_item, after_lay, after_answer, after_apply, after_release, after_release_by, after_look, after_see, after_take}
 use Rattle.desk_core.specs.Rule.{MeetsRule}
 use Rattle.desk_core.specs.declared.model.Standing.TheVariants.{Idle, Waiting}
 use Rattle.desk_core.specs.declared.model.Due.{Due}
@@ -44,7 +45,7 @@ use Rattle.desk_core.specs.declared.model.View.{View}
 use Rattle.desk_core.specs.declared.model.View.TheVariants.{Holder}
 use Rattle.announce_board.specs.Allowed.{AsMove, Plainly, desk_in}
 use Rattle.announce_board.specs.Rule.{Keeps, Seated, desk_of, book_in, book_at_home}
-use Rattle.announce_board.specs.Steps.{pen_at, StandsAt, WordDrafted, Drafted, PostStored, LockRead, LockTried, ControlRead, MailRead, CellRead, ItemRead, WordLaid, ItemLaid, AnswerStored, Released, BringsHome, Applied, ReleasedWith, Looked, AnswerLooked, WordSeen, ItemSeen, Taken, ItemTaken}
+use Rattle.announce_board.specs.Steps.{pen_at, StandsAt, WordDrafted, Drafted, PostStored, LockRead, LockTried, ControlRead, MailRead, CellRead, ItemRead, WordLaid, ItemLaid, AnswerStored, Released, BringsHome, BringsHomeBy, Applied, ReleasedWith, Looked, AnswerLooked, WordSeen, ItemSeen, Taken, ItemTaken}
 use Rattle.announce_board.proofs.Same.{same_request, same_answer, kind_posted, same_draft, same_waiting, same_due, same_notice, not_true, refused_alone, none_refused, same_applied, same_ended, same_book}
 
 -- the laws of the machine that the steps rest on
@@ -59,7 +60,7 @@ pub record Laws : Type 0 where
   pub answer : AnswerKeeps
   pub apply : ApplyKeeps
   pub release : ReleaseKeeps
-  pub release_with : ReleaseWithKeeps
+  pub release_by : ReleaseByKeeps
   pub look : LookKeeps
   pub see_item : SeeItemKeeps
   pub take_item : TakeItemKeeps
@@ -459,15 +460,15 @@ module _ (laws : Laws) (wide : Bool) (roomy : ℕ → Type 0) (room places slots
         refl,
       )
 
-  pub release_with_allowed : (others : List (ℕ × Option Volume)) (request : Request) (answer : Answer) → BringsHome m request answer others
-      → p.leading ≡ true → p.due ≡ None → IsIdle p.standing → p.posts < GREATEST_NUMBER → IsProperRequestOf true request → MayAnswer p.room p.hand request answer
+  pub release_with_allowed : (others : List (ℕ × Option Volume)) (operation : Operation) (answer : Answer) → BringsHomeBy m operation answer others
+      → p.leading ≡ true → p.due ≡ None → IsIdle p.standing → p.posts < GREATEST_NUMBER → IsProperOperationOf true operation → MayDo p.room p.hand operation answer
       → AsMove wide roomy room places slots id m lock_at (λ _. 0) (λ _. ReleasedWith (step slots lock_at 0 0 none) m 0)
-  release_with_allowed others request answer held leads none_due idle few proper may s k long at small =
-      let js = journal_after p.hand p.place (p.posts + 1) request answer in
+  release_with_allowed others operation answer held leads none_due idle few proper may s k long at small =
+      let js = journal_by p.hand p.place (p.posts + 1) operation answer in
       let book = volume p.room js in
-      let w = after_release_with p request answer (time (d s k at)) in
+      let w = after_release_by p operation answer (time (d s k at)) in
       let room_is = (laws.seated (d s k at) id p k.meets (has s k at)).room in
-      let may' : MayAnswer room p.hand request answer = subst (λ r. MayAnswer r p.hand request answer) room_is may in
+      let may' : MayDo room p.hand operation answer = subst (λ r. MayDo r p.hand operation answer) room_is may in
       let homes_are : put_back s.homes m.1 ≡ set s.homes 0 (some (Some book)) = ap (put_back s.homes) held in
       let back : book_at_home (put_back s.homes m.1) ≡ Some (volume room js) =
       ap book_at_home homes_are ∙ (ap book_in (set_here s.homes 0 (some (Some book)) (let e = k.slots in omega arith)) ∙ ap (λ r. Some (volume r js)) room_is) in (
@@ -481,19 +482,19 @@ module _ (laws : Laws) (wide : Bool) (roomy : ℕ → Type 0) (room places slots
           words = laws.lock_stored wide places s.words k.held false k.control k.cells k.words;
           slots = ap length homes_are ∙ (length-set s.homes 0 (some (Some book)) ∙ k.slots);
           reached = home_is s k at (IsReached places room) false (put_back s.homes m.1) (slice_set s.views id (Holder w)) (Some (volume room js)) back
-              (goes s k at (ReleasesWith id request answer) (with_pen (freed (d s k at) js) id w) (p, has s k at, leads, none_due, idle, few, proper, may', refl));
+              (goes s k at (ReleasesBy id operation answer) (with_pen (freed (d s k at) js) id w) (p, has s k at, leads, none_due, idle, few, proper, may', refl));
           meets = home_is s k at MeetsRule false (put_back s.homes m.1) (slice_set s.views id (Holder w)) (Some (volume room js)) back
-              (laws.release_with (d s k at) id p k.meets (has s k at) request answer (time (d s k at)) leads none_due idle few proper may');
+              (laws.release_by (d s k at) id p k.meets (has s k at) operation answer (time (d s k at)) leads none_due idle few proper may');
           memory = k.memory;
         },
         inl (
-          ReleasesWith id request answer,
+          ReleasesBy id operation answer,
           refl,
-          home_is s k at (λ y. Step (d s k at) (ReleasesWith id request answer) y) false (put_back s.homes m.1) (slice_set s.views id (Holder w)) (Some (volume room js)) back
+          home_is s k at (λ y. Step (d s k at) (ReleasesBy id operation answer) y) false (put_back s.homes m.1) (slice_set s.views id (Holder w)) (Some (volume room js)) back
               (p, has s k at, leads, none_due, idle, few, proper, may', refl),
         ),
         λ q a other home. (
-          (time (d s k at), ap (λ v. (Holder v, rest m.1)) (same_ended (time (d s k at)) p request q answer a may other (same_book p.room js (journal_after p.hand p.place (p.posts + 1) q a) others (rest m.1) m.1 held home))),
+          (time (d s k at), ap (λ v. (Holder v, rest m.1)) (same_ended (time (d s k at)) p operation q answer a may other (same_book p.room js (journal_by p.hand p.place (p.posts + 1) q a) others (rest m.1) m.1 held home))),
           subst (λ r. Knows r p p.hand) (sym room_is) (laws.leaders (d s k at) id p k.meets (has s k at) leads),
         ),
       )

@@ -3,16 +3,17 @@ use Rattle.std.proofs.Common.{◌≡◌, ℕ, ◌+◌, ◌<◌, Bool, true, List
 use Rattle.std.specs.Prelude.{Option}
 use mathlib.Core.Option.{none}
 use Rattle.atomic_table.specs.Table.{Allows, step, rest}
-use Rattle.pq_types.specs.Asked.{Request}
+use Rattle.pq_types.specs.Asked.{Request, Operation}
+use Rattle.pq_types.specs.Entry.{IsProperOperationOf}
 use Rattle.pq_types.specs.Asked.{Answer}
 use Rattle.pq_types.specs.declared.journal.TheConstants.{GREATEST_NUMBER}
 use Rattle.pq_types.specs.Queue.{IsProperRequestOf}
-use Rattle.pq_types.specs.History.{journal_after, MayAnswer}
+use Rattle.pq_types.specs.History.{journal_after, journal_by, MayAnswer, MayDo}
 use Rattle.pq_book.specs.Book.{Volume}
 use Rattle.desk_core.specs.Desk.{volume}
 use Rattle.desk_core.specs.Knows.{Knows}
 use Rattle.desk_core.specs.Layout.{lock_at}
-use Rattle.desk_core.specs.Pen.{IsIdle, after_apply, after_release_with}
+use Rattle.desk_core.specs.Pen.{IsIdle, after_apply, after_release_by}
 use Rattle.desk_core.specs.declared.model.View.TheVariants.{Holder}
 use Rattle.announce_board.specs.Rule.{Keeps, Seated}
 use Rattle.announce_board.specs.Steps.{pen_at, Applied, Released, ReleasedWith}
@@ -25,21 +26,21 @@ release_owes wide roomy allowed room places slots id m n b is leads book e =
     let now : Seated = (m.0, (0, Some b) ∷ rest m.1) in
     subst F (sym e) (allowed room places slots id now is (rest m.1) (ap (λ y. (0, Some y) ∷ rest m.1) book) leads)
 
--- the Book after it has carried out a request of the pen's own
-pub carried_out : (m : Seated) (place serial : ℕ) (b b' : Volume) (q : Request) (x : Answer) → b ≡ volume (pen_at m).room (pen_at m).hand → place ≡ (pen_at m).place
-    → serial ≡ (pen_at m).posts + 1 → b'.room ≡ b.room → b'.journal ≡ journal_after b.journal place serial q x
-    → b' ≡ volume (pen_at m).room (journal_after (pen_at m).hand (pen_at m).place ((pen_at m).posts + 1) q x)
+-- the Book after it has carried out an operation of the pen's own
+pub carried_out : (m : Seated) (place serial : ℕ) (b b' : Volume) (q : Operation) (x : Answer) → b ≡ volume (pen_at m).room (pen_at m).hand → place ≡ (pen_at m).place
+    → serial ≡ (pen_at m).posts + 1 → b'.room ≡ b.room → b'.journal ≡ journal_by b.journal place serial q x
+    → b' ≡ volume (pen_at m).room (journal_by (pen_at m).hand (pen_at m).place ((pen_at m).posts + 1) q x)
 carried_out m place serial b b' q x book here next room journal =
     let p = pen_at m in
     let r : b'.room ≡ p.room = room ∙ ap (λ (v : Volume). v.room) book in
-    let j : b'.journal ≡ journal_after p.hand p.place (p.posts + 1) q x =
-    journal ∙ (ap (λ (v : Volume). journal_after v.journal place serial q x) book ∙ (ap (λ k. journal_after p.hand k serial q x) here ∙ ap (λ s. journal_after p.hand p.place s q x) next)) in
+    let j : b'.journal ≡ journal_by p.hand p.place (p.posts + 1) q x =
+    journal ∙ (ap (λ (v : Volume). journal_by v.journal place serial q x) book ∙ (ap (λ k. journal_by p.hand k serial q x) here ∙ ap (λ s. journal_by p.hand p.place s q x) next)) in
     ap (λ n. volume n b'.journal) r ∙ ap (volume p.room) j
 
-pub release_with_owes : (wide : Bool) (roomy : ℕ → Type 0) → ReleaseWithAllowed wide roomy → (room places slots id : ℕ) (m n : Seated) (b : Volume) (q : Request) (x : Answer) → m.0 ≡ Holder (pen_at m)
-    → (pen_at m).leading ≡ true → (pen_at m).due ≡ None → IsIdle (pen_at m).standing → (pen_at m).posts < GREATEST_NUMBER → IsProperRequestOf true q
-    → MayAnswer (pen_at m).room (pen_at m).hand q x
-    → b ≡ volume (pen_at m).room (journal_after (pen_at m).hand (pen_at m).place ((pen_at m).posts + 1) q x)
+pub release_with_owes : (wide : Bool) (roomy : ℕ → Type 0) → ReleaseWithAllowed wide roomy → (room places slots id : ℕ) (m n : Seated) (b : Volume) (q : Operation) (x : Answer) → m.0 ≡ Holder (pen_at m)
+    → (pen_at m).leading ≡ true → (pen_at m).due ≡ None → IsIdle (pen_at m).standing → (pen_at m).posts < GREATEST_NUMBER → IsProperOperationOf true q
+    → MayDo (pen_at m).room (pen_at m).hand q x
+    → b ≡ volume (pen_at m).room (journal_by (pen_at m).hand (pen_at m).place ((pen_at m).posts + 1) q x)
     → ◌≡◌ {A = Seated} n (m.0, (0, Some b) ∷ rest m.1) → Allows (Keeps wide roomy room places) slots id n lock_at (λ _. 0) (λ _. ReleasedWith (step slots lock_at 0 0 none) n 0)
 release_with_owes wide roomy allowed room places slots id m n b q x is leads due idle few proper may book e =
     let F : Seated → Type 0 = λ y. Allows (Keeps wide roomy room places) slots id y lock_at (λ _. 0) (λ _. ReleasedWith (step slots lock_at 0 0 none) y 0) in
@@ -47,16 +48,16 @@ release_with_owes wide roomy allowed room places slots id m n b q x is leads due
     subst F (sym e) (allowed room places slots id now is (rest m.1) q x (ap (λ y. (0, Some y) ∷ rest m.1) book) leads due idle few proper may)
 
 -- and what it is afterwards
-pub released_with : (m n after : Seated) (b : Volume) (q : Request) (x : Answer) → m.1 ≡ (0, None) ∷ []
-    → MayAnswer (pen_at m).room (pen_at m).hand q x
-    → b ≡ volume (pen_at m).room (journal_after (pen_at m).hand (pen_at m).place ((pen_at m).posts + 1) q x)
+pub released_with : (m n after : Seated) (b : Volume) (q : Operation) (x : Answer) → m.1 ≡ (0, None) ∷ []
+    → MayDo (pen_at m).room (pen_at m).hand q x
+    → b ≡ volume (pen_at m).room (journal_by (pen_at m).hand (pen_at m).place ((pen_at m).posts + 1) q x)
     → ◌≡◌ {A = Seated} n (m.0, (0, Some b) ∷ rest m.1) → ReleasedWith (step 0 lock_at 0 0 none) n 0 after
-    → ((now : ℕ) × ◌≡◌ {A = Seated} after (Holder (after_release_with (pen_at m) q x now), [])) × Knows (pen_at m).room (pen_at m) (pen_at m).hand
+    → ((now : ℕ) × ◌≡◌ {A = Seated} after (Holder (after_release_by (pen_at m) q x now), [])) × Knows (pen_at m).room (pen_at m) (pen_at m).hand
 released_with m n after b q x slot may book e told =
     let now : Seated = (m.0, (0, Some b) ∷ rest m.1) in
     let t : ReleasedWith (step 0 lock_at 0 0 none) now 0 after = subst (λ y. ReleasedWith (step 0 lock_at 0 0 none) y 0 after) e told in
     let s = t q x may (ap (λ y. (0, Some y) ∷ rest m.1) book) in
-    ((s.0.0, s.0.1 ∙ ap (λ l. (Holder (after_release_with (pen_at m) q x s.0.0), rest l)) slot), s.1)
+    ((s.0.0, s.0.1 ∙ ap (λ l. (Holder (after_release_by (pen_at m) q x s.0.0), rest l)) slot), s.1)
 
 -- the same of the step by which it applies a request of its own, with the Book in the slot
 pub apply_owes : (wide : Bool) (roomy : ℕ → Type 0) → ApplyAllowed wide roomy → (room places slots id : ℕ) (m n : Seated) (b : Volume) (q : Request) (x : Answer) → m.0 ≡ Holder (pen_at m)

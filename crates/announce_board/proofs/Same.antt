@@ -2,7 +2,8 @@
 use Rattle.std.proofs.Common.{◌≡◌, ◌≢◌, ℕ, ◌+◌, Bool, true, false, List, [], ◌∷◌, ◌++◌, length, refl, length-append, ap, sym, ◌∙◌, arith}
 use Rattle.std.specs.Prelude.{Option, Some, None, ◌==◌, if◌then◌else◌}
 use Rattle.pq_types.specs.Item.{Item}
-use Rattle.pq_types.specs.Asked.{Request}
+use Rattle.pq_types.specs.Asked.{Request, Operation}
+use Rattle.pq_types.specs.Operation.{Asked}
 use Rattle.pq_types.specs.declared.request.Request.TheVariants as request
 use Rattle.pq_types.specs.Asked.{Answer}
 use Rattle.pq_types.specs.declared.answer.Answer.TheVariants as answer
@@ -13,12 +14,12 @@ use Rattle.pq_types.specs.declared.control.Control.{Control}
 use Rattle.pq_types.specs.declared.control.Control.TheVariants.{Answered}
 use Rattle.pq_types.specs.Control.{kind_of, request_item, answer_item, reply_item, outcome_of, posted, answered}
 use Rattle.pq_types.specs.Asked.{Line}
-use Rattle.pq_types.specs.History.{line, journal_after, MayAnswer}
+use Rattle.pq_types.specs.History.{line_of, journal_after, journal_by, MayAnswer, MayDo}
 use Rattle.pq_book.specs.Book.{Volume}
-use Rattle.desk_core.specs.Calls.{call, gained}
+use Rattle.desk_core.specs.Calls.{call_of, gained, gained_by}
 use Rattle.desk_core.specs.declared.model.Call.{Call}
 use Rattle.desk_core.specs.Desk.{volume, put}
-use Rattle.desk_core.specs.Pen.{IsKept, told_full_by, after_apply, after_release_with}
+use Rattle.desk_core.specs.Pen.{IsKept, told_full_by, after_apply, after_release_by}
 use Rattle.desk_core.specs.declared.model.Standing.{Standing}
 use Rattle.desk_core.specs.declared.model.Standing.TheVariants.{Idle, Waiting}
 use Rattle.desk_core.specs.declared.model.Due.{Due}
@@ -114,31 +115,31 @@ no_longer : (ls : List Line) (a : Line) → ls ++ a ∷ [] ≡ ls → ⊥
 no_longer ls a e = let f : length (ls ++ a ∷ []) ≡ length ls = ap length e in omega (arith, f, length-append ls (a ∷ []))
 
 -- the call that an own request gains stands in the journal that it leaves
-same_gained : (room : ℕ) (hand : List Line) (place serial : ℕ) (q r : Request) (a b : Answer) → MayAnswer room hand q a → MayAnswer room hand r b
-    → journal_after hand place serial q a ≡ journal_after hand place serial r b → gained serial q a ≡ gained serial r b
+same_gained : (room : ℕ) (hand : List Line) (place serial : ℕ) (q r : Operation) (a b : Answer) → MayDo room hand q a → MayDo room hand r b
+    → journal_by hand place serial q a ≡ journal_by hand place serial r b → gained_by serial q a ≡ gained_by serial r b
 same_gained room hand place serial q r (answer.Entered l x) (answer.Entered n y) may may' e =
-    let f : line place serial q x ≡ line place serial r y = last_same hand (line place serial q x) (line place serial r y) e in
+    let f : line_of place serial q x ≡ line_of place serial r y = last_same hand (line_of place serial q x) (line_of place serial r y) e in
     let g : l ≡ n = may.1 ∙ sym may'.1 in
-    ap (λ k. call k serial q x ∷ []) g ∙ ap (λ (y : Line). call n y.serial y.request y.reply ∷ []) f
-same_gained room hand place serial q r (answer.Entered l x) answer.BookFull may may' e = absurd (no_longer hand (line place serial q x) e)
-same_gained room hand place serial q r (answer.Entered l x) answer.NoMemory may may' e = absurd (no_longer hand (line place serial q x) e)
-same_gained room hand place serial q r answer.BookFull (answer.Entered n y) may may' e = absurd (no_longer hand (line place serial r y) (sym e))
+    ap (λ k. call_of k serial q x ∷ []) g ∙ ap (λ (y : Line). call_of n y.serial y.operation y.reply ∷ []) f
+same_gained room hand place serial q r (answer.Entered l x) answer.BookFull may may' e = absurd (no_longer hand (line_of place serial q x) e)
+same_gained room hand place serial q r (answer.Entered l x) answer.NoMemory may may' e = absurd (no_longer hand (line_of place serial q x) e)
+same_gained room hand place serial q r answer.BookFull (answer.Entered n y) may may' e = absurd (no_longer hand (line_of place serial r y) (sym e))
 same_gained room hand place serial q r answer.BookFull answer.BookFull may may' e = refl
 same_gained room hand place serial q r answer.BookFull answer.NoMemory may may' e = refl
-same_gained room hand place serial q r answer.NoMemory (answer.Entered n y) may may' e = absurd (no_longer hand (line place serial r y) (sym e))
+same_gained room hand place serial q r answer.NoMemory (answer.Entered n y) may may' e = absurd (no_longer hand (line_of place serial r y) (sym e))
 same_gained room hand place serial q r answer.NoMemory answer.BookFull may may' e = refl
 same_gained room hand place serial q r answer.NoMemory answer.NoMemory may may' e = refl
 
 -- and whether it tells that the journal is full is seen there too
-same_full : (room : ℕ) (hand : List Line) (place serial : ℕ) (q r : Request) (a b : Answer) (before : Bool) → MayAnswer room hand q a → MayAnswer room hand r b
-    → journal_after hand place serial q a ≡ journal_after hand place serial r b → told_full_by before a ≡ told_full_by before b
+same_full : (room : ℕ) (hand : List Line) (place serial : ℕ) (q r : Operation) (a b : Answer) (before : Bool) → MayDo room hand q a → MayDo room hand r b
+    → journal_by hand place serial q a ≡ journal_by hand place serial r b → told_full_by before a ≡ told_full_by before b
 same_full room hand place serial q r (answer.Entered l x) (answer.Entered n y) before may may' e = refl
-same_full room hand place serial q r (answer.Entered l x) answer.BookFull before may may' e = absurd (no_longer hand (line place serial q x) e)
-same_full room hand place serial q r (answer.Entered l x) answer.NoMemory before may may' e = absurd (no_longer hand (line place serial q x) e)
-same_full room hand place serial q r answer.BookFull (answer.Entered n y) before may may' e = absurd (no_longer hand (line place serial r y) (sym e))
+same_full room hand place serial q r (answer.Entered l x) answer.BookFull before may may' e = absurd (no_longer hand (line_of place serial q x) e)
+same_full room hand place serial q r (answer.Entered l x) answer.NoMemory before may may' e = absurd (no_longer hand (line_of place serial q x) e)
+same_full room hand place serial q r answer.BookFull (answer.Entered n y) before may may' e = absurd (no_longer hand (line_of place serial r y) (sym e))
 same_full room hand place serial q r answer.BookFull answer.BookFull before may may' e = refl
 same_full room hand place serial q r answer.BookFull answer.NoMemory before may may' e = absurd (let lt = may'.0 in omega (arith, may, lt))
-same_full room hand place serial q r answer.NoMemory (answer.Entered n y) before may may' e = absurd (no_longer hand (line place serial r y) (sym e))
+same_full room hand place serial q r answer.NoMemory (answer.Entered n y) before may may' e = absurd (no_longer hand (line_of place serial r y) (sym e))
 same_full room hand place serial q r answer.NoMemory answer.BookFull before may may' e = absurd (let lt = may.0 in omega (arith, may', lt))
 same_full room hand place serial q r answer.NoMemory answer.NoMemory before may may' e = refl
 
@@ -147,12 +148,12 @@ ended p calls full journal now =
     record p { posts = p.posts + 1; standing = Idle None; mine = p.mine ++ calls; told_full = full; leading = false; known = journal; begins = p.begins ++ (p.posts + 1, now) ∷ []; ends = p.ends ++ (p.posts + 1, now + 1) ∷ []; steps = p.steps + 1 }
 
 -- and so does what the pen is afterwards
-pub same_ended : (now : ℕ) (p : PenState) (q r : Request) (a b : Answer) → MayAnswer p.room p.hand q a → MayAnswer p.room p.hand r b
-    → journal_after p.hand p.place (p.posts + 1) q a ≡ journal_after p.hand p.place (p.posts + 1) r b → after_release_with p q a now ≡ after_release_with p r b now
+pub same_ended : (now : ℕ) (p : PenState) (q r : Operation) (a b : Answer) → MayDo p.room p.hand q a → MayDo p.room p.hand r b
+    → journal_by p.hand p.place (p.posts + 1) q a ≡ journal_by p.hand p.place (p.posts + 1) r b → after_release_by p q a now ≡ after_release_by p r b now
 same_ended now p q r a b may may' e =
-    ap (λ c. ended p c (told_full_by p.told_full a) (journal_after p.hand p.place (p.posts + 1) q a) now) (same_gained p.room p.hand p.place (p.posts + 1) q r a b may may' e)
-    ∙ (ap (λ f. ended p (gained (p.posts + 1) r b) f (journal_after p.hand p.place (p.posts + 1) q a) now) (same_full p.room p.hand p.place (p.posts + 1) q r a b p.told_full may may' e)
-    ∙ ap (λ j. ended p (gained (p.posts + 1) r b) (told_full_by p.told_full b) j now) e)
+    ap (λ c. ended p c (told_full_by p.told_full a) (journal_by p.hand p.place (p.posts + 1) q a) now) (same_gained p.room p.hand p.place (p.posts + 1) q r a b may may' e)
+    ∙ (ap (λ f. ended p (gained_by (p.posts + 1) r b) f (journal_by p.hand p.place (p.posts + 1) q a) now) (same_full p.room p.hand p.place (p.posts + 1) q r a b p.told_full may may' e)
+    ∙ ap (λ j. ended p (gained_by (p.posts + 1) r b) (told_full_by p.told_full b) j now) e)
 
 abbrev applied : PenState → List Call → Bool → List Line → ℕ → PenState
 applied p calls full journal now =
@@ -162,8 +163,8 @@ applied p calls full journal now =
 pub same_applied : (now : ℕ) (p : PenState) (q r : Request) (a b : Answer) → MayAnswer p.room p.hand q a → MayAnswer p.room p.hand r b
     → journal_after p.hand p.place (p.posts + 1) q a ≡ journal_after p.hand p.place (p.posts + 1) r b → after_apply p q a now ≡ after_apply p r b now
 same_applied now p q r a b may may' e =
-    ap (λ c. applied p c (told_full_by p.told_full a) (journal_after p.hand p.place (p.posts + 1) q a) now) (same_gained p.room p.hand p.place (p.posts + 1) q r a b may may' e)
-    ∙ (ap (λ f. applied p (gained (p.posts + 1) r b) f (journal_after p.hand p.place (p.posts + 1) q a) now) (same_full p.room p.hand p.place (p.posts + 1) q r a b p.told_full may may' e)
+    ap (λ c. applied p c (told_full_by p.told_full a) (journal_after p.hand p.place (p.posts + 1) q a) now) (same_gained p.room p.hand p.place (p.posts + 1) (Asked q) (Asked r) a b may may' e)
+    ∙ (ap (λ f. applied p (gained (p.posts + 1) r b) f (journal_after p.hand p.place (p.posts + 1) q a) now) (same_full p.room p.hand p.place (p.posts + 1) (Asked q) (Asked r) a b p.told_full may may' e)
     ∙ ap (λ j. applied p (gained (p.posts + 1) r b) (told_full_by p.told_full b) j now) e)
 
 abbrev journal_in : Option Volume → List Line

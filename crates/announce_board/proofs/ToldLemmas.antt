@@ -1,6 +1,6 @@
 -- What the rule of desks tells a pen.
-use Rattle.std.proofs.Common.{◌≡◌, ◌≢◌, ℕ, zero, suc, ◌-◌, ◌<◌, inl, inr, ⊎_elim, Bool, true, false, List, [], ◌∷◌, ◌++◌, length, eqb-true, refl, ap, sym, ◌∙◌, subst, arith}
-use Rattle.std.specs.Prelude.{Some, None, slice_get, slice_set, max, if◌then◌else◌, ◌==◌}
+use Rattle.std.proofs.Common.{◌≡◌, ◌≢◌, ℕ, zero, suc, ◌+◌, ◌-◌, ◌<◌, inl, inr, ⊎_elim, Bool, true, false, List, [], ◌∷◌, ◌++◌, length, eqb-true, refl, ap, sym, ◌∙◌, subst, arith}
+use Rattle.std.specs.Prelude.{Option, Some, None, map, slice_get, slice_set, max, if◌then◌else◌, ◌==◌}
 use Rattle.std.specs.List.{AllByRecursion}
 use Rattle.std.proofs.lemmas.Option.{slice_get_within}
 use Rattle.atomic_table.proofs.Lists.{set_here}
@@ -15,9 +15,12 @@ use Rattle.pq_types.specs.declared.control.Notice.TheVariants as notice
 use Rattle.pq_types.specs.declared.control.Control.{Control}
 use Rattle.pq_types.specs.declared.control.Control.TheVariants.{Answered}
 use Rattle.pq_types.specs.Asked.{Line}
-use Rattle.pq_types.specs.Queue.{reply_to, content_after}
+use Rattle.pq_types.specs.Asked.{Operation}
+use Rattle.pq_types.specs.Operation.{Asked, ByTicket, Remove, request_of}
+use Rattle.pq_types.specs.Queue.{reply_to}
+use Rattle.pq_types.specs.Entry.{Entry, item_of, item_at, taken, entries_after, reply_by}
 use Rattle.pq_types.specs.Control.{answer_item, posted, answered, is_posted, Carries}
-use Rattle.pq_types.specs.History.{IsLegalFrom, left, last_serial, MayAnswer}
+use Rattle.pq_types.specs.History.{IsLegalFrom, entries_of, left, last_serial, MayDo}
 use Rattle.pq_types.specs.Mail.{IsProperAnswerOf}
 use Rattle.desk_core.specs.Beyond.{AnswersAreBeyond}
 use Rattle.desk_core.specs.Calls.{call, calls_of}
@@ -25,7 +28,7 @@ use Rattle.desk_core.specs.CallLines.{CallsAreLines, NumbersRise}
 use Rattle.desk_core.specs.Desk.{Desk, Has, with_pen}
 use Rattle.desk_core.specs.Clauses.{RuleGivesClauses, AnswerClause, ItemsClause, JournalClause}
 use Rattle.desk_core.specs.Keeping.{ReadKeeps, DueIsNew}
-use Rattle.desk_core.specs.Pen.{IsIdle, due_to, due_at, after_read, told_full_by, after_apply, after_release_with}
+use Rattle.desk_core.specs.Pen.{IsIdle, due_to, due_at, after_read, told_full_by, after_apply, after_release_by}
 use Rattle.desk_core.specs.Rule.{MeetsRule, Stands, fresh, idle, unanswered, entered, full, refused}
 use Rattle.desk_core.specs.declared.model.Call.{Call}
 use Rattle.desk_core.specs.declared.model.Standing.{Standing}
@@ -44,27 +47,38 @@ reply_fits (y ∷ xs) Pop = inr (y, refl)
 reply_fits [] Least = inl refl
 reply_fits (y ∷ xs) Least = inr (y, refl)
 
--- each line of a legal journal has a reply to its request
-legal_fits : (xs : List Item) (journal : List Line) (i : ℕ) (l : Line) → IsLegalFrom xs journal → slice_get journal i ≡ Some l → IsReplyTo l.request l.reply
-legal_fits xs [] i l h e = absurd (cc e)
-legal_fits xs (m ∷ ms) zero l h e =
+taken_fits : (o : Option Item) → IsReplyTo Pop (taken o)
+taken_fits None = inl refl
+taken_fits (Some x) = inr (x, refl)
+
+line_fits : (es : List Entry) (o : Operation) → IsReplyTo (request_of o) (reply_by es o)
+line_fits es (Asked q) = reply_fits (map item_of es) q
+line_fits es (ByTicket (Remove i)) = taken_fits (item_at i es)
+
+-- each line of a legal journal has a reply to its operation
+legal_fits : (es : List Entry) (n : ℕ) (journal : List Line) (i : ℕ) (l : Line) → IsLegalFrom es n journal → slice_get journal i ≡ Some l
+    → IsReplyTo (request_of l.operation) l.reply
+legal_fits es n [] i l h e = absurd (cc e)
+legal_fits es n (m ∷ ms) zero l h e =
     let f : Some m ≡ Some l = e in
     let g : m ≡ l = cc in
-    subst (λ (y : Line). IsReplyTo y.request y.reply) g (subst (IsReplyTo m.request) (sym h.0) (reply_fits xs m.request))
-legal_fits xs (m ∷ ms) (suc i) l h e = legal_fits (content_after xs m.request) ms i l h.1 e
+    subst (λ (y : Line). IsReplyTo (request_of y.operation) y.reply) g (subst (IsReplyTo (request_of m.operation)) (sym h.0) (line_fits es m.operation))
+legal_fits es n (m ∷ ms) (suc i) l h e = legal_fits (entries_after es n m.operation) (n + 1) ms i l h.1 e
 
 answer_fits : (room : ℕ) (journal : List Line) (p : PenState) (request : Request) (a : Answer) → JournalClause room journal → p.room ≡ room → AnswerClause room journal p request a → IsAnswerTo p.room request a
 answer_fits room journal p request (Entered number reply) lawful told h =
-    (h.0, omega (arith, h.0.0, slice_get_within journal (number - 1) _ h.1, lawful.within, told), legal_fits [] journal (number - 1) _ lawful.legal h.1)
+    (h.0, omega (arith, h.0.0, slice_get_within journal (number - 1) _ h.1, lawful.within, told), legal_fits [] 1 journal (number - 1) _ lawful.legal h.1)
 answer_fits room journal p request BookFull lawful told h = tt
 answer_fits room journal p request NoMemory lawful told h = h.0
 
--- what a request of the pen's own may be answered is an answer to it
-pub own_answer_fits : (wide : Bool) (room : ℕ) (hand : List Line) (request : Request) (a : Answer) → MayAnswer room hand request a → IsProperAnswerOf wide a → IsAnswerTo room request a
-own_answer_fits wide room hand request (Entered number reply) may proper =
-    (proper.0, omega (arith, may.0, may.1), subst (IsReplyTo request) (sym may.2) (reply_fits (left hand) request))
-own_answer_fits wide room hand request BookFull may proper = tt
-own_answer_fits wide room hand request NoMemory may proper = may.1
+-- what an operation of the pen's own may be answered is an answer to it
+pub own_answer_fits : (wide : Bool) (room : ℕ) (hand : List Line) (operation : Operation) (a : Answer) → MayDo room hand operation a → IsProperAnswerOf wide a
+    → IsAnswerTo room (request_of operation) a
+own_answer_fits wide room hand operation (Entered number reply) may proper =
+    (proper.0, omega (arith, may.0, may.1), subst (IsReplyTo (request_of operation)) (sym may.2) (line_fits (entries_of hand) operation))
+own_answer_fits wide room hand operation BookFull may proper = tt
+own_answer_fits wide room hand (Asked request) NoMemory may proper = may.1
+own_answer_fits wide room hand (ByTicket ticketed) NoMemory may proper = absurd may.1
 
 -- the item of an answer that stands in a waiting pen's record
 carries : (d : Desk) (journal : List Line) (p : PenState) (request : Request) (a : Answer) → ItemsClause d journal p
@@ -117,24 +131,24 @@ behind_all rise d seat p request meets has waits number o e =
     last_above rise p.place meets.0 p.mine (call number p.posts t.0 t.1) t.2
 
 -- who is told of a request of its own that the journal is full knows it
-pub own_full : (p : PenState) (request : Request) (a : Answer) (now : ℕ) → a ≡ BookFull → IsFullFor (after_release_with p request a now)
-own_full p request a now e = ap (told_full_by p.told_full) e
+pub own_full : (p : PenState) (operation : Operation) (a : Answer) (now : ℕ) → a ≡ BookFull → IsFullFor (after_release_by p operation a now)
+own_full p operation a now e = ap (told_full_by p.told_full) e
 
 pub applied_full : (p : PenState) (request : Request) (a : Answer) (now : ℕ) → a ≡ BookFull → IsFullFor (after_apply p request a now)
 applied_full p request a now e = ap (told_full_by p.told_full) e
 
 -- who was told so before is not entered
-pub own_barred : (p : PenState) (request : Request) (a : Answer) → Knows p.room p p.hand → MayAnswer p.room p.hand request a → IsFullFor p
+pub own_barred : (p : PenState) (operation : Operation) (a : Answer) → Knows p.room p p.hand → MayDo p.room p.hand operation a → IsFullFor p
     → (number : ℕ) (reply : Reply) → a ≢ Entered number reply
-own_barred p request a knows may f number reply e =
-    let m : MayAnswer p.room p.hand request (Entered number reply) = subst (MayAnswer p.room p.hand request) e may in
+own_barred p operation a knows may f number reply e =
+    let m : MayDo p.room p.hand operation (Entered number reply) = subst (MayDo p.room p.hand operation) e may in
     let lt = m.0 in
     omega (arith, lt, knows.filled f)
 
-pub own_behind : CallsAreLines → (p : PenState) (request : Request) (a : Answer) → Knows p.room p p.hand → IsIdle p.standing → MayAnswer p.room p.hand request a
+pub own_behind : CallsAreLines → (p : PenState) (operation : Operation) (a : Answer) → Knows p.room p p.hand → IsIdle p.standing → MayDo p.room p.hand operation a
     → (number : ℕ) (reply : Reply) → a ≡ Entered number reply → IsAboveAll number p.mine
-own_behind lines p request a knows free may number reply e =
-    let m : MayAnswer p.room p.hand request (Entered number reply) = subst (MayAnswer p.room p.hand request) e may in
+own_behind lines p operation a knows free may number reply e =
+    let m : MayDo p.room p.hand operation (Entered number reply) = subst (MayDo p.room p.hand operation) e may in
     all_by_get (λ (c : Call). c.number < number) p.mine
     (λ i c at. let h = (lines p.place p.hand p.mine (knows.idle free) i c at).within in omega (arith, h, m.1))
 

@@ -6,7 +6,8 @@ use lib.ListN.{get_elem?}
 use prog.Atomic.{either}
 use Rattle.atomic_table.specs.Table.{State, Act, Valid, stepped, carried_after, Allows, step}
 use Rattle.pq_types.specs.Item.{Item, IsItemOf}
-use Rattle.pq_types.specs.Asked.{Request}
+use Rattle.pq_types.specs.Asked.{Request, Operation}
+use Rattle.pq_types.specs.Entry.{IsProperOperationOf}
 use Rattle.pq_types.specs.Asked.{Answer}
 use Rattle.pq_types.specs.declared.answer.Answer.TheVariants.{NoMemory}
 use Rattle.pq_types.specs.declared.control.Kind.TheVariants as kind
@@ -15,7 +16,7 @@ use Rattle.pq_types.specs.declared.control.Control.TheVariants.{Answered}
 use Rattle.pq_types.specs.declared.journal.TheConstants.{GREATEST_NUMBER}
 use Rattle.pq_types.specs.Queue.{IsProperRequestOf}
 use Rattle.pq_types.specs.Control.{kind_of, request_item, answer_item, notice_has_item, posted, answered}
-use Rattle.pq_types.specs.History.{MayAnswer}
+use Rattle.pq_types.specs.History.{MayAnswer, MayDo}
 use Rattle.pq_types.specs.Mail.{control_word}
 use Rattle.pq_book.specs.Book.{Volume}
 use Rattle.desk_core.specs.Desk.{Desk, volume}
@@ -30,7 +31,7 @@ use Rattle.desk_core.specs.declared.model.View.TheVariants.{Holder}
 use Rattle.announce_board.specs.Rule.{Keeps, Seated, desk_of}
 use Rattle.announce_board.specs.Steps.{pen_at, Drafted, PostStored, LockRead, LockTried}
 use Rattle.announce_board.specs.Steps.{MailRead, ItemRead, ItemLaid, AnswerStored, Released}
-use Rattle.announce_board.specs.Steps.{BringsHome, Applied, ReleasedWith, AnswerLooked, ItemSeen, ItemTaken}
+use Rattle.announce_board.specs.Steps.{BringsHome, BringsHomeBy, Applied, ReleasedWith, AnswerLooked, ItemSeen, ItemTaken}
 
 -- how it is said that a step of the seat m is allowed, and tells this: a step on the word at an index, of which it makes f
 -- of what the word was
@@ -127,13 +128,13 @@ ReleaseAllowedBy A wide roomy = AtEachPen (λ room places slots id m. (others : 
     → ◌≡◌ {A = List _} m.1 ((0, Some (volume (pen_at m).room (pen_at m).hand)) ∷ others) → (pen_at m).leading ≡ true
     → A wide roomy room places slots id m lock_at (λ _. 0) (λ _. Released (step slots lock_at 0 0 none) m 0))
 
--- the slot that is given back has the Book with the line of the request of its own, if it is entered
+-- the slot that is given back has the Book with the line of the operation of its own, if it is entered
 abbrev pub ReleaseWithAllowedBy : Form → Bool → (ℕ → Type 0) → Type 0
 ReleaseWithAllowedBy A wide roomy = AtEachPen (λ room places slots id m.
-    (others : List (ℕ × Option _)) (request : Request) (answer : Answer)
-    → BringsHome m request answer others → (pen_at m).leading ≡ true → (pen_at m).due ≡ None → IsIdle (pen_at m).standing
+    (others : List (ℕ × Option _)) (operation : Operation) (answer : Answer)
+    → BringsHomeBy m operation answer others → (pen_at m).leading ≡ true → (pen_at m).due ≡ None → IsIdle (pen_at m).standing
     → (pen_at m).posts < GREATEST_NUMBER
-    → IsProperRequestOf true request → MayAnswer (pen_at m).room (pen_at m).hand request answer
+    → IsProperOperationOf true operation → MayDo (pen_at m).room (pen_at m).hand operation answer
     → A wide roomy room places slots id m lock_at (λ _. 0) (λ _. ReleasedWith (step slots lock_at 0 0 none) m 0))
 
 abbrev pub LookAllowedBy : Form → Bool → (ℕ → Type 0) → Type 0

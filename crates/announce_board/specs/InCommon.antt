@@ -6,10 +6,12 @@ use mathlib.Core.Logic.{ite}
 use native.Mathlib.Decide.{ℕ_discrete}
 use Rattle.pq_types.specs.Item.{Item, item}
 use Rattle.pq_types.specs.Asked.{Request}
+use Rattle.pq_types.specs.Asked.{Operation}
 use Rattle.pq_types.specs.Asked.{Reply}
 use Rattle.pq_types.specs.Asked.{Line}
 use Rattle.pq_types.specs.declared.request.Request.TheVariants.{Push, Pop, Least}
 use Rattle.pq_types.specs.declared.answer.Reply.TheVariants.{Pushed, Got, Empty, Least as LeastIs}
+use Rattle.pq_types.specs.Operation.{Asked, ByTicket, Remove}
 use Rattle.pq_types.specs.History.{line}
 
 -- the kind of a request, and its item, if it has one
@@ -22,6 +24,19 @@ abbrev pub item_asked : Request → Item
 item_asked (Push x) = x
 item_asked Pop = item 0 0
 item_asked Least = item 0 0
+
+-- the kind of an operation, its ticket and its item, if it has them
+abbrev pub operation_number : Operation → ℕ
+operation_number (Asked q) = request_number q
+operation_number (ByTicket (Remove ticket)) = 3
+
+abbrev pub ticket_asked : Operation → ℕ
+ticket_asked (Asked q) = 0
+ticket_asked (ByTicket (Remove ticket)) = ticket
+
+abbrev pub item_put : Operation → Item
+item_put (Asked q) = item_asked q
+item_put (ByTicket (Remove ticket)) = item 0 0
 
 -- the kind of a reply, and its item, if it has one
 abbrev pub reply_number : Reply → ℕ
@@ -39,8 +54,8 @@ item_told (LeastIs x) = x
 -- the numbers of a line, which no other line has
 abbrev pub line_numbers : Line → List ℕ
 line_numbers l =
-    l.place ∷ l.serial ∷ request_number l.request ∷ (item_asked l.request).priority ∷ (item_asked l.request).value
-    ∷ reply_number l.reply ∷ (item_told l.reply).priority ∷ (item_told l.reply).value ∷ []
+    l.place ∷ l.serial ∷ operation_number l.operation ∷ ticket_asked l.operation ∷ (item_put l.operation).priority
+    ∷ (item_put l.operation).value ∷ reply_number l.reply ∷ (item_told l.reply).priority ∷ (item_told l.reply).value ∷ []
 
 -- the line, where the two are the same, and else one that stands in no journal
 abbrev pub same_line : Line → Line → Line

@@ -2,19 +2,20 @@
 use Rattle.std.specs.Prelude.{◌≡◌, ◌≢◌, ℕ, ◌+◌, Bool, false, List, ◌∷◌, Option, Some}
 use Rattle.atomic_table.specs.Table.{Step, rest}
 use Rattle.pq_types.specs.Item.{Item, IsItemOf}
-use Rattle.pq_types.specs.Asked.{Request}
+use Rattle.pq_types.specs.Asked.{Request, Operation}
+use Rattle.pq_types.specs.Operation.{Asked}
 use Rattle.pq_types.specs.Asked.{Answer}
 use Rattle.pq_types.specs.declared.answer.Answer.TheVariants.{NoMemory}
 use Rattle.pq_types.specs.declared.control.Notice.{Notice}
 use Rattle.pq_types.specs.declared.control.Control.TheVariants.{Answered}
 use Rattle.pq_types.specs.Asked.{Line}
 use Rattle.pq_types.specs.Control.{kind_of, request_item, answer_item, posted, answered}
-use Rattle.pq_types.specs.History.{journal_after, MayAnswer}
+use Rattle.pq_types.specs.History.{journal_by, MayAnswer, MayDo}
 use Rattle.pq_types.specs.Mail.{IsProperControl, control_word}
 use Rattle.pq_book.specs.Book.{Volume}
 use Rattle.desk_core.specs.Pen.{IsKept, after_draft, after_post, after_lead, after_miss, after_read}
 use Rattle.desk_core.specs.Pen.{after_read_item, after_lay, after_answer, after_release}
-use Rattle.desk_core.specs.Pen.{after_apply, after_release_with, after_look, after_see, after_take}
+use Rattle.desk_core.specs.Pen.{after_apply, after_release_by, after_look, after_see, after_take}
 use Rattle.desk_core.specs.Dealing.{IsReached}
 use Rattle.desk_core.specs.Desk.{Desk, Has, volume}
 use Rattle.desk_core.specs.Knows.{Knows, NoneAbove}
@@ -136,12 +137,16 @@ abbrev pub Released : Step (Option Volume) → Seated → ℕ → Seated → Typ
 Released st before word after = ◌≡◌ {A = Seated} after (Holder (after_release (pen_at before)), rest before.1)
 
 -- the slot that the pen holds, or gives back, has the Book with the journal that was in its hand and the
--- line of its own request, under its next serial, if this answer entered it
-abbrev pub BringsHome : Seated → Request → Answer → List (ℕ × Option Volume) → Type 0
-BringsHome m request answer others =
+-- line of its own operation, under its next serial, if this answer entered it
+abbrev pub BringsHomeBy : Seated → Operation → Answer → List (ℕ × Option Volume) → Type 0
+BringsHomeBy m operation answer others =
     ◌≡◌ {A = List (ℕ × Option Volume)} m.1
-    ((0, Some (volume (pen_at m).room (journal_after (pen_at m).hand (pen_at m).place ((pen_at m).posts + 1) request answer)))
+    ((0, Some (volume (pen_at m).room (journal_by (pen_at m).hand (pen_at m).place ((pen_at m).posts + 1) operation answer)))
     ∷ others)
+
+-- the same with the line of its own request
+abbrev pub BringsHome : Seated → Request → Answer → List (ℕ × Option Volume) → Type 0
+BringsHome m request answer others = BringsHomeBy m (Asked request) answer others
 
 -- The leader applied a request of its own that was so answered, and loaded the lock: what stands in the
 -- slot, which it keeps, tells which line, if any, is the last. It knew the journal in its hand.
@@ -152,13 +157,13 @@ Applied st before word after =
     → ((now : ℕ) × Becomes before (after_apply (pen_at before) request answer now) after)
     × Knows (pen_at before).room (pen_at before) (pen_at before).hand
 
--- The leader gave the slot back and freed the lock, with a request of its own that was so answered:
+-- The leader gave the slot back and freed the lock, with an operation of its own that was so answered:
 -- what stood in the slot tells which line, if any, is the last. The leader knew the journal in its hand.
 abbrev pub ReleasedWith : Step (Option Volume) → Seated → ℕ → Seated → Type 0
 ReleasedWith st before word after =
-    (request : Request) (answer : Answer) → MayAnswer (pen_at before).room (pen_at before).hand request answer
-    → BringsHome before request answer (rest before.1)
-    → ((now : ℕ) × ◌≡◌ {A = Seated} after (Holder (after_release_with (pen_at before) request answer now), rest before.1))
+    (operation : Operation) (answer : Answer) → MayDo (pen_at before).room (pen_at before).hand operation answer
+    → BringsHomeBy before operation answer (rest before.1)
+    → ((now : ℕ) × ◌≡◌ {A = Seated} after (Holder (after_release_by (pen_at before) operation answer now), rest before.1))
     × Knows (pen_at before).room (pen_at before) (pen_at before).hand
 
 -- the pen looked at the control of its own place

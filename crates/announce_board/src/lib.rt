@@ -45,6 +45,7 @@ mod locking;
 pub mod notes;
 mod opening;
 mod own_request;
+mod removing;
 mod rule;
 pub mod running;
 mod serving;

@@ -8,7 +8,7 @@ use Rattle.pq_types.specs.Asked.{Line}
 use Rattle.pq_types.specs.Control.{answer_with, reply_with}
 use Rattle.desk_core.specs.Linearizable.{IsTrueOf}
 use Rattle.desk_core.proofs.Records.{with_cell_answer, notice_back}
-use Rattle.desk_core.specs.Calls.{call}
+use Rattle.desk_core.specs.Calls.{call_of}
 use Rattle.desk_core.specs.Beyond.{NextIsUnknown, AnswersAreBeyond}
 use Rattle.desk_core.specs.Rule.{StartsWith}
 use Rattle.desk_core.specs.Knows.{NoneAbove}
@@ -29,7 +29,7 @@ answers_are_beyond d seat p request number outcome m a waits at knew starts none
     let t : IsTrueOf d.room m.0 p.place p.posts (Entered number (reply_with outcome cell)) =
     told_true d m.0 m.1 m.2 seat p a request (answer_with n cell) waits (at ∙ ap Answered (sym (notice_back n cell))) (with_cell_answer n cell) in
     let whole : StartsWith m.0 knew = starts_trans knew p.known m.0 starts k.known in
-    let c = call number p.posts t.0 (reply_with outcome cell) in
+    let c = call_of number p.posts t.0 (reply_with outcome cell) in
     elim (dec_lt (length knew) number) [
       | yes q ↦ q
       | no q ↦ absurd (none_of knew p.place p.posts none c (line_before knew m.0 p.place c whole t.1 (omega arith)) refl)

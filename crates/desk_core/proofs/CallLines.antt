@@ -2,8 +2,8 @@
 use Rattle.std.proofs.Common.{◌≡◌, ℕ, zero, suc, ◌+◌, ◌-◌, ◌<◌, ◌≤◌, ◌==◌, if◌then◌else◌, Bool, true, false, List, [], ◌∷◌, length, slice_get, Some, refl, sym, ◌∙◌, ap, subst, arith}
 use Rattle.std.proofs.lemmas.Bool.{eqb-true}
 use Rattle.pq_types.specs.Asked.{Line}
-use Rattle.pq_types.specs.History.{line}
-use Rattle.desk_core.specs.Calls.{call, calls_from}
+use Rattle.pq_types.specs.History.{line_of}
+use Rattle.desk_core.specs.Calls.{call_of, calls_from}
 use Rattle.desk_core.specs.CallLines.{CallsAreLines, NumbersRise}
 use Rattle.desk_core.specs.declared.model.Call.{Call}
 
@@ -11,7 +11,7 @@ use Rattle.desk_core.specs.declared.model.Call.{Call}
 record IsAmong (journal : List Line) (place first : ℕ) (c : Call) : Type 0 where
   from : first ≤ c.number
   within : c.number < first + length journal
-  there : slice_get journal (c.number - first) ≡ Some (line place c.serial c.request c.reply)
+  there : slice_get journal (c.number - first) ≡ Some (line_of place c.serial c.operation c.reply)
 
 later : (l : Line) (ls : List Line) (place first : ℕ) (c : Call) → IsAmong ls place (first + 1) c → IsAmong (l ∷ ls) place first c
 later l ls place first c h =
@@ -19,12 +19,12 @@ later l ls place first c h =
     let e : c.number - first ≡ suc (c.number - (first + 1)) = omega (arith, from) in
     record { from = omega (arith, from); within = omega (arith, within); there = ap (λ i. slice_get (l ∷ ls) i) e ∙ h.there }
 
-here : (l : Line) (ls : List Line) (place first : ℕ) (c : Call) → l.place ≡ place → call first l.serial l.request l.reply ≡ c → IsAmong (l ∷ ls) place first c
+here : (l : Line) (ls : List Line) (place first : ℕ) (c : Call) → l.place ≡ place → call_of first l.serial l.operation l.reply ≡ c → IsAmong (l ∷ ls) place first c
 here l ls place first c at e =
     let number : first ≡ c.number = ap (λ (x : Call). x.number) e in
     let none : c.number - first ≡ 0 = omega (arith, number) in
-    let same : line l.place l.serial l.request l.reply ≡ line place c.serial c.request c.reply =
-    ap (λ k. line k l.serial l.request l.reply) at ∙ ap (λ (x : Call). line place x.serial x.request x.reply) e in
+    let same : line_of l.place l.serial l.operation l.reply ≡ line_of place c.serial c.operation c.reply =
+    ap (λ k. line_of k l.serial l.operation l.reply) at ∙ ap (λ (x : Call). line_of place x.serial x.operation x.reply) e in
     record { from = omega (arith, number); within = omega (arith, number); there = ap (λ i. slice_get (l ∷ ls) i) none ∙ ap Some same }
 
 among : (journal : List Line) (place first i : ℕ) (c : Call) → slice_get (calls_from first place journal) i ≡ Some c → IsAmong journal place first c
@@ -33,7 +33,7 @@ among [] place first (suc i) c h = absurd (cc)
 among (l ∷ ls) place first i c h = which (λ k t. among ls place (first + 1) k c t) (l.place == place) refl i h
   where
     which : ((k : ℕ) → slice_get (calls_from (first + 1) place ls) k ≡ Some c → IsAmong ls place (first + 1) c) → (b : Bool) → (l.place == place) ≡ b → (k : ℕ)
-        → slice_get (if b then call first l.serial l.request l.reply ∷ calls_from (first + 1) place ls else calls_from (first + 1) place ls) k ≡ Some c
+        → slice_get (if b then call_of first l.serial l.operation l.reply ∷ calls_from (first + 1) place ls else calls_from (first + 1) place ls) k ≡ Some c
         → IsAmong (l ∷ ls) place first c
     which deeper true e zero t = here l ls place first c (eqb-true l.place place e) (cc)
     which deeper true e (suc k) t = later l ls place first c (deeper k t)
@@ -45,12 +45,12 @@ rises [] place first i (suc j) b c lt h k = absurd (cc)
 rises (l ∷ ls) place first i j b c lt h k = which (λ m n less t u. rises ls place (first + 1) m n b c less t u) (l.place == place) i j lt h k
   where
     which : ((m n : ℕ) → m < n → slice_get (calls_from (first + 1) place ls) m ≡ Some b → slice_get (calls_from (first + 1) place ls) n ≡ Some c → b.number < c.number) → (x : Bool) (m n : ℕ) → m < n
-        → slice_get (if x then call first l.serial l.request l.reply ∷ calls_from (first + 1) place ls else calls_from (first + 1) place ls) m ≡ Some b
-        → slice_get (if x then call first l.serial l.request l.reply ∷ calls_from (first + 1) place ls else calls_from (first + 1) place ls) n ≡ Some c
+        → slice_get (if x then call_of first l.serial l.operation l.reply ∷ calls_from (first + 1) place ls else calls_from (first + 1) place ls) m ≡ Some b
+        → slice_get (if x then call_of first l.serial l.operation l.reply ∷ calls_from (first + 1) place ls else calls_from (first + 1) place ls) n ≡ Some c
         → b.number < c.number
     which deeper true m zero lt t u = absurd (omega (arith, lt))
     which deeper true zero (suc n) lt t u =
-        let e : call first l.serial l.request l.reply ≡ b = cc in
+        let e : call_of first l.serial l.operation l.reply ≡ b = cc in
         let number : first ≡ b.number = ap (λ (x : Call). x.number) e in
         let behind = (among ls place (first + 1) n c u).from in omega (arith, number, behind)
     which deeper true (suc m) (suc n) lt t u = deeper m n (omega (arith, lt)) t u

@@ -16,6 +16,7 @@ use Rattle.pq_types.specs.declared.control.Notice.TheVariants as notice
 use Rattle.pq_types.specs.Asked.{Line}
 use Rattle.pq_types.specs.Item.{item}
 use Rattle.pq_types.specs.Control.{posted, answered, is_answer, request_item}
+use Rattle.pq_types.specs.Operation.{request_of}
 use Rattle.pq_types.specs.History.{line, SerialsRise}
 use Rattle.pq_book.specs.Book.{Volume}
 use Rattle.desk_core.specs.Calls.{call, calls_of}
@@ -45,7 +46,7 @@ priority_of (Some x) = x.priority
 -- the priority of the item that a line's request has
 abbrev priority_in : Option Line → ℕ
 priority_in None = 0
-priority_in (Some l) = priority_of (request_item l.request)
+priority_in (Some l) = priority_of (request_item (request_of l.operation))
 
 not_blank : item 0 0 ≡ item 5 7 → ⊥
 not_blank e = let f : 0 ≡ 5 = ap (λ (x : Item). x.priority) e in omega (arith, f)

@@ -1,12 +1,12 @@
 -- A history and its journal that both gain at their ends.
 use Rattle.std.proofs.Common.{◌≡◌, ◌≢◌, ℕ, zero, suc, ◌+◌, ◌-◌, ◌<◌, ◌≤◌, ◌⊎◌, inl, inr, ⊎_elim, List, [], ◌∷◌, ◌++◌, length, slice_get, Some, refl, ap, sym, ◌∙◌, subst, arith, length-append}
 use Rattle.std.specs.List.{AllByRecursion}
-use Rattle.pq_types.specs.Asked.{Request}
+use Rattle.pq_types.specs.Asked.{Operation}
 use Rattle.pq_types.specs.Asked.{Answer}
 use Rattle.pq_types.specs.declared.answer.Answer.TheVariants.{Entered, BookFull, NoMemory}
 use Rattle.pq_types.specs.Asked.{Line}
-use Rattle.pq_types.specs.History.{line}
-use Rattle.desk_core.specs.Calls.{call}
+use Rattle.pq_types.specs.History.{line_of}
+use Rattle.desk_core.specs.Calls.{call_of}
 use Rattle.desk_core.specs.CallLines.{IsLineOf}
 use Rattle.desk_core.specs.Clauses.{HasNo}
 use Rattle.desk_core.specs.Linearizable.{Act, Begins, Ends, IsIn, Precedes, IsTrueOf}
@@ -55,31 +55,31 @@ line_stays journal more place c h =
     record {
       some = h.some;
       within = omega (arith, within, length-append journal more);
-      there = get_more journal more (c.number - 1) (line place c.serial c.request c.reply) h.there;
+      there = get_more journal more (c.number - 1) (line_of place c.serial c.operation c.reply) h.there;
     }
 
 -- of a journal with one line more, a line is one of those before or the last
 pub line_cases : (journal : List Line) (l : Line) (place : ℕ) (c : Call) → IsLineOf (journal ++ l ∷ []) place c
-    → IsLineOf journal place c ⊎ ((c.number ≡ length journal + 1) × (l ≡ line place c.serial c.request c.reply))
+    → IsLineOf journal place c ⊎ ((c.number ≡ length journal + 1) × (l ≡ line_of place c.serial c.operation c.reply))
 line_cases journal l place c h =
     let some = h.some in
     ⊎_elim
     (λ t. inl record { some = h.some; within = (let lt = t.0 in omega (arith, some, lt)); there = t.1 })
     (λ t.
-    (let u = one_alone l (line place c.serial c.request c.reply) t.0 t.2 in
+    (let u = one_alone l (line_of place c.serial c.operation c.reply) t.0 t.2 in
     let e = t.1 in
     let f = u.0 in
     inr (omega (arith, some, e, f), u.1)))
-    (get_cases journal (l ∷ []) (c.number - 1) (line place c.serial c.request c.reply) h.there)
+    (get_cases journal (l ∷ []) (c.number - 1) (line_of place c.serial c.operation c.reply) h.there)
 
 -- no line of a call that the journal doesn't have
 pub none_of : (journal : List Line) (place serial : ℕ) → HasNo journal place serial → (c : Call) → IsLineOf journal place c → c.serial ≡ serial → ⊥
 none_of journal place serial h c at e =
-    all_at (λ (l : Line). place ≡ l.place → l.serial ≢ serial) journal (c.number - 1) (line place c.serial c.request c.reply) h at.there refl e
+    all_at (λ (l : Line). place ≡ l.place → l.serial ≢ serial) journal (c.number - 1) (line_of place c.serial c.operation c.reply) h at.there refl e
 
 -- The calls that have ended so: the history and the journal are those of them.
 pub record Kept (room : ℕ) (Over : ℕ → ℕ → Type 0) (history : List Act) (journal : List Line) : Type 0 where
-  pub begun : (place : ℕ) (c : Call) → IsLineOf journal place c → IsIn history (Begins place c.serial c.request)
+  pub begun : (place : ℕ) (c : Call) → IsLineOf journal place c → IsIn history (Begins place c.serial c.operation)
   pub over : (place serial : ℕ) (answer : Answer) → IsIn history (Ends place serial answer) → Over place serial
   pub ended : (place serial : ℕ) (answer : Answer) → IsIn history (Ends place serial answer) → IsTrueOf room journal place serial answer
   pub order :
@@ -90,7 +90,7 @@ pub record Kept (room : ℕ) (Over : ℕ → ℕ → Type 0) (history : List Act
 abbrev pub Gains : (Over : ℕ → ℕ → Type 0) → List Act → List Line → List Line → Type 0
 Gains Over history journal journal' =
     (journal' ≡ journal)
-    ⊎ ((l : Line) × (journal' ≡ journal ++ l ∷ []) × (Over l.place l.serial → ⊥) × IsIn history (Begins l.place l.serial l.request))
+    ⊎ ((l : Line) × (journal' ≡ journal ++ l ∷ []) × (Over l.place l.serial → ⊥) × IsIn history (Begins l.place l.serial l.operation))
 
 -- What a step adds: over is what was over and what it ends, which is true; what it begins has no line; and
 -- it begins nothing behind what it ends.
@@ -99,7 +99,7 @@ pub record Adds (room : ℕ) (Over Over' : ℕ → ℕ → Type 0) (old new : Li
   pub gains : Gains Over (old ++ new) journal journal'
   pub over : (place serial : ℕ) (answer : Answer) → IsIn new (Ends place serial answer) → Over' place serial
   pub ended : (place serial : ℕ) (answer : Answer) → IsIn new (Ends place serial answer) → IsTrueOf room journal' place serial answer
-  pub begins : (place serial : ℕ) (request : Request) → IsIn new (Begins place serial request) → HasNo journal place serial
+  pub begins : (place serial : ℕ) (operation : Operation) → IsIn new (Begins place serial operation) → HasNo journal place serial
   pub apart : (place serial place' serial' : ℕ) → Precedes new place serial place' serial' → ⊥
 
 module _ (Over : ℕ → ℕ → Type 0) (acts : List Act) (journal journal' : List Line) (g : Gains Over acts journal journal') where
@@ -117,14 +117,14 @@ module _ (Over : ℕ → ℕ → Type 0) (acts : List Act) (journal journal' : L
 
   -- a line was there, or is behind all that were
   pub there_or_last : (place : ℕ) (c : Call) → IsLineOf journal' place c
-      → IsLineOf journal place c ⊎ ((c.number ≡ length journal + 1) × IsIn acts (Begins place c.serial c.request))
+      → IsLineOf journal place c ⊎ ((c.number ≡ length journal + 1) × IsIn acts (Begins place c.serial c.operation))
   there_or_last place c h =
       ⊎_elim
       (λ e. inl (subst (λ js. IsLineOf js place c) e h))
       (λ t.
       ⊎_elim
       (λ u. inl u)
-      (λ u. inr (u.0, subst (λ (y : Line). IsIn acts (Begins y.place y.serial y.request)) u.1 t.3))
+      (λ u. inr (u.0, subst (λ (y : Line). IsIn acts (Begins y.place y.serial y.operation)) u.1 t.3))
       (line_cases journal t.0 place c (subst (λ js. IsLineOf js place c) t.1 h)))
       g
 
@@ -154,7 +154,7 @@ module _ (Over : ℕ → ℕ → Type 0) (acts : List Act) (journal journal' : L
 
   pub still_true : (room : ℕ) → length journal' ≤ room → (place serial : ℕ) (answer : Answer) → Over place serial
       → IsTrueOf room journal place serial answer → IsTrueOf room journal' place serial answer
-  still_true room within place serial (Entered number reply) over h = (h.0, still_there place (call number serial h.0 reply) h.1)
+  still_true room within place serial (Entered number reply) over h = (h.0, still_there place (call_of number serial h.0 reply) h.1)
   still_true room within place serial BookFull over h = (still_full room within h.0, still_none place serial over h.1)
   still_true room within place serial NoMemory over h = still_none place serial over h
 
@@ -173,15 +173,15 @@ module _ (room : ℕ) (Over Over' : ℕ → ℕ → Type 0) (old new : List Act)
       ⊎_elim
       (λ w.
       k.order place place' b c was w
-      record { end = t.end; begin = t.begin; answer = t.answer; request = t.request; before = t.before; ends = u.1; begins = v.1 })
+      record { end = t.end; begin = t.begin; answer = t.answer; operation = t.operation; before = t.before; ends = u.1; begins = v.1 })
       (λ w. let last = w.0 in omega (arith, inside, last))
       (there_or_last Over (old ++ new) journal journal' a.gains place' c is_c))
       (λ v.
       ⊎_elim
-      (λ w. absurd (none_of journal place' c.serial (a.begins place' c.serial t.request (v.0, v.2)) c w refl))
+      (λ w. absurd (none_of journal place' c.serial (a.begins place' c.serial t.operation (v.0, v.2)) c w refl))
       (λ w. let last = w.0 in omega (arith, inside, last))
       (there_or_last Over (old ++ new) journal journal' a.gains place' c is_c))
-      (get_cases old new t.begin (Begins place' c.serial t.request) t.begins)))
+      (get_cases old new t.begin (Begins place' c.serial t.operation) t.begins)))
       (λ u.
       (let e = u.1 in
       ⊎_elim
@@ -189,8 +189,8 @@ module _ (room : ℕ) (Over Over' : ℕ → ℕ → Type 0) (old new : List Act)
       (λ v.
       (let f = v.1 in
       absurd (a.apart place b.serial place' c.serial
-      record { end = u.0; begin = v.0; answer = t.answer; request = t.request; before = omega (arith, e, f, before); ends = u.2; begins = v.2 })))
-      (get_cases old new t.begin (Begins place' c.serial t.request) t.begins)))
+      record { end = u.0; begin = v.0; answer = t.answer; operation = t.operation; before = omega (arith, e, f, before); ends = u.2; begins = v.2 })))
+      (get_cases old new t.begin (Begins place' c.serial t.operation) t.begins)))
       (get_cases old new t.end (Ends place b.serial t.answer) t.ends)
 
   pub kept_on : Kept room Over' (old ++ new) journal'
@@ -198,7 +198,7 @@ module _ (room : ℕ) (Over Over' : ℕ → ℕ → Type 0) (old new : List Act)
       record {
         begun = λ place c h.
             ⊎_elim
-            (λ u. in_left old new (Begins place c.serial c.request) (k.begun place c u))
+            (λ u. in_left old new (Begins place c.serial c.operation) (k.begun place c u))
             (λ u. u.1)
             (there_or_last Over (old ++ new) journal journal' a.gains place c h);
         over = λ place serial answer h.

@@ -2,13 +2,13 @@
 use Rattle.std.proofs.Common.{◌≡◌, ◌≢◌, ℕ, zero, suc, ◌+◌, ◌<◌, Bool, true, false, List, [], ◌∷◌, ◌++◌, length, eq-eqb, ne_eqb, add-zero, refl, sym, arith}
 use Rattle.std.specs.Prelude.{Some, slice_get, ◌==◌, if◌then◌else◌}
 use Rattle.std.specs.List.{AllByRecursion}
-use Rattle.pq_types.specs.Asked.{Request}
+use Rattle.pq_types.specs.Asked.{Operation}
 use Rattle.pq_types.specs.Asked.{Reply}
 use Rattle.pq_types.specs.Asked.{Line}
-use Rattle.pq_types.specs.History.{line}
-use Rattle.pq_types.specs.Laws.{LeavesOneMore, StaysLegal, StillRises, ItemsStayInRange, RepliesAreProper}
+use Rattle.pq_types.specs.History.{line_of}
+use Rattle.pq_types.specs.Laws.{EntersOneMore, StaysLegal, StillRises, EntriesStayInRange, RepliesAreProper}
 use Rattle.desk_core.specs.declared.model.Call.{Call}
-use Rattle.desk_core.specs.Calls.{call, calls_from}
+use Rattle.desk_core.specs.Calls.{call_of, calls_from}
 
 module _ {A : Type 0} where
   pub all_more : (P : A → Type 0) (xs : List A) (x : A) → AllByRecursion P xs → P x → AllByRecursion P (xs ++ x ∷ [])
@@ -30,10 +30,10 @@ module _ {A : Type 0} where
 
 -- what pq_types' laws say of a journal that gains a line, and of items in their range
 pub record QueueLaws : Type 0 where
-  pub left : LeavesOneMore
+  pub enters : EntersOneMore
   pub legal : StaysLegal
   pub rise : StillRises
-  pub content : ItemsStayInRange
+  pub entries : EntriesStayInRange
   pub reply : RepliesAreProper
 
 split_before : (b : Bool) (c : Call) (xs ys : List Call) → (if b then c ∷ (xs ++ ys) else xs ++ ys) ≡ (if b then c ∷ xs else xs) ++ ys
@@ -41,16 +41,16 @@ split_before true c xs ys = refl
 split_before false c xs ys = refl
 
 -- the calls of a place after one more line
-pub calls_here : (n p : ℕ) (ls : List Line) (s : ℕ) (q : Request) (r : Reply)
-    → calls_from n p (ls ++ line p s q r ∷ []) ≡ calls_from n p ls ++ call (n + length ls) s q r ∷ []
-calls_here n p [] s q r = rw (eq-eqb p p refl, add-zero n) refl
-calls_here n p (l ∷ ls) s q r =
+pub calls_here : (n p : ℕ) (ls : List Line) (s : ℕ) (o : Operation) (r : Reply)
+    → calls_from n p (ls ++ line_of p s o r ∷ []) ≡ calls_from n p ls ++ call_of (n + length ls) s o r ∷ []
+calls_here n p [] s o r = rw (eq-eqb p p refl, add-zero n) refl
+calls_here n p (l ∷ ls) s o r =
     let e : n + 1 + length ls ≡ n + suc (length ls) = omega arith in
-    rw (calls_here (n + 1) p ls s q r, e) (split_before (l.place == p) (call n l.serial l.request l.reply) (calls_from (n + 1) p ls) (call (n + suc (length ls)) s q r ∷ []))
+    rw (calls_here (n + 1) p ls s o r, e) (split_before (l.place == p) (call_of n l.serial l.operation l.reply) (calls_from (n + 1) p ls) (call_of (n + suc (length ls)) s o r ∷ []))
 
-pub calls_elsewhere : (n p k : ℕ) (ls : List Line) (s : ℕ) (q : Request) (r : Reply) → k ≢ p → calls_from n p (ls ++ line k s q r ∷ []) ≡ calls_from n p ls
-calls_elsewhere n p k [] s q r ne = rw (ne_eqb k p ne) refl
-calls_elsewhere n p k (l ∷ ls) s q r ne = rw (calls_elsewhere (n + 1) p k ls s q r ne) refl
+pub calls_elsewhere : (n p k : ℕ) (ls : List Line) (s : ℕ) (o : Operation) (r : Reply) → k ≢ p → calls_from n p (ls ++ line_of k s o r ∷ []) ≡ calls_from n p ls
+calls_elsewhere n p k [] s o r ne = rw (ne_eqb k p ne) refl
+calls_elsewhere n p k (l ∷ ls) s o r ne = rw (calls_elsewhere (n + 1) p k ls s o r ne) refl
 
 below_head : (b : Bool) (c : Call) (cs : List Call) (m : ℕ) → AllByRecursion (λ (c : Call). c.serial < m) (if b then c ∷ cs else cs)
     → (b ≡ true → c.serial < m) × AllByRecursion (λ (c : Call). c.serial < m) cs
@@ -61,5 +61,5 @@ below_head false c cs m h = (λ e. absurd (cc e), h)
 pub lines_below : (n p b : ℕ) (ls : List Line) → AllByRecursion (λ c. c.serial < b) (calls_from n p ls) → AllByRecursion (λ m. p ≡ m.place → m.serial < b) ls
 lines_below n p b [] h = tt
 lines_below n p b (l ∷ ls) h =
-    let t = below_head (l.place == p) (call n l.serial l.request l.reply) (calls_from (n + 1) p ls) b h in
+    let t = below_head (l.place == p) (call_of n l.serial l.operation l.reply) (calls_from (n + 1) p ls) b h in
     (λ e. t.0 (eq-eqb l.place p (sym e)), lines_below (n + 1) p b ls t.1)

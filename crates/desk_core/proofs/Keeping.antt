@@ -16,11 +16,11 @@ use Rattle.desk_core.specs.declared.model.PenState.{PenState}
 use Rattle.desk_core.specs.Pen.{IsKept}
 use Rattle.desk_core.specs.Desk.{Desk, Has, volume}
 use Rattle.desk_core.specs.Rule.{MeetsRule}
-use Rattle.desk_core.specs.Keeping.{DraftKeeps, PostKeeps, LeadKeeps, MissKeeps, ReadKeeps, ReadItemKeeps, LayItemKeeps, AnswerKeeps, ApplyKeeps, ReleaseKeeps, ReleaseWithKeeps, LookKeeps, SeeItemKeeps, TakeItemKeeps, PensAreSeated, IsNew, DueIsNew}
+use Rattle.desk_core.specs.Keeping.{DraftKeeps, PostKeeps, LeadKeeps, MissKeeps, ReadKeeps, ReadItemKeeps, LayItemKeeps, AnswerKeeps, ApplyKeeps, ReleaseKeeps, ReleaseByKeeps, LookKeeps, SeeItemKeeps, TakeItemKeeps, PensAreSeated, IsNew, DueIsNew}
 use Rattle.desk_core.proofs.Records.{kept_carries, same_request}
 use Rattle.desk_core.proofs.Journals.{QueueLaws}
 use Rattle.desk_core.proofs.Views.{same_pen}
-use Rattle.desk_core.proofs.StepFacts.{not_both_locks, draft_keeps, post_keeps, lead_keeps, miss_keeps, read_keeps, read_item_keeps, lay_keeps, answer_keeps, apply_keeps, release_keeps, release_with_keeps, look_keeps, see_keeps, take_keeps, poster, hand_below}
+use Rattle.desk_core.proofs.StepFacts.{not_both_locks, draft_keeps, post_keeps, lead_keeps, miss_keeps, read_keeps, read_item_keeps, lay_keeps, answer_keeps, apply_keeps, release_keeps, release_by_keeps, look_keeps, see_keeps, take_keeps, poster, hand_below}
 
 pub draft : DraftKeeps
 draft d i p m a x free = (m.0, m.1, draft_keeps d m.0 m.1 m.2 i p a x free)
@@ -54,8 +54,8 @@ apply laws d i p m a q x now leads free few proper may = (_, m.1, apply_keeps d 
 pub release : ReleaseKeeps
 release d i p m a leads = (m.0, m.1, release_keeps d m.0 m.1 m.2 i p a leads)
 
-pub release_with : QueueLaws → ReleaseWithKeeps
-release_with laws d i p m a q x now leads none free few proper may = (_, m.1, release_with_keeps d m.0 m.1 m.2 i p a now laws q x leads none free few proper may)
+pub release_by : QueueLaws → ReleaseByKeeps
+release_by laws d i p m a q x now leads none free few proper may = (_, m.1, release_by_keeps d m.0 m.1 m.2 i p a now laws q x leads none free few proper may)
 
 pub look : LookKeeps
 look d i p m a q now waits = (m.0, m.1, look_keeps d m.0 m.1 m.2 i p a now q waits)

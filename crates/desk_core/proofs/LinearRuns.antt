@@ -3,6 +3,7 @@ use Rattle.std.proofs.Common.{◌≡◌, ℕ, ◌<◌, ◌≤◌, ⊎_elim, true
 use Rattle.std.specs.Prelude.{Some}
 use native.Mathlib.Decide.{dec_lt}
 use Rattle.pq_types.specs.Asked.{Request}
+use Rattle.pq_types.specs.Asked.{Operation}
 use Rattle.pq_types.specs.Asked.{Answer}
 use Rattle.pq_types.specs.declared.control.Control.TheVariants.{Nothing}
 use Rattle.pq_types.specs.Asked.{Line}
@@ -37,7 +38,7 @@ record Further (d : Desk) (old : List Act) (journal : List Line) (e : Desk) (new
   at : At e (old ++ new) now
   starts : StartsWith now journal
   was : (k : ℕ) (c : Call) → Over d k c.serial → IsLineOf now k c → IsLineOf journal k c
-  fresh : (k s : ℕ) (q : Request) → IsIn new (Begins k s q) → HasNo journal k s
+  fresh : (k s : ℕ) (o : Operation) → IsIn new (Begins k s o) → HasNo journal k s
 
 run_stands : QueueLaws → (xs : List Move) (d e : Desk) (old : List Act) (journal : List Line) → At d old journal → (run : DealtRun d xs e)
     → Further d old journal e (dealt_history d xs e run)
@@ -163,12 +164,12 @@ module _ (laws : QueueLaws) (places room : ℕ) (views : List View) (meets : Mee
     ends_before place c l answer u =
         (further.was place c (at_m.kept.over place c.serial answer u) (subst (λ js. IsLineOf js place c) (sym same_end) l)).within
 
-    begins_behind : (place : ℕ) (c : Call) → IsLineOf journal' place c → (request : Request)
-        → IsIn (dealt_history m after d rest) (Begins place c.serial request) → length journal < c.number
-    begins_behind place c l request u =
+    begins_behind : (place : ℕ) (c : Call) → IsLineOf journal' place c → (operation : Operation)
+        → IsIn (dealt_history m after d rest) (Begins place c.serial operation) → length journal < c.number
+    begins_behind place c l operation u =
         elim (dec_lt (length journal) c.number) [
           | yes q ↦ q
-          | no q ↦ absurd (h.none_of journal place c.serial (further.fresh place c.serial request u) c (line_before journal journal' place c longer l (omega arith)) refl)
+          | no q ↦ absurd (h.none_of journal place c.serial (further.fresh place c.serial operation u) c (line_before journal journal' place c longer l (omega arith)) refl)
         ]
 
 -- of a desk that opens with a dealer
@@ -225,7 +226,7 @@ module _ (laws : QueueLaws) where
         λ answer u.
             ends_before laws places room (pens_from room places 0) meets (taken before) (taken after) m d journal journal' first here second there place c l answer
             (subst (λ seen. IsIn seen (Ends place c.serial answer)) (sym (same_history (opening places room) before m past)) u),
-        λ request u.
-            begins_behind laws places room (pens_from room places 0) meets (taken before) (taken after) m d journal journal' first here second there place c l request
-            (subst (λ seen. IsIn seen (Begins place c.serial request)) (sym (same_history m after d rest)) u),
+        λ operation u.
+            begins_behind laws places room (pens_from room places 0) meets (taken before) (taken after) m d journal journal' first here second there place c l operation
+            (subst (λ seen. IsIn seen (Begins place c.serial operation)) (sym (same_history m after d rest)) u),
       )

@@ -6,18 +6,20 @@ use mathlib.Core.Logic.{dite}
 use native.Mathlib.Decide.{ℕ_discrete}
 use Rattle.pq_types.specs.Item.{Item}
 use Rattle.pq_types.specs.Asked.{Request}
+use Rattle.pq_types.specs.Asked.{Operation}
+use Rattle.pq_types.specs.Operation.{Asked}
 use Rattle.pq_types.specs.Asked.{Answer}
 use Rattle.pq_types.specs.declared.answer.Answer.TheVariants.{Entered, BookFull, NoMemory}
 use Rattle.pq_types.specs.declared.control.Control.TheVariants.{Answered}
 use Rattle.pq_types.specs.Asked.{Line}
 use Rattle.pq_types.specs.Control.{answer_with, request_item, answer_item, answered, Carries, is_answer}
-use Rattle.pq_types.specs.History.{line, journal_after, MayAnswer}
+use Rattle.pq_types.specs.History.{line, line_of, journal_by, journal_after, MayAnswer, MayDo}
 use Rattle.desk_core.specs.Calls.{call, calls_of, gained}
 use Rattle.desk_core.specs.CallLines.{IsLineOf}
 use Rattle.desk_core.specs.Clauses.{HasNo}
-use Rattle.desk_core.specs.Pen.{IsIdle, told_by, standing_told, after_draft, after_post, after_lead, after_miss, after_read, after_read_item, after_lay, after_answer, after_release, after_release_with, after_look, after_see, after_take, after_apply}
+use Rattle.desk_core.specs.Pen.{IsIdle, told_by, standing_told, after_draft, after_post, after_lead, after_miss, after_read, after_read_item, after_lay, after_answer, after_release, after_release_by, after_look, after_see, after_take, after_apply}
 use Rattle.desk_core.specs.Desk.{Desk, Has, time}
-use Rattle.desk_core.specs.Steps.{Event, Drafts, Posts, Tries, Reads, ReadsItem, LaysItem, Answers, Releases, ReleasesWith, Looks, SeesItem, TakesItem, Step, Applies}
+use Rattle.desk_core.specs.Steps.{Event, Drafts, Posts, Tries, Reads, ReadsItem, LaysItem, Answers, Releases, ReleasesBy, Looks, SeesItem, TakesItem, Step, Applies}
 use Rattle.desk_core.specs.Rule.{StartsWith, RuleAt, above_mine}
 use Rattle.desk_core.specs.Notes.{after_catch_up, after_writing, after_hearing}
 use Rattle.desk_core.specs.Linearizable.{Act, Begins, Ends, IsIn, Precedes, IsTrueOf, told, acts}
@@ -32,7 +34,7 @@ use Rattle.desk_core.proofs.Journals.{QueueLaws, all_weaker, get_last, lines_bel
 use Rattle.desk_core.proofs.Splits.{split_keeps, each_dealt, stays_out}
 use Rattle.desk_core.proofs.Views.{has_here, has_else, each_after, same_pen}
 use Rattle.desk_core.proofs.Stand.{not_idle, full_stands, answered_stands}
-use Rattle.desk_core.proofs.StepFacts.{draft_keeps, post_keeps, lead_keeps, miss_keeps, read_keeps, read_item_keeps, lay_keeps, answer_keeps, release_keeps, release_with_keeps, look_keeps, see_keeps, take_keeps, poster, apply_keeps}
+use Rattle.desk_core.proofs.StepFacts.{draft_keeps, post_keeps, lead_keeps, miss_keeps, read_keeps, read_item_keeps, lay_keeps, answer_keeps, release_keeps, release_by_keeps, look_keeps, see_keeps, take_keeps, poster, apply_keeps}
 use Rattle.desk_core.proofs.Clauses.{knows}
 use Rattle.desk_core.proofs.CallLines.{calls_are_lines}
 use Rattle.desk_core.proofs.Notes.{OnlyKnow, same_place, only_keeps, caught_up_at, written, heard, copied, testified, gathered}
@@ -45,7 +47,7 @@ Over d place serial =
 
 -- each pen that waits has begun its call
 abbrev pub WaitsBegun : Desk → List Act → Type 0
-WaitsBegun d history = (i : ℕ) (p : PenState) → Has d.views i p → (q : Request) → p.standing ≡ Waiting q → IsIn history (Begins p.place p.posts q)
+WaitsBegun d history = (i : ℕ) (p : PenState) → Has d.views i p → (q : Request) → p.standing ≡ Waiting q → IsIn history (Begins p.place p.posts (Asked q))
 
 -- Of the step of the pen p at the seat i of d, after which the pen is w: the posts, and that an idle pen
 -- stays idle or goes on to another serial.
@@ -81,19 +83,19 @@ over_stays d e i p w t k s (j, q, b, at, o) =
     (λ ne. (j, q, subst (λ vs. Has vs j q) (sym t.views) (has_else d.views i j w q ne b), at, o))
 
 waits_stay : (d e : Desk) (i : ℕ) (p w : PenState) (old new : List Act) → Steps d e i p w → WaitsBegun d old
-    → ((q : Request) → w.standing ≡ Waiting q → ((p.standing ≡ Waiting q) × (w.posts ≡ p.posts)) ⊎ IsIn new (Begins w.place w.posts q))
+    → ((q : Request) → w.standing ≡ Waiting q → ((p.standing ≡ Waiting q) × (w.posts ≡ p.posts)) ⊎ IsIn new (Begins w.place w.posts (Asked q)))
     → WaitsBegun e (old ++ new)
 waits_stay d e i p w old new t wb f j v b =
-    each_after d.views i w (λ _ y. (q : Request) → y.standing ≡ Waiting q → IsIn (old ++ new) (Begins y.place y.posts q))
+    each_after d.views i w (λ _ y. (q : Request) → y.standing ≡ Waiting q → IsIn (old ++ new) (Begins y.place y.posts (Asked q)))
     (λ q waits.
     ⊎_elim
     (λ u.
-    h.in_left old new (Begins w.place w.posts q)
-    (subst (λ k. IsIn old (Begins k w.posts q)) (sym t.place)
-    (subst (λ n. IsIn old (Begins p.place n q)) (sym u.1) (wb i p t.has q u.0))))
-    (λ u. h.in_right old new (Begins w.place w.posts q) u)
+    h.in_left old new (Begins w.place w.posts (Asked q))
+    (subst (λ k. IsIn old (Begins k w.posts (Asked q))) (sym t.place)
+    (subst (λ n. IsIn old (Begins p.place n (Asked q))) (sym u.1) (wb i p t.has q u.0))))
+    (λ u. h.in_right old new (Begins w.place w.posts (Asked q)) u)
     (f q waits))
-    (λ k y ne c q waits. h.in_left old new (Begins y.place y.posts q) (wb k y c q waits))
+    (λ k y ne c q waits. h.in_left old new (Begins y.place y.posts (Asked q)) (wb k y c q waits))
     j v (subst (λ vs. Has vs j v) t.views b)
 
 -- where the run stands, with what its callers have seen
@@ -117,7 +119,7 @@ one_in y x t = (h.one_alone y x t.0 t.1).1
 one_apart : (y : Act) (place serial place' serial' : ℕ) → Precedes (y ∷ []) place serial place' serial' → ⊥
 one_apart y place serial place' serial' t =
     let u = (h.one_alone y (Ends place serial t.answer) t.end t.ends).0 in
-    let v = (h.one_alone y (Begins place' serial' t.request) t.begin t.begins).0 in
+    let v = (h.one_alone y (Begins place' serial' t.operation) t.begin t.begins).0 in
     let lt = t.before in
     omega (arith, u, v, lt)
 
@@ -160,7 +162,7 @@ module _ (d e : Desk) (i : ℕ) (p w : PenState) (t : Steps d e i p w) (old : Li
         apart = none_apart;
       }
 
-  adds_begin : (journal : List Line) (k s : ℕ) (q : Request) → HasNo journal k s → h.Adds d.room (Over d) (Over e) old (Begins k s q ∷ []) journal journal
+  adds_begin : (journal : List Line) (k s : ℕ) (q : Operation) → HasNo journal k s → h.Adds d.room (Over d) (Over e) old (Begins k s q ∷ []) journal journal
   adds_begin journal k s q none =
       record {
         stays = over_stays d e i p w t;
@@ -196,7 +198,7 @@ module _ (d e : Desk) (i : ℕ) (p w : PenState) (t : Steps d e i p w) (old : Li
         apart = one_apart (Ends k s x);
       }
 
-  both_apart : (k s : ℕ) (q : Request) (x : Answer) (place serial place' serial' : ℕ) → Precedes (Begins k s q ∷ Ends k s x ∷ []) place serial place' serial' → ⊥
+  both_apart : (k s : ℕ) (q : Operation) (x : Answer) (place serial place' serial' : ℕ) → Precedes (Begins k s q ∷ Ends k s x ∷ []) place serial place' serial' → ⊥
   both_apart k s q x place serial place' serial' u =
       let lt = u.before in
       ⊎_elim
@@ -208,11 +210,11 @@ module _ (d e : Desk) (i : ℕ) (p w : PenState) (t : Steps d e i p w) (old : Li
       (λ y. (let c = y.0 in omega (arith, a, b, c, lt)))
       (λ y.
       (let c = y.1 in
-      let z = (h.one_alone (Ends k s x) (Begins place' serial' u.request) y.0 y.2).0 in omega (arith, a, b, c, z, lt)))
-      (h.get_cases (Begins k s q ∷ []) (Ends k s x ∷ []) u.begin (Begins place' serial' u.request) u.begins)))
+      let z = (h.one_alone (Ends k s x) (Begins place' serial' u.operation) y.0 y.2).0 in omega (arith, a, b, c, z, lt)))
+      (h.get_cases (Begins k s q ∷ []) (Ends k s x ∷ []) u.begin (Begins place' serial' u.operation) u.begins)))
       (h.get_cases (Begins k s q ∷ []) (Ends k s x ∷ []) u.end (Ends place serial u.answer) u.ends)
 
-  adds_both : (journal journal' : List Line) (k s : ℕ) (q : Request) (x : Answer) → h.Gains (Over d) (old ++ Begins k s q ∷ Ends k s x ∷ []) journal journal'
+  adds_both : (journal journal' : List Line) (k s : ℕ) (q : Operation) (x : Answer) → h.Gains (Over d) (old ++ Begins k s q ∷ Ends k s x ∷ []) journal journal'
       → Over e k s → IsTrueOf d.room journal' k s x → HasNo journal k s
       → h.Adds d.room (Over d) (Over e) old (Begins k s q ∷ Ends k s x ∷ []) journal journal'
   adds_both journal journal' k s q x g over true_of none =
@@ -254,7 +256,7 @@ module _ (d e : Desk) (i : ℕ) (p w : PenState) (t : Steps d e i p w) (old : Li
 
   at_on : (new : List Act) (journal journal' : List Line) (chief : ℕ) → At d old journal → RuleAt e journal' chief
       → h.Adds d.room (Over d) (Over e) old new journal journal'
-      → ((q : Request) → w.standing ≡ Waiting q → ((p.standing ≡ Waiting q) × (w.posts ≡ p.posts)) ⊎ IsIn new (Begins w.place w.posts q))
+      → ((q : Request) → w.standing ≡ Waiting q → ((p.standing ≡ Waiting q) × (w.posts ≡ p.posts)) ⊎ IsIn new (Begins w.place w.posts (Asked q)))
       → Goes d old journal e new
   at_on new journal journal' chief at rule adds f = (
     journal',
@@ -270,11 +272,11 @@ module _ (d e : Desk) (i : ℕ) (p w : PenState) (t : Steps d e i p w) (old : Li
   )
 
 -- the journal gains at most the line of what is answered
-gains_after : (over : ℕ → ℕ → Type 0) (seen : List Act) (journal : List Line) (k s : ℕ) (q : Request) (x : Answer) → (over k s → ⊥) → IsIn seen (Begins k s q)
-    → h.Gains over seen journal (journal_after journal k s q x)
-gains_after over seen journal k s q (Entered n r) busy has = inr (line k s q r, refl, busy, has)
-gains_after over seen journal k s q BookFull busy has = inl refl
-gains_after over seen journal k s q NoMemory busy has = inl refl
+gains_after : (over : ℕ → ℕ → Type 0) (seen : List Act) (journal : List Line) (k s : ℕ) (o : Operation) (x : Answer) → (over k s → ⊥) → IsIn seen (Begins k s o)
+    → h.Gains over seen journal (journal_by journal k s o x)
+gains_after over seen journal k s o (Entered n r) busy has = inr (line_of k s o r, refl, busy, has)
+gains_after over seen journal k s o BookFull busy has = inl refl
+gains_after over seen journal k s o NoMemory busy has = inl refl
 
 -- what a pen is told that finds an answer in its record, with its item, is true
 module _ (d : Desk) (journal : List Line) (chief : ℕ) (r : RuleAt d journal chief) (i : ℕ) (p : PenState) (a : Has d.views i p) where
@@ -288,7 +290,7 @@ module _ (d : Desk) (journal : List Line) (chief : ℕ) (r : RuleAt d journal ch
 
   calls_true : (q : Request) (x : Answer) → p.standing ≡ Waiting q → d.control p.place ≡ answered x → calls_of p.place journal ≡ p.mine ++ gained p.posts q x → IsTrueOf d.room journal p.place p.posts x
   calls_true q (Entered n y) waits at seen =
-      (q, calls_are_lines p.place journal (p.mine ++ call n p.posts q y ∷ []) seen (length p.mine) (call n p.posts q y) (get_last p.mine (call n p.posts q y)))
+      (Asked q, calls_are_lines p.place journal (p.mine ++ call n p.posts q y ∷ []) seen (length p.mine) (call n p.posts q y) (get_last p.mine (call n p.posts q y)))
   calls_true q BookFull waits at seen = (
     full_stands d.room journal (d.control p.place) (d.item p.place) p.place p.posts p.mine p.standing q waits at (r.pens i p a).stands,
     none_used q waits (seen ∙ append-nil p.mine),
@@ -302,21 +304,21 @@ module _ (d : Desk) (journal : List Line) (chief : ℕ) (r : RuleAt d journal ch
       (answered_stands d.room journal (d.control p.place) (d.item p.place) p.place p.posts p.mine p.standing q x waits at has (r.pens i p a).stands).1
 
   -- the answer to a request of its own is true behind it
-  own_true : (q : Request) (x : Answer) → MayAnswer d.room journal q x
-      → IsTrueOf d.room (journal_after journal p.place (p.posts + 1) q x) p.place (p.posts + 1) x
-  own_true q (Entered n y) may =
+  own_true : (o : Operation) (x : Answer) → MayDo d.room journal o x
+      → IsTrueOf d.room (journal_by journal p.place (p.posts + 1) o x) p.place (p.posts + 1) x
+  own_true o (Entered n y) may =
       let number = may.1 in
-      let l = line p.place (p.posts + 1) q y in
+      let l = line_of p.place (p.posts + 1) o y in
       let f : length journal ≡ n - 1 = omega (arith, number) in (
-        q,
+        o,
         record {
           some = omega (arith, number);
           within = omega (arith, number, length-append journal (l ∷ []));
           there = subst (λ m. slice_get (journal ++ l ∷ []) m ≡ Some l) f (get_last journal l);
         },
       )
-  own_true q BookFull may = (may, unused d journal chief r i p a)
-  own_true q NoMemory may = unused d journal chief r i p a
+  own_true o BookFull may = (may, unused d journal chief r i p a)
+  own_true o NoMemory may = unused d journal chief r i p a
 
 told_waits : (q q' : Request) (o : Option Answer) → standing_told q o ≡ Waiting q' → Waiting q ≡ Waiting q'
 told_waits q q' None e = e
@@ -361,10 +363,10 @@ module _ (laws : QueueLaws) (d : Desk) (old : List Act) (journal : List Line) (a
       let w = after_post p q (time d) in
       let t : Steps d e i p w =
       record { has = a; views = ap (λ (y : Desk). y.views) same; room = ap (λ (y : Desk). y.room) same; place = refl; posts = omega arith; idle = λ u. inl (omega arith) } in
-      at_on d e i p w t old (Begins p.place (p.posts + 1) q ∷ []) journal journal at.chief at
+      at_on d e i p w t old (Begins p.place (p.posts + 1) (Asked q) ∷ []) journal journal at.chief at
       (subst (λ y. RuleAt y journal at.chief) (sym same) (post_keeps d journal at.chief at.rule i p a (time d) q draft free few proper drafted))
-      (adds_begin d e i p w t old journal p.place (p.posts + 1) q (unused d journal at.chief at.rule i p a))
-      (λ q' u. inr (0, let f : Waiting q ≡ Waiting q' = u in let g : q ≡ q' = cc in ap (λ y. Some (Begins p.place (p.posts + 1) y)) g))
+      (adds_begin d e i p w t old journal p.place (p.posts + 1) (Asked q) (unused d journal at.chief at.rule i p a))
+      (λ q' u. inr (0, let f : Waiting q ≡ Waiting q' = u in let g : q ≡ q' = cc in ap (λ y. Some (Begins p.place (p.posts + 1) (Asked y))) g))
   step_at (Tries i) e (p, a, c) =
       ⊎_elim
       (λ u.
@@ -395,10 +397,10 @@ module _ (laws : QueueLaws) (d : Desk) (old : List Act) (journal : List Line) (a
       let asked : Carries (request_item q) (d.item k) = kept_carries (request_item q) due.item (d.item k) known there.2 in
       let theirs : Carries (request_item u.request) (d.item k) = subst (λ n. Carries (request_item u.request) (d.item n)) o.3 u.item in
       let is_q : u.request ≡ q = same_request (d.item k) u.request q theirs asked (u.kind ∙ sym is_kind) in
-      let begun : IsIn old (Begins k s q) =
-      subst (λ y. IsIn old (Begins k s y)) is_q
-      (subst (λ n. IsIn old (Begins k n u.request)) u.serial
-      (subst (λ n. IsIn old (Begins n v.posts u.request)) o.3 (at.waits o.0 v o.2 u.request u.waits))) in
+      let begun : IsIn old (Begins k s (Asked q)) =
+      subst (λ y. IsIn old (Begins k s (Asked y))) is_q
+      (subst (λ n. IsIn old (Begins k n (Asked u.request))) u.serial
+      (subst (λ n. IsIn old (Begins n v.posts (Asked u.request))) o.3 (at.waits o.0 v o.2 u.request u.waits))) in
       let serial = u.serial in
       let busy : Over d k s → ⊥ =
       λ over.
@@ -408,7 +410,7 @@ module _ (laws : QueueLaws) (d : Desk) (old : List Act) (journal : List Line) (a
       let js = journal_after journal k s q x in
       at_on d e i p w t old [] journal js at.chief at
       (subst (λ y. RuleAt y js at.chief) (sym same) (answer_keeps d journal at.chief r i p a laws due q x is_due is_kind known laid may))
-      (adds_none d e i p w t old journal js (gains_after (Over d) (old ++ []) journal k s q x busy (h.in_left old [] (Begins k s q) begun)))
+      (adds_none d e i p w t old journal js (gains_after (Over d) (old ++ []) journal k s (Asked q) x busy (h.in_left old [] (Begins k s (Asked q)) begun)))
       (λ y z. inl (z, refl))
   step_at (Applies i q x) e (p, a, leads, free, few, proper, may_hand, same) =
       let r = at.rule in
@@ -417,33 +419,33 @@ module _ (laws : QueueLaws) (d : Desk) (old : List Act) (journal : List Line) (a
       let w = after_apply p q x (time d) in
       let may : MayAnswer d.room journal q x = subst (λ js. MayAnswer d.room js q x) (r.led i p a leads).2 may_hand in
       let js = journal_after journal k s q x in
-      let new = Begins k s q ∷ Ends k s x ∷ [] in
+      let new = Begins k s (Asked q) ∷ Ends k s x ∷ [] in
       let t : Steps d e i p w = record { has = a; views = ap (λ (y : Desk). y.views) same; room = ap (λ (y : Desk). y.room) same; place = refl; posts = omega arith; idle = λ u. inl (omega arith) } in
       let busy : Over d k s → ⊥ = λ over. not_over d journal at.chief r i p a s (omega arith) (λ u. (let le = u.0 in omega (arith, le))) over in
-      let seen : IsIn (old ++ new) (Begins k s q) = h.in_right old new (Begins k s q) (0, refl) in
+      let seen : IsIn (old ++ new) (Begins k s (Asked q)) = h.in_right old new (Begins k s (Asked q)) (0, refl) in
       at_on d e i p w t old new journal js at.chief at
       (subst (λ y. RuleAt y js at.chief) (sym same) (apply_keeps d journal at.chief r i p a (time d) laws q x leads free few proper may_hand))
-      (adds_both d e i p w t old journal js k s q x (gains_after (Over d) (old ++ new) journal k s q x busy seen)
+      (adds_both d e i p w t old journal js k s (Asked q) x (gains_after (Over d) (old ++ new) journal k s (Asked q) x busy seen)
       (over_now d e i p w t s (omega arith) (None, refl))
-      (own_true d journal at.chief r i p a q x may)
+      (own_true d journal at.chief r i p a (Asked q) x may)
       (unused d journal at.chief r i p a))
       (λ y z. absurd (never_waits None y z))
   step_at (Releases i) e (p, a, leads, same) =
       asks_on e i p (after_release p) at.chief a (ap (λ (y : Desk). y.views) same) (ap (λ (y : Desk). y.room) same) refl refl refl
       (subst (λ y. RuleAt y journal at.chief) (sym same) (release_keeps d journal at.chief at.rule i p a leads))
-  step_at (ReleasesWith i q x) e (p, a, leads, none, free, few, proper, may_hand, same) =
+  step_at (ReleasesBy i q x) e (p, a, leads, none, free, few, proper, may_hand, same) =
       let r = at.rule in
       let k = p.place in
       let s = p.posts + 1 in
-      let w = after_release_with p q x (time d) in
-      let may : MayAnswer d.room journal q x = subst (λ js. MayAnswer d.room js q x) (r.led i p a leads).2 may_hand in
-      let js = journal_after journal k s q x in
+      let w = after_release_by p q x (time d) in
+      let may : MayDo d.room journal q x = subst (λ js. MayDo d.room js q x) (r.led i p a leads).2 may_hand in
+      let js = journal_by journal k s q x in
       let new = Begins k s q ∷ Ends k s x ∷ [] in
       let t : Steps d e i p w = record { has = a; views = ap (λ (y : Desk). y.views) same; room = ap (λ (y : Desk). y.room) same; place = refl; posts = omega arith; idle = λ u. inl (omega arith) } in
       let busy : Over d k s → ⊥ = λ over. not_over d journal at.chief r i p a s (omega arith) (λ u. (let le = u.0 in omega (arith, le))) over in
       let seen : IsIn (old ++ new) (Begins k s q) = h.in_right old new (Begins k s q) (0, refl) in
       at_on d e i p w t old new journal js at.chief at
-      (subst (λ y. RuleAt y js at.chief) (sym same) (release_with_keeps d journal at.chief r i p a (time d) laws q x leads none free few proper may_hand))
+      (subst (λ y. RuleAt y js at.chief) (sym same) (release_by_keeps d journal at.chief r i p a (time d) laws q x leads none free few proper may_hand))
       (adds_both d e i p w t old journal js k s q x (gains_after (Over d) (old ++ new) journal k s q x busy seen)
       (over_now d e i p w t s (omega arith) (None, refl))
       (own_true d journal at.chief r i p a q x may)
@@ -501,8 +503,8 @@ module _ (laws : QueueLaws) (d : Desk) (old : List Act) (journal : List Line) (a
           kept = subst (λ n. h.Kept n (Over e) (old ++ []) journal) (sym room)
               (h.kept_on d.room (Over d) (Over e) old [] journal journal at.kept adds (subst (λ n. length journal ≤ n) room rule.lawful.within));
           waits = λ j q b.
-              each_dealt d journal at.chief at.rule i k m a inside (λ _ y. (x : Request) → y.standing ≡ Waiting x → IsIn (old ++ []) (Begins y.place y.posts x))
-              (λ j' y c x u. h.in_left old [] (Begins y.place y.posts x) (at.waits j' y c x u))
+              each_dealt d journal at.chief at.rule i k m a inside (λ _ y. (x : Request) → y.standing ≡ Waiting x → IsIn (old ++ []) (Begins y.place y.posts (Asked x)))
+              (λ j' y c x u. h.in_left old [] (Begins y.place y.posts (Asked x)) (at.waits j' y c x u))
               (λ x u. absurd (never_waits None x u))
               j q (subst (λ vs. Has vs j q) views b);
         },
@@ -540,8 +542,8 @@ module _ (laws : QueueLaws) (d : Desk) (old : List Act) (journal : List Line) (a
               (h.kept_on d.room (Over d) (Over e) old [] journal journal at.kept adds (subst (λ n. length journal ≤ n) room rule.lawful.within));
           waits = λ j q b.
               (let u = t.was j q (subst (λ vs. Has vs j q) now b) in
-              subst (λ (v : PenState). (x : Request) → v.standing ≡ Waiting x → IsIn (old ++ []) (Begins v.place v.posts x)) (sym u.2.same)
-              (λ x w. h.in_left old [] (Begins u.0.place u.0.posts x) (at.waits j u.0 u.1 x w)));
+              subst (λ (v : PenState). (x : Request) → v.standing ≡ Waiting x → IsIn (old ++ []) (Begins v.place v.posts (Asked x))) (sym u.2.same)
+              (λ x w. h.in_left old [] (Begins u.0.place u.0.posts (Asked x)) (at.waits j u.0 u.1 x w)));
         },
         room,
       )
@@ -577,7 +579,7 @@ line_before journal journal' place c s at le =
     ⊎_elim
     (λ t. record { some = at.some; within = le; there = t.1 })
     (λ t. absurd (let e = t.1 in omega (arith, e, le, some)))
-    (h.get_cases journal s.0 (c.number - 1) (line place c.serial c.request c.reply) (subst (λ js. slice_get js (c.number - 1) ≡ Some (line place c.serial c.request c.reply)) s.1 at.there))
+    (h.get_cases journal s.0 (c.number - 1) (line_of place c.serial c.operation c.reply) (subst (λ js. slice_get js (c.number - 1) ≡ Some (line_of place c.serial c.operation c.reply)) s.1 at.there))
 
 pub all_shorter : (P : Line → Type 0) (xs ys : List Line) → AllByRecursion P (xs ++ ys) → AllByRecursion P xs
 all_shorter P [] ys u = tt

@@ -9,9 +9,9 @@ use Rattle.pq_types.specs.Control.{posted, answered, is_answer}
 use Rattle.pq_book.specs.Book.{Volume}
 use Rattle.desk_core.specs.declared.model.PenState.{PenState}
 use Rattle.desk_core.specs.declared.model.View.TheVariants.{Holder}
-use Rattle.desk_core.specs.Pen.{IsIdle, after_draft, after_post, after_lead, after_miss, after_read, after_read_item, after_lay, after_answer, after_apply, after_release, after_release_with, after_look, after_see, after_take}
+use Rattle.desk_core.specs.Pen.{IsIdle, after_draft, after_post, after_lead, after_miss, after_read, after_read_item, after_lay, after_answer, after_apply, after_release, after_release_by, after_look, after_see, after_take}
 use Rattle.desk_core.specs.Desk.{Desk, time, Has, put}
-use Rattle.desk_core.specs.Steps.{Event, Drafts, Posts, Tries, Reads, ReadsItem, LaysItem, Answers, Applies, Releases, ReleasesWith, Looks, SeesItem, TakesItem, actor, Step}
+use Rattle.desk_core.specs.Steps.{Event, Drafts, Posts, Tries, Reads, ReadsItem, LaysItem, Answers, Applies, Releases, ReleasesBy, Looks, SeesItem, TakesItem, actor, Step}
 use Rattle.desk_core.specs.Rule.{MeetsRule}
 use Rattle.desk_core.specs.Leads.{HasPosted, IsAnswered, HasAnswer, AnswersStay}
 use Rattle.desk_core.proofs.Records.{put_else, no_post}
@@ -103,10 +103,10 @@ moves d (Applies i q x) e m (p, a, leads, free, few, proper, may, same) =
     }
 moves d (Releases i) e m (p, a, leads, same) =
     subst (λ y. Moved d y i) (sym same) (same_controls d false d.item _ i p (after_release p) a refl refl (λ f. f))
-moves d (ReleasesWith i q x) e m (p, a, leads, none, free, few, proper, may, same) =
+moves d (ReleasesBy i q x) e m (p, a, leads, none, free, few, proper, may, same) =
     subst (λ y. Moved d y i) (sym same) record {
       before = p;
-      after = after_release_with p q x (time d);
+      after = after_release_by p q x (time d);
       has = a;
       views = refl;
       place = refl;

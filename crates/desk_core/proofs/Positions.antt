@@ -4,7 +4,8 @@ use Rattle.std.specs.Prelude.{Some}
 use mathlib.Core.Logic.{dite}
 use native.Mathlib.Decide.{ℕ_discrete, dec_lt}
 use Rattle.atomic_table.proofs.Lists.{set_else}
-use Rattle.pq_types.specs.Asked.{Request}
+use Rattle.pq_types.specs.Asked.{Operation}
+use Rattle.pq_types.specs.Operation.{Asked}
 use Rattle.pq_types.specs.Asked.{Answer}
 use Rattle.desk_core.specs.Desk.{Has, acts_number, time, put, dealer_opening}
 use Rattle.desk_core.specs.Linearizable.{Act, Begins, Ends, TakeTurns}
@@ -32,7 +33,7 @@ within (y ∷ xs) zero x e = omega arith
 within (y ∷ xs) (suc n) x e = let h = within xs n x e in omega (arith, h)
 
 abbrev place_of : Act → ℕ
-place_of (Begins place serial request) = place
+place_of (Begins place serial operation) = place
 place_of (Ends place serial answer) = place
 
 -- the act at a position that a pen keeps is one of its place
@@ -125,47 +126,47 @@ every_run_is_whole laws places room moves d small run i p a =
     (reached_meet laws places room d small (moves, run)).2.seated.apart i p a
 
 -- a call that begins has a serial above the last of its place
-rises : (place serial : ℕ) (request : Request) (last : ℕ → ℕ) (open_at : ℕ → Bool) (history : List Act) (n : ℕ)
-    → TakeTurns last open_at history → slice_get history n ≡ Some (Begins place serial request) → last place < serial
-rises place serial request last open_at [] n t e = absurd (cc e)
-rises place serial request last open_at (Begins k s q ∷ history) zero t e =
-    let f : Begins k s q ≡ Begins place serial request = cc in
+rises : (place serial : ℕ) (operation : Operation) (last : ℕ → ℕ) (open_at : ℕ → Bool) (history : List Act) (n : ℕ)
+    → TakeTurns last open_at history → slice_get history n ≡ Some (Begins place serial operation) → last place < serial
+rises place serial operation last open_at [] n t e = absurd (cc e)
+rises place serial operation last open_at (Begins k s q ∷ history) zero t e =
+    let f : Begins k s q ≡ Begins place serial operation = cc in
     let at : k ≡ place = cc in
     let is : s ≡ serial = cc in
     subst (λ h. last h < serial) at (subst (λ h. last k < h) is t.1)
-rises place serial request last open_at (Begins k s q ∷ history) (suc n) t e =
-    let r = rises place serial request (put last k s) (put open_at k true) history n t.2 e in
+rises place serial operation last open_at (Begins k s q ∷ history) (suc n) t e =
+    let r = rises place serial operation (put last k s) (put open_at k true) history n t.2 e in
     dite (ℕ_discrete place k)
     (λ at.
     (let here : put last k s place ≡ s = subst (λ h. put last k s h ≡ s) (sym at) (put_here last k s) in
     let was : last place < s = subst (λ h. last h < s) (sym at) t.1 in
     omega (arith, r, here, was)))
     (λ ne. (let else = put_else last k s place ne in omega (arith, r, else)))
-rises place serial request last open_at (Ends k s x ∷ history) zero t e = absurd (let f : Ends k s x ≡ Begins place serial request = cc in cc)
-rises place serial request last open_at (Ends k s x ∷ history) (suc n) t e = rises place serial request last (put open_at k false) history n t.2 e
+rises place serial operation last open_at (Ends k s x ∷ history) zero t e = absurd (let f : Ends k s x ≡ Begins place serial operation = cc in cc)
+rises place serial operation last open_at (Ends k s x ∷ history) (suc n) t e = rises place serial operation last (put open_at k false) history n t.2 e
 
 -- a call begins before it ends
-begins_first : (place serial : ℕ) (request : Request) (answer : Answer) (last : ℕ → ℕ) (open_at : ℕ → Bool) (history : List Act) (n m : ℕ)
-    → TakeTurns last open_at history → slice_get history n ≡ Some (Begins place serial request)
+begins_first : (place serial : ℕ) (operation : Operation) (answer : Answer) (last : ℕ → ℕ) (open_at : ℕ → Bool) (history : List Act) (n m : ℕ)
+    → TakeTurns last open_at history → slice_get history n ≡ Some (Begins place serial operation)
     → slice_get history m ≡ Some (Ends place serial answer) → n < m
-begins_first place serial request answer last open_at [] n m t e f = absurd (cc e)
-begins_first place serial request answer last open_at (x ∷ history) zero zero t e f =
-    absurd (let g : Some (Begins place serial request) ≡ Some (Ends place serial answer) = sym e ∙ f in cc)
-begins_first place serial request answer last open_at (x ∷ history) zero (suc m) t e f = omega arith
-begins_first place serial request answer last open_at (Begins k s q ∷ history) (suc n) zero t e f =
+begins_first place serial operation answer last open_at [] n m t e f = absurd (cc e)
+begins_first place serial operation answer last open_at (x ∷ history) zero zero t e f =
+    absurd (let g : Some (Begins place serial operation) ≡ Some (Ends place serial answer) = sym e ∙ f in cc)
+begins_first place serial operation answer last open_at (x ∷ history) zero (suc m) t e f = omega arith
+begins_first place serial operation answer last open_at (Begins k s q ∷ history) (suc n) zero t e f =
     absurd (let g : Begins k s q ≡ Ends place serial answer = cc in cc)
-begins_first place serial request answer last open_at (Ends k s y ∷ history) (suc n) zero t e f =
+begins_first place serial operation answer last open_at (Ends k s y ∷ history) (suc n) zero t e f =
     let g : Ends k s y ≡ Ends place serial answer = cc in
     let at : k ≡ place = cc in
     let is : s ≡ serial = cc in
-    let r = rises place serial request last (put open_at k false) history n t.2 e in
+    let r = rises place serial operation last (put open_at k false) history n t.2 e in
     let same : last place ≡ serial = subst (λ h. last h ≡ serial) at (t.1 ∙ is) in
     absurd (omega (arith, r, same))
-begins_first place serial request answer last open_at (Begins k s q ∷ history) (suc n) (suc m) t e f =
-    let h = begins_first place serial request answer (put last k s) (put open_at k true) history n m t.2 e f in
+begins_first place serial operation answer last open_at (Begins k s q ∷ history) (suc n) (suc m) t e f =
+    let h = begins_first place serial operation answer (put last k s) (put open_at k true) history n m t.2 e f in
     omega (arith, h)
-begins_first place serial request answer last open_at (Ends k s y ∷ history) (suc n) (suc m) t e f =
-    let h = begins_first place serial request answer last (put open_at k false) history n m t.2 e f in
+begins_first place serial operation answer last open_at (Ends k s y ∷ history) (suc n) (suc m) t e f =
+    let h = begins_first place serial operation answer last (put open_at k false) history n m t.2 e f in
     omega (arith, h)
 
 -- where the pen p at a seat has become w, and all else of the views is as it was

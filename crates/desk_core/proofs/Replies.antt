@@ -1,15 +1,18 @@
 -- Each call that a pen has read whole has a reply to its request.
 use Rattle.std.proofs.Common.{ℕ, ◌+◌, inl, inr, ⊎_elim, Bool, true, false, List, [], ◌∷◌, ◌++◌, refl, sym, subst}
-use Rattle.std.specs.Prelude.{◌==◌, if◌then◌else◌}
+use Rattle.std.specs.Prelude.{◌==◌, if◌then◌else◌, Option, Some, None, map}
 use Rattle.std.specs.List.{AllByRecursion}
 use Rattle.pq_types.specs.Item.{Item}
+use Rattle.pq_types.specs.Asked.{Operation}
 use Rattle.pq_types.specs.Asked.{Request}
 use Rattle.pq_types.specs.declared.request.Request.TheVariants.{Push, Pop, Least}
 use Rattle.pq_types.specs.Asked.{Line}
-use Rattle.pq_types.specs.Queue.{reply_to, content_after}
+use Rattle.pq_types.specs.Operation.{Asked, ByTicket, Remove, request_of}
+use Rattle.pq_types.specs.Queue.{reply_to}
+use Rattle.pq_types.specs.Entry.{Entry, item_of, item_at, taken, entries_after, reply_by}
 use Rattle.pq_types.specs.History.{IsLegalFrom}
 use Rattle.desk_core.specs.declared.model.Call.{Call}
-use Rattle.desk_core.specs.Calls.{call, calls_from}
+use Rattle.desk_core.specs.Calls.{call, call_of, calls_from}
 use Rattle.desk_core.specs.Knows.{IsReplyTo, CallsHaveReplies}
 use Rattle.desk_core.proofs.Clauses.{knows}
 
@@ -21,19 +24,27 @@ queue_replies (y ∷ content) Pop = inr (y, refl)
 queue_replies [] Least = inl refl
 queue_replies (y ∷ content) Least = inr (y, refl)
 
+taken_fits : (o : Option Item) → IsReplyTo Pop (taken o)
+taken_fits None = inl refl
+taken_fits (Some x) = inr (x, refl)
+
+line_fits : (es : List Entry) (o : Operation) → IsReplyTo (request_of o) (reply_by es o)
+line_fits es (Asked q) = queue_replies (map item_of es) q
+line_fits es (ByTicket (Remove i)) = taken_fits (item_at i es)
+
 abbrev Fits : Call → Type 0
-Fits c = IsReplyTo c.request c.reply
+Fits c = IsReplyTo (request_of c.operation) c.reply
 
 fits_more : (b : Bool) (c : Call) (cs : List Call) → Fits c → AllByRecursion Fits cs → AllByRecursion Fits (if b then c ∷ cs else cs)
 fits_more true c cs h hs = (h, hs)
 fits_more false c cs h hs = hs
 
-legal_fits : (n place : ℕ) (content : List Item) (journal : List Line) → IsLegalFrom content journal → AllByRecursion Fits (calls_from n place journal)
-legal_fits n place content [] h = tt
-legal_fits n place content (l ∷ ls) h =
-    fits_more (l.place == place) (call n l.serial l.request l.reply) (calls_from (n + 1) place ls)
-    (subst (IsReplyTo l.request) (sym h.0) (queue_replies content l.request))
-    (legal_fits (n + 1) place (content_after content l.request) ls h.1)
+legal_fits : (n place : ℕ) (es : List Entry) (journal : List Line) → IsLegalFrom es n journal → AllByRecursion Fits (calls_from n place journal)
+legal_fits n place es [] h = tt
+legal_fits n place es (l ∷ ls) h =
+    fits_more (l.place == place) (call_of n l.serial l.operation l.reply) (calls_from (n + 1) place ls)
+    (subst (IsReplyTo (request_of l.operation)) (sym h.0) (line_fits es l.operation))
+    (legal_fits (n + 1) place (entries_after es n l.operation) ls h.1)
 
 all_front : (xs ys : List Call) → AllByRecursion Fits (xs ++ ys) → AllByRecursion Fits xs
 all_front [] ys h = tt

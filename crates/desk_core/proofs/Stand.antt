@@ -1,9 +1,11 @@
 -- What stands in a pen's record, by cases.
-use Rattle.std.proofs.Common.{◌≡◌, ◌≢◌, ℕ, ◌+◌, ◌-◌, ◌<◌, ◌≤◌, ◌⊎◌, inl, inr, Bool, true, List, [], ◌∷◌, ◌++◌, length, refl, ap, sym, ◌∙◌, subst, arith, append-nil, append_assoc, length-append}
+use Rattle.std.proofs.Common.{map, ◌≡◌, ◌≢◌, ℕ, ◌+◌, ◌-◌, ◌<◌, ◌≤◌, ◌⊎◌, inl, inr, Bool, true, List, [], ◌∷◌, ◌++◌, length, refl, ap, sym, ◌∙◌, subst, arith, append-nil, append_assoc, length-append}
 use Rattle.std.specs.Prelude.{Option, Some, None, slice_get}
 use Rattle.std.specs.List.{AllByRecursion}
 use Rattle.pq_types.specs.Item.{Item}
-use Rattle.pq_types.specs.Asked.{Request}
+use Rattle.pq_types.specs.Asked.{Request, Operation}
+use Rattle.pq_types.specs.Entry.{item_of, IsProperOperationOf}
+use Rattle.pq_types.specs.Operation.{Asked}
 use Rattle.pq_types.specs.Asked.{Answer}
 use Rattle.pq_types.specs.declared.answer.Answer.TheVariants.{Entered, BookFull, NoMemory}
 use Rattle.pq_types.specs.declared.control.Kind.{Kind}
@@ -17,12 +19,12 @@ use Rattle.pq_types.specs.declared.journal.TheConstants.{GREATEST_NUMBER}
 use Rattle.pq_types.specs.Queue.{IsProperRequestOf, IsProperReplyOf, AreItemsOf}
 use Rattle.pq_types.specs.Control.{kind_of, request_item, answer_item, posted, answered, Carries, is_posted, is_answer}
 use Rattle.pq_types.specs.Mail.{IsLineNumber}
-use Rattle.pq_types.specs.History.{line, left, journal_after, MayAnswer}
+use Rattle.pq_types.specs.History.{line, line_of, left, entries_of, journal_by, journal_after, MayAnswer, MayDo}
 use Rattle.pq_types.specs.Laws.{RepliesAreProper}
 use Rattle.desk_core.specs.declared.model.Call.{Call}
 use Rattle.desk_core.specs.declared.model.Standing.{Standing}
 use Rattle.desk_core.specs.declared.model.Standing.TheVariants.{Idle, Waiting}
-use Rattle.desk_core.specs.Calls.{call, calls_of, gained}
+use Rattle.desk_core.specs.Calls.{call, call_of, calls_of, gained, gained_by}
 use Rattle.desk_core.specs.Pen.{IsIdle, told_full_by}
 use Rattle.desk_core.specs.Rule.{Stands, fresh, idle, unanswered, entered, full, refused, StartsWith, Lawful}
 use Rattle.desk_core.proofs.Records.{no_post, not_both, no_item, same_answer}
@@ -46,32 +48,32 @@ pub record Unanswered (journal : List Line) (cell : Item) (place posts : ℕ) (s
   pub lines : calls_of place journal ≡ mine
 
 -- the calls of a place after an answer there
-own_calls : (room : ℕ) (journal : List Line) (place s : ℕ) (q : Request) (a : Answer) → MayAnswer room journal q a → (mine : List Call)
+own_calls : (room : ℕ) (journal : List Line) (place s : ℕ) (q : Operation) (a : Answer) → MayDo room journal q a → (mine : List Call)
     → calls_of place journal ≡ mine
-    → calls_of place (journal_after journal place s q a) ≡ mine ++ gained s q a
+    → calls_of place (journal_by journal place s q a) ≡ mine ++ gained_by s q a
 own_calls room journal place s q (Entered l r) may mine seen =
     let e : 1 + length journal ≡ l = omega (arith, may.1) in
-    calls_here 1 place journal s q r ∙ (ap (λ c. c ++ call (1 + length journal) s q r ∷ []) seen ∙ ap (λ m. mine ++ call m s q r ∷ []) e)
+    calls_here 1 place journal s q r ∙ (ap (λ c. c ++ call_of (1 + length journal) s q r ∷ []) seen ∙ ap (λ m. mine ++ call_of m s q r ∷ []) e)
 own_calls room journal place s q BookFull may mine seen = seen ∙ sym (append-nil mine)
 own_calls room journal place s q NoMemory may mine seen = seen ∙ sym (append-nil mine)
 
 -- a full journal stays as it is
-pub full_stays : (room : ℕ) (journal : List Line) (place s : ℕ) (q : Request) (a : Answer) → MayAnswer room journal q a → length journal ≡ room
-    → length (journal_after journal place s q a) ≡ room
+pub full_stays : (room : ℕ) (journal : List Line) (place s : ℕ) (q : Operation) (a : Answer) → MayDo room journal q a → length journal ≡ room
+    → length (journal_by journal place s q a) ≡ room
 full_stays room journal place s q (Entered l r) may all = absurd (let lt = may.0 in omega (arith, lt, all))
 full_stays room journal place s q BookFull may all = all
 full_stays room journal place s q NoMemory may all = all
 
 -- no line comes to it, so no answer with one
-pub full_bars : (room : ℕ) (journal : List Line) (q : Request) (a : Answer) → MayAnswer room journal q a → length journal ≡ room → (n : ℕ) (o : Outcome)
+pub full_bars : (room : ℕ) (journal : List Line) (q : Operation) (a : Answer) → MayDo room journal q a → length journal ≡ room → (n : ℕ) (o : Outcome)
     → answered a ≢ Answered (notice.Entered n o)
 full_bars room journal q (Entered l r) may all n o h = let lt = may.0 in omega (arith, lt, all)
 full_bars room journal q BookFull may all n o h = let f : answered BookFull ≡ Answered (notice.Entered n o) = h in cc
 full_bars room journal q NoMemory may all n o h = let f : answered NoMemory ≡ Answered (notice.Entered n o) = h in cc
 
 -- and it is full for whoever is told so of a request of its own
-pub own_filled : (room : ℕ) (journal : List Line) (place s : ℕ) (q : Request) (a : Answer) (before : Bool) → MayAnswer room journal q a
-    → (before ≡ true → length journal ≡ room) → told_full_by before a ≡ true → length (journal_after journal place s q a) ≡ room
+pub own_filled : (room : ℕ) (journal : List Line) (place s : ℕ) (q : Operation) (a : Answer) (before : Bool) → MayDo room journal q a
+    → (before ≡ true → length journal ≡ room) → told_full_by before a ≡ true → length (journal_by journal place s q a) ≡ room
 own_filled room journal place s q (Entered l r) before may was h = full_stays room journal place s q (Entered l r) may (was h)
 own_filled room journal place s q BookFull before may was h = may
 own_filled room journal place s q NoMemory before may was h = was h
@@ -194,14 +196,14 @@ module _ (room : ℕ) (journal : List Line) (control : Control) (cell : Item) (p
       let f : length journal ≡ l - 1 = omega (arith, may.1) in
       let n : IsLineNumber l = (omega (arith, may.1), omega (arith, may.0, may.1)) in
       entered q l r w some (n, subst (IsProperReplyOf true) (sym may.2) (reply_proper true (left journal) q items)) refl has
-      (calls_here 1 place journal posts q r ∙ (ap (λ c. c ++ call (1 + length journal) posts q r ∷ []) seen ∙ ap (λ m. mine ++ call m posts q r ∷ []) e))
+      (calls_here 1 place journal posts (Asked q) r ∙ (ap (λ c. c ++ call (1 + length journal) posts q r ∷ []) seen ∙ ap (λ m. mine ++ call m posts q r ∷ []) e))
       (subst (λ m. slice_get (journal ++ line place posts q r ∷ []) m ≡ Some (line place posts q r)) f (get_last journal (line place posts q r)))
   served_stands reply_proper q BookFull small items may has w some seen = full q w some refl may seen
   served_stands reply_proper q NoMemory small items may has w some seen = refused q w some may.1 refl seen
 
   -- after a request of its own, answered under its next serial: no word of the record has changed
-  pub own_stands : (q : Request) (a : Answer) → MayAnswer room journal q a → IsIdle standing → Stands room journal control cell place posts standing mine
-      → Stands room (journal_after journal place (posts + 1) q a) control cell place (posts + 1) (Idle None) (mine ++ gained (posts + 1) q a)
+  pub own_stands : (q : Operation) (a : Answer) → MayDo room journal q a → IsIdle standing → Stands room journal control cell place posts standing mine
+      → Stands room (journal_by journal place (posts + 1) q a) control cell place (posts + 1) (Idle None) (mine ++ gained_by (posts + 1) q a)
   own_stands q a may free (fresh x w draft at seen) = fresh None refl tt at (own_calls room journal place (posts + 1) q a may mine seen)
   own_stands q a may free (idle x w draft some at seen) = idle None refl tt (omega arith) at (own_calls room journal place (posts + 1) q a may mine seen)
   own_stands q a may free (unanswered u w proper some at item seen) = absurd (not_idle standing u w free)
@@ -210,47 +212,47 @@ module _ (room : ℕ) (journal : List Line) (control : Control) (cell : Item) (p
   own_stands q a may free (refused u w some push at seen) = absurd (not_idle standing u w free)
 
   -- after an answer at another place
-  pub other_stands : (k s : ℕ) (q : Request) (a : Answer) → k ≢ place → MayAnswer room journal q a
-      → Stands room journal control cell place posts standing mine → Stands room (journal_after journal k s q a) control cell place posts standing mine
+  pub other_stands : (k s : ℕ) (q : Operation) (a : Answer) → k ≢ place → MayDo room journal q a
+      → Stands room journal control cell place posts standing mine → Stands room (journal_by journal k s q a) control cell place posts standing mine
   other_stands k s q BookFull ne may h = h
   other_stands k s q NoMemory ne may h = h
   other_stands k s q (Entered l r) ne may (fresh x w draft at seen) = fresh x w draft at (calls_elsewhere 1 place k journal s q r ne ∙ seen)
   other_stands k s q (Entered l r) ne may (idle x w draft some at seen) = idle x w draft some at (calls_elsewhere 1 place k journal s q r ne ∙ seen)
   other_stands k s q (Entered l r) ne may (unanswered u w proper some at item seen) = unanswered u w proper some at item (calls_elsewhere 1 place k journal s q r ne ∙ seen)
   other_stands k s q (Entered l r) ne may (entered u m v w some proper at item seen there) =
-      entered u m v w some proper at item (calls_elsewhere 1 place k journal s q r ne ∙ seen) (get_more journal (line k s q r ∷ []) (m - 1) (line place posts u v) there)
+      entered u m v w some proper at item (calls_elsewhere 1 place k journal s q r ne ∙ seen) (get_more journal (line_of k s q r ∷ []) (m - 1) (line place posts u v) there)
   other_stands k s q (Entered l r) ne may (full u w some at all seen) = absurd (let lt = may.0 in omega arith)
   other_stands k s q (Entered l r) ne may (refused u w some push at seen) = refused u w some push at (calls_elsewhere 1 place k journal s q r ne ∙ seen)
 
 -- the serials of what it has read stay below its next post
-pub gained_below : (posts : ℕ) (q : Request) (a : Answer) (mine : List Call) → AllByRecursion (λ c. c.serial < posts) mine
-    → AllByRecursion (λ c. c.serial < posts + 1) (mine ++ gained posts q a)
-gained_below posts q (Entered l r) mine h = all_more (λ (c : Call). c.serial < posts + 1) mine (call l posts q r) (all_weaker (λ (c : Call). c.serial < posts) (λ (c : Call). c.serial < posts + 1) mine (λ c k. omega arith) h) (omega arith)
+pub gained_below : (posts : ℕ) (q : Operation) (a : Answer) (mine : List Call) → AllByRecursion (λ c. c.serial < posts) mine
+    → AllByRecursion (λ c. c.serial < posts + 1) (mine ++ gained_by posts q a)
+gained_below posts q (Entered l r) mine h = all_more (λ (c : Call). c.serial < posts + 1) mine (call_of l posts q r) (all_weaker (λ (c : Call). c.serial < posts) (λ (c : Call). c.serial < posts + 1) mine (λ c k. omega arith) h) (omega arith)
 gained_below posts q BookFull mine h = rw append-nil (all_weaker (λ (c : Call). c.serial < posts) (λ (c : Call). c.serial < posts + 1) mine (λ c k. omega arith) h)
 gained_below posts q NoMemory mine h = rw append-nil (all_weaker (λ (c : Call). c.serial < posts) (λ (c : Call). c.serial < posts + 1) mine (λ c k. omega arith) h)
 
 -- what it knows stays a beginning of the journal
-pub known_keeps : (journal known : List Line) (k s : ℕ) (q : Request) (a : Answer) → StartsWith journal known → StartsWith (journal_after journal k s q a) known
-known_keeps journal known k s q (Entered l r) h = (h.0 ++ line k s q r ∷ [], ap (λ js. js ++ line k s q r ∷ []) h.1 ∙ append_assoc known h.0 (line k s q r ∷ []))
+pub known_keeps : (journal known : List Line) (k s : ℕ) (q : Operation) (a : Answer) → StartsWith journal known → StartsWith (journal_by journal k s q a) known
+known_keeps journal known k s q (Entered l r) h = (h.0 ++ line_of k s q r ∷ [], ap (λ js. js ++ line_of k s q r ∷ []) h.1 ∙ append_assoc known h.0 (line_of k s q r ∷ []))
 known_keeps journal known k s q BookFull h = h
 known_keeps journal known k s q NoMemory h = h
 
 -- an answer to a proper request, whose serial is above all of its place, keeps the journal lawful
-pub lawful_keeps : QueueLaws → (room : ℕ) (journal : List Line) (k s : ℕ) (q : Request) (a : Answer) → IsProperRequestOf true q → MayAnswer room journal q a
-    → AllByRecursion (λ c. c.serial < s) (calls_of k journal) → Lawful room journal → Lawful room (journal_after journal k s q a)
+pub lawful_keeps : QueueLaws → (room : ℕ) (journal : List Line) (k s : ℕ) (q : Operation) (a : Answer) → IsProperOperationOf true q → MayDo room journal q a
+    → AllByRecursion (λ c. c.serial < s) (calls_of k journal) → Lawful room journal → Lawful room (journal_by journal k s q a)
 lawful_keeps laws room journal k s q (Entered l r) proper may below h =
     record {
-      legal = laws.legal journal (line k s q r) h.legal may.2;
-      rise = laws.rise journal (line k s q r) h.rise (lines_below 1 k s journal below);
-      within = (let lt = may.0 in omega (arith, length-append journal (line k s q r ∷ [])));
-      items = subst (AreItemsOf true) (sym (laws.left journal (line k s q r))) (laws.content true (left journal) q proper h.items);
+      legal = laws.legal journal (line_of k s q r) h.legal may.2;
+      rise = laws.rise journal (line_of k s q r) h.rise (lines_below 1 k s journal below);
+      within = (let lt = may.0 in omega (arith, length-append journal (line_of k s q r ∷ [])));
+      items = subst (λ es. AreItemsOf true (map item_of es)) (sym (laws.enters journal (line_of k s q r))) (laws.entries true (entries_of journal) (length journal + 1) q proper h.items);
     }
 lawful_keeps laws room journal k s q BookFull proper may below h = h
 lawful_keeps laws room journal k s q NoMemory proper may below h = h
 
 -- the lines of other places
-pub keeps_unwritten : (place k s : ℕ) (q : Request) (a : Answer) → k ≢ place → (journal : List Line)
-    → calls_of place (journal_after journal k s q a) ≡ calls_of place journal
+pub keeps_unwritten : (place k s : ℕ) (q : Operation) (a : Answer) → k ≢ place → (journal : List Line)
+    → calls_of place (journal_by journal k s q a) ≡ calls_of place journal
 keeps_unwritten place k s q (Entered l r) ne journal = calls_elsewhere 1 place k journal s q r ne
 keeps_unwritten place k s q BookFull ne journal = refl
 keeps_unwritten place k s q NoMemory ne journal = refl

@@ -5,7 +5,9 @@ use Rattle.std.specs.List.{AllByRecursion}
 use mathlib.Core.Logic.{dite}
 use native.Mathlib.Decide.{ℕ_discrete}
 use Rattle.pq_types.specs.Item.{Item}
-use Rattle.pq_types.specs.Asked.{Request}
+use Rattle.pq_types.specs.Asked.{Request, Operation}
+use Rattle.pq_types.specs.Operation.{Asked}
+use Rattle.pq_types.specs.Entry.{IsProperOperationOf}
 use Rattle.pq_types.specs.Asked.{Answer}
 use Rattle.pq_types.specs.declared.answer.Answer.TheVariants.{Entered, BookFull, NoMemory}
 use Rattle.pq_types.specs.declared.control.Kind.{Kind}
@@ -19,7 +21,7 @@ use Rattle.pq_types.specs.Asked.{Line}
 use Rattle.pq_types.specs.declared.journal.TheConstants.{GREATEST_NUMBER}
 use Rattle.pq_types.specs.Queue.{IsProperRequestOf}
 use Rattle.pq_types.specs.Control.{kind_of, request_item, answer_item, answer_with, posted, answered, Carries, is_posted, is_answer}
-use Rattle.pq_types.specs.History.{journal_after, MayAnswer}
+use Rattle.pq_types.specs.History.{journal_by, journal_after, MayAnswer, MayDo}
 use Rattle.pq_book.specs.Book.{Volume}
 use Rattle.desk_core.specs.declared.model.Call.{Call}
 use Rattle.desk_core.specs.declared.model.Standing.{Standing}
@@ -27,7 +29,7 @@ use Rattle.desk_core.specs.declared.model.Standing.TheVariants.{Idle, Waiting}
 use Rattle.desk_core.specs.declared.model.Due.{Due}
 use Rattle.desk_core.specs.declared.model.PenState.{PenState}
 use Rattle.desk_core.specs.Calls.{calls_of, gained}
-use Rattle.desk_core.specs.Pen.{IsIdle, IsKept, after_draft, after_post, after_lead, after_miss, due_at, after_read, with_known, after_read_item, after_lay, after_answer, after_apply, after_release, after_release_with, told_by, standing_told, mine_told, full_told, after_look, after_see, after_take}
+use Rattle.desk_core.specs.Pen.{IsIdle, IsKept, after_draft, after_post, after_lead, after_miss, due_at, after_read, with_known, after_read_item, after_lay, after_answer, after_apply, after_release, after_release_by, told_by, standing_told, mine_told, full_told, after_look, after_see, after_take}
 use Rattle.desk_core.specs.Desk.{Desk, Has, volume, put, with_control, with_cell, locked, freed, with_pen}
 use Rattle.desk_core.specs.Rule.{PenRule, RuleAt, Stands, idle, unanswered, above_mine}
 use Rattle.desk_core.proofs.Records.{put_here, put_else, no_post, not_nothing, kept_carries, same_request, with_cell_answer, notice_back, told_is}
@@ -302,18 +304,18 @@ module _ (d : Desk) (journal : List Line) (chief : ℕ) (r : RuleAt d journal ch
         led_others = λ j v ne b l. absurd (ne ((r.led j v b l).0 ∙ sym t.0));
         due = λ due e. r.due i p a due e;
         due_others = λ j v ne b due e. r.due j v b due e;
-        lines = λ n j pens le e. keeps_unwritten j k s q x (λ f. let lt = pens i p a in omega (arith, f)) journal ∙ e;
-        grows = λ first e. known_keeps journal first k s q x e;
-        lawful = lawful_keeps laws d.room journal k s q x proper may (next_below free) r.lawful;
+        lines = λ n j pens le e. keeps_unwritten j k s (Asked q) x (λ f. let lt = pens i p a in omega (arith, f)) journal ∙ e;
+        grows = λ first e. known_keeps journal first k s (Asked q) x e;
+        lawful = lawful_keeps laws d.room journal k s (Asked q) x proper may (next_below free) r.lawful;
         pen = record {
           told = mine.told;
           counted = omega (arith, few);
-          stands = own_stands d.room journal (d.control k) (d.item k) k p.posts p.mine p.standing q x may free mine.stands;
-          looked = gained_below s q x p.mine (next_above free);
-          known = known_keeps journal p.known k s q x mine.known;
+          stands = own_stands d.room journal (d.control k) (d.item k) k p.posts p.mine p.standing (Asked q) x may free mine.stands;
+          looked = gained_below s (Asked q) x p.mine (next_above free);
+          known = known_keeps journal p.known k s (Asked q) x mine.known;
           own = mine.own;
           blank = mine.blank;
-          filled = own_filled d.room journal k s q x p.told_full may mine.filled;
+          filled = own_filled d.room journal k s (Asked q) x p.told_full may mine.filled;
           barred = λ f u n o w. absurd (let e : Idle None ≡ Waiting u = w in cc);
           seen = λ y e. absurd (let u = mine.seen y e in not_idle p.standing u.0.0 u.0.1 free);
         };
@@ -322,31 +324,31 @@ module _ (d : Desk) (journal : List Line) (chief : ℕ) (r : RuleAt d journal ch
             record {
               told = m.told;
               counted = m.counted;
-              stands = other_stands d.room journal (d.control v.place) (d.item v.place) v.place v.posts v.mine v.standing k s q x (λ e. ne (r.seated.apart j i v p b a (sym e))) may m.stands;
+              stands = other_stands d.room journal (d.control v.place) (d.item v.place) v.place v.posts v.mine v.standing k s (Asked q) x (λ e. ne (r.seated.apart j i v p b a (sym e))) may m.stands;
               looked = m.looked;
-              known = known_keeps journal v.known k s q x m.known;
+              known = known_keeps journal v.known k s (Asked q) x m.known;
               own = m.own;
               blank = m.blank;
-              filled = λ h. full_stays d.room journal k s q x may (m.filled h);
+              filled = λ h. full_stays d.room journal k s (Asked q) x may (m.filled h);
               barred = m.barred;
               seen = m.seen;
             });
       }
 
-  -- it releases the lock with a request of its own
-  pub release_with_keeps : (now : ℕ) → QueueLaws → (q : Request) (x : Answer) → p.leading ≡ true → p.due ≡ None → IsIdle p.standing → p.posts < GREATEST_NUMBER
-      → IsProperRequestOf true q → MayAnswer d.room p.hand q x
-      → RuleAt (with_pen (freed d (journal_after p.hand p.place (p.posts + 1) q x)) i (after_release_with p q x now)) (journal_after journal p.place (p.posts + 1) q x) chief
-  release_with_keeps now laws q x leads none free few proper may_hand =
+  -- it releases the lock with an operation of its own
+  pub release_by_keeps : (now : ℕ) → QueueLaws → (q : Operation) (x : Answer) → p.leading ≡ true → p.due ≡ None → IsIdle p.standing → p.posts < GREATEST_NUMBER
+      → IsProperOperationOf true q → MayDo d.room p.hand q x
+      → RuleAt (with_pen (freed d (journal_by p.hand p.place (p.posts + 1) q x)) i (after_release_by p q x now)) (journal_by journal p.place (p.posts + 1) q x) chief
+  release_by_keeps now laws q x leads none free few proper may_hand =
       let mine = r.pens i p a in
       let t = r.led i p a leads in
       let k = p.place in
       let s = p.posts + 1 in
-      let may : MayAnswer d.room journal q x = subst (λ js. MayAnswer d.room js q x) t.2 may_hand in
-      let js = journal_after journal k s q x in
-      let hand = journal_after p.hand k s q x in
-      let same : hand ≡ js = ap (λ h. journal_after h k s q x) t.2 in
-      keeps d journal chief r i p a false d.control d.item (Some (volume d.room hand)) js chief (after_release_with p q x now) record {
+      let may : MayDo d.room journal q x = subst (λ js. MayDo d.room js q x) t.2 may_hand in
+      let js = journal_by journal k s q x in
+      let hand = journal_by p.hand k s q x in
+      let same : hand ≡ js = ap (λ h. journal_by h k s q x) t.2 in
+      keeps d journal chief r i p a false d.control d.item (Some (volume d.room hand)) js chief (after_release_by p q x now) record {
         place = refl;
         owned = r.seated.owned;
         lock = inl (refl, ap (λ h. Some (volume d.room h)) same);
@@ -402,7 +404,7 @@ module _ (d : Desk) (journal : List Line) (chief : ℕ) (r : RuleAt d journal ch
   looked q waits (Some x) e =
       let t = told_is (d.control p.place) x e in
       let whole = told_whole q x waits t.0 (subst (λ o. Carries o (d.item p.place)) (sym t.1) tt) in
-      (idle None refl tt whole.0 (ap is_answer t.0) whole.1, gained_below p.posts q x p.mine (below_posts q waits))
+      (idle None refl tt whole.0 (ap is_answer t.0) whole.1, gained_below p.posts (Asked q) x p.mine (below_posts q waits))
 
   -- where it is told that the journal is full, it is
   filled_there : (q : Request) → p.standing ≡ Waiting q → (o : Option Answer) → told_by (d.control p.place) ≡ o → full_told p.told_full o ≡ true → length journal ≡ d.room
@@ -469,7 +471,7 @@ module _ (d : Desk) (journal : List Line) (chief : ℕ) (r : RuleAt d journal ch
         told = mine.told;
         counted = mine.counted;
         stands = idle None refl tt whole.0 (ap is_answer here) whole.1;
-        looked = gained_below p.posts q x p.mine (below_posts q waits);
+        looked = gained_below p.posts (Asked q) x p.mine (below_posts q waits);
         known = mine.known;
         own = mine.own;
         blank = mine.blank;
@@ -537,7 +539,7 @@ module _ (d : Desk) (journal : List Line) (chief : ℕ) (r : RuleAt d journal ch
       (served_stands d.room journal c (d.item v.place) v.place v.posts v.mine v.standing laws.reply q x r.room_in_range r.lawful.items may (subst (λ y. Carries (answer_item x) (d.item y)) (sym e) gives) (u.waits ∙ ap Waiting (own_request v e u)) u.some u.lines)))))
       (λ ne.
       subst (λ y. Stands d.room js y (d.item v.place) v.place v.posts v.standing v.mine) (sym (beside v.place ne))
-      (other_stands d.room journal (d.control v.place) (d.item v.place) v.place v.posts v.mine v.standing k s q x (λ e. ne (sym e)) may m.stands)) in
+      (other_stands d.room journal (d.control v.place) (d.item v.place) v.place v.posts v.mine v.standing k s (Asked q) x (λ e. ne (sym e)) may m.stands)) in
       let own : (v : PenState) → PenRule d.room journal (d.control v.place) (d.item v.place) v → is_answer v.own ≡ true → control v.place ≡ v.own =
       λ v m h.
       dite (ℕ_discrete v.place k)
@@ -551,7 +553,7 @@ module _ (d : Desk) (journal : List Line) (chief : ℕ) (r : RuleAt d journal ch
       let barred : (v : PenState) → PenRule d.room journal (d.control v.place) (d.item v.place) v → v.told_full ≡ true → (u : Request) (n : ℕ) (o : Outcome) → v.standing ≡ Waiting u → control v.place ≢ Answered (notice.Entered n o) =
       λ v m f u n o w h.
       dite (ℕ_discrete v.place k)
-      (λ e. full_bars d.room journal q x may (m.filled f) n o (sym (ap control e ∙ here) ∙ h))
+      (λ e. full_bars d.room journal (Asked q) x may (m.filled f) n o (sym (ap control e ∙ here) ∙ h))
       (λ ne. m.barred f u n o w (sym (beside v.place ne) ∙ h)) in
       let mine = r.pens i p a in
       let proper : IsProperRequestOf true q = subst (IsProperRequestOf true) (own_request owner.1 owner.3 owner.4) owner.4.proper in
@@ -566,15 +568,15 @@ module _ (d : Desk) (journal : List Line) (chief : ℕ) (r : RuleAt d journal ch
         led_others = λ j v ne b l. absurd (ne ((r.led j v b l).0 ∙ sym t.0));
         due = λ other e. absurd (cc e);
         due_others = λ j v ne b other e. absurd (ne (alone leads j v other b e));
-        lines = λ m j pens le e. keeps_unwritten j k s q x (λ f. let lt = pens owner.0 owner.1 owner.2 in let g = owner.3 in omega arith) journal ∙ e;
-        grows = λ first e. known_keeps journal first k s q x e;
-        lawful = lawful_keeps laws d.room journal k s q x proper may (posted_below k s due.kind dd.1) r.lawful;
+        lines = λ m j pens le e. keeps_unwritten j k s (Asked q) x (λ f. let lt = pens owner.0 owner.1 owner.2 in let g = owner.3 in omega arith) journal ∙ e;
+        grows = λ first e. known_keeps journal first k s (Asked q) x e;
+        lawful = lawful_keeps laws d.room journal k s (Asked q) x proper may (posted_below k s due.kind dd.1) r.lawful;
         pen = record {
           told = mine.told;
           counted = mine.counted;
           stands = stands p mine;
           looked = mine.looked;
-          known = known_keeps journal p.known k s q x mine.known;
+          known = known_keeps journal p.known k s (Asked q) x mine.known;
           own = λ h.
               ⊎_elim
               (λ u. ap control (sym u.0) ∙ (here ∙ sym u.1))
@@ -585,12 +587,12 @@ module _ (d : Desk) (journal : List Line) (chief : ℕ) (r : RuleAt d journal ch
               (λ u. absurd (let f : answered x ≡ Nothing = sym here ∙ (ap control u.0 ∙ h) in cc))
               (λ u. u.1 ∙ blank p mine h)
               (answer_notes p due q x);
-          filled = λ h. full_stays d.room journal k s q x may (mine.filled h);
+          filled = λ h. full_stays d.room journal k s (Asked q) x may (mine.filled h);
           barred = barred p mine;
           seen = λ y e.
               (let u = mine.seen y e in (u.0, ⊎_elim (λ z. ap is_answer z.1) (λ z. ap is_answer z.1 ∙ u.1) (answer_notes p due q x), u.2));
         };
         pen_others = λ j v ne b.
             (let m = r.pens j v b in
-            record { told = m.told; counted = m.counted; stands = stands v m; looked = m.looked; known = known_keeps journal v.known k s q x m.known; own = own v m; blank = blank v m; filled = λ h. full_stays d.room journal k s q x may (m.filled h); barred = barred v m; seen = m.seen });
+            record { told = m.told; counted = m.counted; stands = stands v m; looked = m.looked; known = known_keeps journal v.known k s (Asked q) x m.known; own = own v m; blank = blank v m; filled = λ h. full_stays d.room journal k s (Asked q) x may (m.filled h); barred = barred v m; seen = m.seen });
       }

@@ -3,7 +3,8 @@ use Rattle.std.proofs.Common.{◌≡◌, ◌≢◌, ℕ, ◌<◌, ⊎_elim, true
 use Rattle.std.specs.Prelude.{Option, Some, None, ◌↔◌}
 use Rattle.std.specs.List.{AllByRecursion}
 use Rattle.pq_types.specs.Item.{Item}
-use Rattle.pq_types.specs.Asked.{Request}
+use Rattle.pq_types.specs.Asked.{Request, Operation}
+use Rattle.pq_types.specs.Operation.{Asked}
 use Rattle.pq_types.specs.declared.request.Request.TheVariants.{Push, Pop, Least}
 use Rattle.pq_types.specs.Asked.{Reply}
 use Rattle.pq_types.specs.declared.answer.Reply.TheVariants as reply
@@ -17,19 +18,19 @@ use Rattle.pq_types.specs.declared.control.Control.{Control}
 use Rattle.pq_types.specs.declared.control.Control.TheVariants.{Nothing, Posted, Answered}
 use Rattle.pq_types.specs.Asked.{Line}
 use Rattle.pq_types.specs.Control.{kind_of, request_item, notice_has_item, answer_item, reply_item, answer_with, answered, Carries, is_posted, is_answer, has_item}
-use Rattle.pq_types.specs.History.{MayAnswer}
+use Rattle.pq_types.specs.History.{MayDo}
 use Rattle.pq_book.specs.Book.{Volume}
 use Rattle.desk_core.specs.declared.model.Call.{Call}
 use Rattle.desk_core.specs.declared.model.Standing.TheVariants.{Waiting}
 use Rattle.desk_core.specs.declared.model.Due.{Due}
 use Rattle.desk_core.specs.declared.model.Word.TheVariants as word
 use Rattle.desk_core.specs.declared.model.PenState.{PenState}
-use Rattle.desk_core.specs.Pen.{due_at, told_by, standing_told, mine_told, after_draft, after_post, after_lead, after_miss, after_read, after_read_item, after_lay, after_answer, after_apply, after_release, after_release_with, after_look, after_see, after_take}
+use Rattle.desk_core.specs.Pen.{due_at, told_by, standing_told, mine_told, after_draft, after_post, after_lead, after_miss, after_read, after_read_item, after_lay, after_answer, after_apply, after_release, after_release_by, after_look, after_see, after_take}
 use Rattle.desk_core.specs.Calls.{gained}
 use Rattle.desk_core.specs.Desk.{Desk, time, Has, volume, with_pen}
-use Rattle.desk_core.specs.Steps.{Event, actor, Drafts, Posts, Tries, Reads, ReadsItem, LaysItem, Answers, Applies, Releases, ReleasesWith, Looks, SeesItem, TakesItem, Step}
+use Rattle.desk_core.specs.Steps.{Event, actor, Drafts, Posts, Tries, Reads, ReadsItem, LaysItem, Answers, Applies, Releases, ReleasesBy, Looks, SeesItem, TakesItem, Step}
 use Rattle.desk_core.specs.Rule.{MeetsRule, above_mine}
-use Rattle.desk_core.specs.Tells.{SameAsker, AfterDraft, AfterPost, AfterTry, AfterRead, AfterReadItem, AfterLay, AfterAnswer, AfterApply, AfterRelease, AfterReleaseWith, AfterLook, AfterSee, AfterTake, Acted, DraftTells, PostTells, TryTells, ReadTells, ReadItemTells, LayItemTells, AnswerTells, ApplyTells, ReleaseTells, ReleaseWithTells, LookTells, SeeItemTells, TakeItemTells}
+use Rattle.desk_core.specs.Tells.{SameAsker, AfterDraft, AfterPost, AfterTry, AfterRead, AfterReadItem, AfterLay, AfterAnswer, AfterApply, AfterRelease, AfterReleaseBy, AfterLook, AfterSee, AfterTake, Acted, DraftTells, PostTells, TryTells, ReadTells, ReadItemTells, LayItemTells, AnswerTells, ApplyTells, ReleaseTells, ReleaseByTells, LookTells, SeeItemTells, TakeItemTells}
 use Rattle.desk_core.proofs.Records.{put_here}
 use Rattle.desk_core.proofs.Views.{has_here}
 use Rattle.desk_core.proofs.OwnControls.{Notes, read_notes, answer_notes}
@@ -47,7 +48,7 @@ After (LaysItem seat x) d d' p p' = AfterLay d d' x p p'
 After (Answers seat answer) d d' p p' = AfterAnswer d d' answer p p'
 After (Applies seat request answer) d d' p p' = AfterApply d d' request answer p p'
 After (Releases seat) d d' p p' = AfterRelease d d' p p'
-After (ReleasesWith seat request answer) d d' p p' = AfterReleaseWith d d' request answer p p'
+After (ReleasesBy seat operation answer) d d' p p' = AfterReleaseBy d d' operation answer p p'
 After (Looks seat) d d' p p' = AfterLook d d' p p'
 After (SeesItem seat) d d' p p' = AfterSee d d' p p'
 After (TakesItem seat) d d' p p' = AfterTake d d' p p'
@@ -67,7 +68,7 @@ nothing_due place (Posted s k) e = absurd (let f : true ≡ false = e in cc)
 nothing_due place (Answered n) e = refl
 
 -- BookFull is answered exactly where the journal is full
-when_full : (room : ℕ) (hand : List Line) (q : Request) (x : Answer) → MayAnswer room hand q x → (x ≡ BookFull) ↔ (length hand ≡ room)
+when_full : (room : ℕ) (hand : List Line) (q : Operation) (x : Answer) → MayDo room hand q x → (x ≡ BookFull) ↔ (length hand ≡ room)
 when_full room hand q (Entered l r) may = (λ e. absurd (cc e), λ e. absurd (let lt = may.0 in omega arith))
 when_full room hand q BookFull may = (λ e. may, λ e. refl)
 when_full room hand q NoMemory may = (λ e. absurd (cc e), λ e. absurd (let lt = may.0 in omega arith))
@@ -317,7 +318,7 @@ steps_tell d e (Answers i x) m (p, due, q, a, leads, is_due, is_kind, known, lai
         request = q;
         was = is_due;
         waits = (o.0, o.1, o.2, o.3, o.4, o.5);
-        full = when_full d.room p.hand q x may;
+        full = when_full d.room p.hand (Asked q) x may;
         stands = put_here d.control due.place (answered x);
         hand = refl;
         done = refl;
@@ -339,7 +340,7 @@ steps_tell d e (Applies i q x) m (p, a, leads, free, few, proper, may, same) =
       record {
         leading = leads;
         hand = refl;
-        full = when_full d.room p.hand q x may;
+        full = when_full d.room p.hand (Asked q) x may;
         posts = refl;
         mine = refl;
         below = subst (λ o. AllByRecursion (λ (c : Call). c.serial < above_mine p.posts o) p.mine) free.1 (m.2.pens i p a).looked;
@@ -372,9 +373,9 @@ steps_tell d e (Releases i) m (p, a, leads, same) =
         asker = record { posts = refl; standing = refl; mine = refl };
       },
     )
-steps_tell d e (ReleasesWith i q x) m (p, a, leads, none, free, few, proper, may, same) =
-    let w = after_release_with p q x (time d) in
-    subst (Told (ReleasesWith i q x) d) (sym same) (
+steps_tell d e (ReleasesBy i q x) m (p, a, leads, none, free, few, proper, may, same) =
+    let w = after_release_by p q x (time d) in
+    subst (Told (ReleasesBy i q x) d) (sym same) (
       p,
       w,
       a,
@@ -435,8 +436,8 @@ apply_tells d d' seat request answer m step = steps_tell d d' (Applies seat requ
 pub release_tells : ReleaseTells
 release_tells d d' seat m step = steps_tell d d' (Releases seat) m step
 
-pub release_with_tells : ReleaseWithTells
-release_with_tells d d' seat request answer m step = steps_tell d d' (ReleasesWith seat request answer) m step
+pub release_by_tells : ReleaseByTells
+release_by_tells d d' seat operation answer m step = steps_tell d d' (ReleasesBy seat operation answer) m step
 
 pub look_tells : LookTells
 look_tells d d' seat m step = steps_tell d d' (Looks seat) m step

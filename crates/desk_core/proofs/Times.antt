@@ -6,7 +6,8 @@ use lib.ListN.{get_elem?}
 use mathlib.Core.Logic.{dite}
 use native.Mathlib.Decide.{ℕ_discrete, dec_lt}
 use Rattle.atomic_table.proofs.Lists.{at_set, set_else, set_again, at_longer, at_snoc}
-use Rattle.pq_types.specs.Asked.{Request}
+use Rattle.pq_types.specs.Asked.{Request, Operation}
+use Rattle.pq_types.specs.Operation.{Asked}
 use Rattle.pq_types.specs.Asked.{Answer}
 use Rattle.pq_types.specs.Asked.{Line}
 use Rattle.desk_core.specs.CallLines.{IsLineOf}
@@ -16,9 +17,9 @@ use Rattle.desk_core.specs.declared.model.Call.{Call}
 use Rattle.desk_core.proofs.CallLines.{calls_are_lines}
 use Rattle.desk_core.proofs.Clauses.{knows, clauses_hold}
 use Rattle.desk_core.proofs.Reached.{reached_meet}
-use Rattle.desk_core.specs.Pen.{new_pen, told_by, ends_told, after_draft, after_post, after_lead, after_miss, after_read, after_read_item, after_lay, after_answer, after_release, after_release_with, after_look, after_see, after_take, after_apply}
+use Rattle.desk_core.specs.Pen.{new_pen, told_by, ends_told, after_draft, after_post, after_lead, after_miss, after_read, after_read_item, after_lay, after_answer, after_release, after_release_by, after_look, after_see, after_take, after_apply}
 use Rattle.desk_core.specs.Desk.{Desk, Has, acts_in, acts_number, time, dealer_opening}
-use Rattle.desk_core.specs.Steps.{Event, Drafts, Posts, Tries, Reads, ReadsItem, LaysItem, Answers, Applies, Releases, ReleasesWith, Looks, SeesItem, TakesItem, Step}
+use Rattle.desk_core.specs.Steps.{Event, Drafts, Posts, Tries, Reads, ReadsItem, LaysItem, Answers, Applies, Releases, ReleasesBy, Looks, SeesItem, TakesItem, Step}
 use Rattle.desk_core.specs.Notes.{after_catch_up, after_writing, after_hearing}
 use Rattle.desk_core.specs.Linearizable.{Act, Begins, Ends, told, acts}
 use Rattle.desk_core.specs.Dealing.{Move, Deals, Takes, CatchesUp, Writes, Hears, Copies, Testifies, Gathers, Happens, DealtRun, acts_of, dealt_history}
@@ -124,10 +125,10 @@ quiet views i p w old a t place begins ends =
 -- a call begins
 begins_timed : (views : List View) (i : ℕ) (p w : PenState) (old : List Act) (q : Request) → Has views i p → AreTimed views old → w.place ≡ p.place
     → w.begins ≡ p.begins ++ (p.posts + 1, acts_number views) ∷ [] → w.ends ≡ p.ends
-    → AreTimed (set views i (Holder w)) (old ++ Begins p.place (p.posts + 1) q ∷ [])
+    → AreTimed (set views i (Holder w)) (old ++ Begins p.place (p.posts + 1) (Asked q) ∷ [])
 begins_timed views i p w old q a t place begins ends =
     let u = t.pens i p a in
-    let x = Begins p.place (p.posts + 1) q in
+    let x = Begins p.place (p.posts + 1) (Asked q) in
     let new = x ∷ [] in
     let now = acts_number views in
     let mark : ℕ × ℕ = (p.posts + 1, now) in
@@ -144,9 +145,9 @@ begins_timed views i p w old q a t place begins ends =
           (r.0, get_more old new n (Begins p.place s r.0) r.1 ∙ ap (λ k. Some (Begins k s r.0)) (sym place))))
           (λ v.
           (let at : n ≡ length old = sym (second_of v) ∙ sym here in (
-            q,
+            Asked q,
             ap (slice_get (old ++ new)) at ∙ (get_last old x
-                ∙ (ap (λ k. Some (Begins p.place k q)) (first_of v) ∙ ap (λ k. Some (Begins k s q)) (sym place))),
+                ∙ (ap (λ k. Some (Begins p.place k (Asked q))) (first_of v) ∙ ap (λ k. Some (Begins k s (Asked q))) (sym place))),
           )))
           (found p.begins mark (s, n) e.0 (ap (λ (l : List (ℕ × ℕ)). slice_get l e.0) (sym begins) ∙ e.1));
       ended = λ s n e.
@@ -206,7 +207,7 @@ ends_timed views i p w old x a t place begins ends =
     inr (p.posts, (length p.ends, ap (λ (l : List (ℕ × ℕ)). slice_get l (length p.ends)) ends ∙ (get_last p.ends mark ∙ ap (λ k. Some (p.posts, k)) at)))))
 
 -- a call begins and ends in one step
-both_timed : (views : List View) (i : ℕ) (p w : PenState) (old : List Act) (q : Request) (x : Answer) → Has views i p → AreTimed views old
+both_timed : (views : List View) (i : ℕ) (p w : PenState) (old : List Act) (q : Operation) (x : Answer) → Has views i p → AreTimed views old
     → w.place ≡ p.place → w.begins ≡ p.begins ++ (p.posts + 1, acts_number views) ∷ [] → w.ends ≡ p.ends ++ (p.posts + 1, acts_number views + 1) ∷ []
     → AreTimed (set views i (Holder w)) (old ++ Begins p.place (p.posts + 1) q ∷ Ends p.place (p.posts + 1) x ∷ [])
 both_timed views i p w old q x a t place begins ends =
@@ -312,7 +313,7 @@ module _ (d : Desk) (old : List Act) (t : AreTimed d.views old) where
   step_timed : (x : Event) (e : Desk) (step : Step d x e) → AreTimed e.views (old ++ acts d x e step)
   step_timed (Drafts i x) e (p, a, free, item, same) = leads_to e _ [] same (quiet d.views i p (after_draft p x) old a t refl refl refl)
   step_timed (Posts i q) e (p, draft, a, free, few, proper, drafted, same) =
-      leads_to e _ (Begins p.place (p.posts + 1) q ∷ []) same (begins_timed d.views i p (after_post p q (time d)) old q a t refl refl refl)
+      leads_to e _ (Begins p.place (p.posts + 1) (Asked q) ∷ []) same (begins_timed d.views i p (after_post p q (time d)) old q a t refl refl refl)
   step_timed (Tries i) e (p, a, c) =
       ⊎_elim
       (λ u. leads_to e _ [] u.1.2 (quiet d.views i p (after_lead p u.1.0.journal) old a t refl refl refl))
@@ -325,10 +326,10 @@ module _ (d : Desk) (old : List Act) (t : AreTimed d.views old) where
   step_timed (Answers i x) e (p, due, q, a, leads, is_due, is_kind, known, laid, may, same) =
       leads_to e _ [] same (quiet d.views i p (after_answer p due q x) old a t refl refl refl)
   step_timed (Applies i q x) e (p, a, leads, free, few, proper, may, same) =
-      leads_to e _ (Begins p.place (p.posts + 1) q ∷ Ends p.place (p.posts + 1) x ∷ []) same (both_timed d.views i p (after_apply p q x (time d)) old q x a t refl refl refl)
+      leads_to e _ (Begins p.place (p.posts + 1) (Asked q) ∷ Ends p.place (p.posts + 1) x ∷ []) same (both_timed d.views i p (after_apply p q x (time d)) old (Asked q) x a t refl refl refl)
   step_timed (Releases i) e (p, a, leads, same) = leads_to e _ [] same (quiet d.views i p (after_release p) old a t refl refl refl)
-  step_timed (ReleasesWith i q x) e (p, a, leads, none, free, few, proper, may, same) =
-      leads_to e _ (Begins p.place (p.posts + 1) q ∷ Ends p.place (p.posts + 1) x ∷ []) same (both_timed d.views i p (after_release_with p q x (time d)) old q x a t refl refl refl)
+  step_timed (ReleasesBy i q x) e (p, a, leads, none, free, few, proper, may, same) =
+      leads_to e _ (Begins p.place (p.posts + 1) q ∷ Ends p.place (p.posts + 1) x ∷ []) same (both_timed d.views i p (after_release_by p q x (time d)) old q x a t refl refl refl)
   step_timed (Looks i) e (p, q, a, waits, same) =
       leads_to e _ (told p.place p.posts (told_by (d.control p.place))) same
       (looks_timed i p (after_look p q (d.control p.place) (time d)) a (told_by (d.control p.place)) refl refl refl)
@@ -414,4 +415,4 @@ times_order_calls laws places room moves d small run i j p q k l b c end begin a
     z.2.order p.place q.place b c
     (subst (λ js. IsLineOf js p.place b) (sym same) (read_line m.0 p d.room k b (knows d m.0 m.1 m.2 i p a) at))
     (subst (λ js. IsLineOf js q.place c) (sym same) (read_line m.0 q d.room l c (knows d m.0 m.1 m.2 j q a') at'))
-    record { end = end; begin = begin; answer = e.0; request = f.0; before = before; ends = e.1; begins = f.1 }
+    record { end = end; begin = begin; answer = e.0; operation = f.0; before = before; ends = e.1; begins = f.1 }

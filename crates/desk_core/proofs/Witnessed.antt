@@ -5,6 +5,7 @@ use mathlib.Core.Option.{some, some-injective, some-ne-none}
 use lib.ListN.{get_elem?}
 use Rattle.atomic_table.proofs.Lists.{at_set, at_snoc}
 use Rattle.pq_types.specs.Asked.{Line}
+use Rattle.pq_types.specs.Operation.{Asked}
 use Rattle.desk_core.specs.CallLines.{IsLineOf}
 use Rattle.desk_core.specs.Pen.{new_pen}
 use Rattle.desk_core.specs.Desk.{Desk, Has, acts_number, dealer_opening}
@@ -183,4 +184,4 @@ linearized_follow_time room pens h i j k l p q b c end begin at at' read read' e
     let e = w.timed.ended b.serial end ends in
     let f = w'.timed.begun c.serial begin begins in
     h.linearizes.order p.place q.place b c (w.calls k b read) (w'.calls l c read')
-    record { end = end; begin = begin; answer = e.0; request = f.0; before = before; ends = e.1; begins = f.1 }
+    record { end = end; begin = begin; answer = e.0; operation = f.0; before = before; ends = e.1; begins = f.1 }

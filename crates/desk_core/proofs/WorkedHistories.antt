@@ -1,6 +1,7 @@
 -- The worked histories, step by step.
 use Rattle.std.proofs.Common.{[], ◌∷◌, ◌<◌, refl, inl, lit<, arith}
 use Rattle.std.specs.Prelude.{Some, None}
+use Rattle.pq_types.specs.Operation.{Asked}
 use Rattle.pq_types.specs.declared.request.Request.TheVariants.{Push, Pop}
 use Rattle.pq_types.specs.declared.answer.Reply.TheVariants.{Pushed, Got, Empty}
 use Rattle.pq_types.specs.declared.answer.Answer.TheVariants.{Entered}
@@ -11,7 +12,7 @@ use Rattle.pq_types.specs.Item.{item}
 use Rattle.pq_types.specs.Control.{posted, answered}
 use Rattle.pq_types.specs.History.{line}
 use Rattle.desk_core.specs.declared.model.PenState.{PenState}
-use Rattle.desk_core.specs.Calls.{call}
+use Rattle.desk_core.specs.Calls.{call_of}
 use Rattle.desk_core.specs.Pen.{new_pen, after_post, after_lead, due_to, after_read, after_lay, after_answer, after_apply, after_release_with, after_look}
 use Rattle.desk_core.specs.Linearizable.{Precedes}
 use Rattle.desk_core.specs.WorkedHistories.{ComingOut, Overtaking, Together, StaleIsRefused, stale}
@@ -151,7 +152,7 @@ stale_is_refused =
           (let push = h.ended 0 1 (Entered 2 Pushed) (1, refl) in
           let pop = h.ended 1 1 (Entered 1 Empty) (3, refl) in
           let first : Precedes stale 0 1 1 1 =
-          record { end = 1; begin = 2; answer = Entered 2 Pushed; request = Pop; before = lit< tt; ends = refl; begins = refl } in
-          let wrong : 2 < 1 = h.order 0 1 (call 2 1 push.0 Pushed) (call 1 1 pop.0 Empty) push.1 pop.1 first in
+          record { end = 1; begin = 2; answer = Entered 2 Pushed; operation = Asked Pop; before = lit< tt; ends = refl; begins = refl } in
+          let wrong : 2 < 1 = h.order 0 1 (call_of 2 1 push.0 Pushed) (call_of 1 1 pop.0 Empty) push.1 pop.1 first in
           omega (arith, wrong));
     }

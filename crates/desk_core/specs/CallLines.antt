@@ -1,7 +1,7 @@
 -- What the calls of a place, as `calls_of` has them, are in the journal.
 use Rattle.std.specs.Prelude.{◌≡◌, ℕ, ◌-◌, ◌<◌, ◌≤◌, List, length, slice_get, Some}
 use Rattle.pq_types.specs.Asked.{Line}
-use Rattle.pq_types.specs.History.{line}
+use Rattle.pq_types.specs.History.{line_of}
 use Rattle.desk_core.specs.Calls.{calls_of}
 use Rattle.desk_core.specs.declared.model.Call.{Call}
 
@@ -9,7 +9,7 @@ use Rattle.desk_core.specs.declared.model.Call.{Call}
 pub record IsLineOf (journal : List Line) (place : ℕ) (c : Call) : Type 0 where
   pub some : 0 < c.number
   pub within : c.number ≤ length journal
-  pub there : slice_get journal (c.number - 1) ≡ Some (line place c.serial c.request c.reply)
+  pub there : slice_get journal (c.number - 1) ≡ Some (line_of place c.serial c.operation c.reply)
 
 -- where these are the journal's calls of a place, each of them is such a line
 abbrev pub CallsAreLines : Type 0

@@ -3,7 +3,7 @@
 use Rattle.std.specs.Prelude.{◌≡◌, ℕ, ◌+◌, ◌<◌, ◌≤◌, List, [], ◌∷◌, ◌++◌, length, slice_set}
 use mathlib.Core.Option.{some}
 use lib.ListN.{get_elem?}
-use Rattle.pq_types.specs.Asked.{Request}
+use Rattle.pq_types.specs.Asked.{Operation}
 use Rattle.pq_types.specs.Asked.{Answer}
 use Rattle.pq_types.specs.Asked.{Line}
 use Rattle.pq_types.specs.declared.journal.TheConstants.{GREATEST_NUMBER}
@@ -105,4 +105,4 @@ DealtLinesAreWithinCalls =
     → LockClause d journal' → (place : ℕ) (c : Call) → IsLineOf journal' place c
     → ((answer : Answer) → IsIn (dealt_history (dealer_opening places room) before m past) (Ends place c.serial answer)
     → c.number ≤ length journal)
-    × ((request : Request) → IsIn (dealt_history m after d rest) (Begins place c.serial request) → length journal < c.number)
+    × ((operation : Operation) → IsIn (dealt_history m after d rest) (Begins place c.serial operation) → length journal < c.number)

@@ -3,7 +3,8 @@
 use Rattle.std.specs.Prelude.{◌≡◌, ◌≢◌, ℕ, ◌+◌, ◌<◌, ◌≤◌, true, false, List, Option, Some, None}
 use Rattle.std.specs.List.{AllByRecursion}
 use Rattle.pq_types.specs.Item.{Item}
-use Rattle.pq_types.specs.Asked.{Request}
+use Rattle.pq_types.specs.Asked.{Request, Operation}
+use Rattle.pq_types.specs.Entry.{IsProperOperationOf}
 use Rattle.pq_types.specs.Asked.{Answer}
 use Rattle.pq_types.specs.declared.control.Kind.TheVariants as kind
 use Rattle.pq_types.specs.declared.control.Notice.{Notice}
@@ -12,10 +13,10 @@ use Rattle.pq_types.specs.Asked.{Line}
 use Rattle.pq_types.specs.declared.journal.TheConstants.{GREATEST_NUMBER}
 use Rattle.pq_types.specs.Queue.{IsProperRequestOf}
 use Rattle.pq_types.specs.Control.{kind_of, request_item, answer_item, posted, answered, is_answer}
-use Rattle.pq_types.specs.History.{journal_after, MayAnswer}
+use Rattle.pq_types.specs.History.{journal_by, MayAnswer, MayDo}
 use Rattle.pq_types.specs.Mail.{IsSerial, IsProperAnswerOf, IsProperControl}
 use Rattle.desk_core.specs.Pen.{IsIdle, IsKept, after_draft, after_post, after_lead, after_miss, after_read, after_read_item}
-use Rattle.desk_core.specs.Pen.{after_lay, after_answer, after_apply, after_release, after_release_with}
+use Rattle.desk_core.specs.Pen.{after_lay, after_answer, after_apply, after_release, after_release_by}
 use Rattle.desk_core.specs.Pen.{after_look, after_see, after_take}
 use Rattle.desk_core.specs.Desk.{Desk, Has, volume, with_control, with_cell, locked, freed, with_pen}
 use Rattle.desk_core.specs.Rule.{MeetsRule}
@@ -86,15 +87,15 @@ ApplyKeeps = OfEachPen (λ d seat p.
 abbrev pub ReleaseKeeps : Type 0
 ReleaseKeeps = OfEachPen (λ d seat p. p.leading ≡ true → MeetsRule (with_pen (freed d p.hand) seat (after_release p)))
 
--- a leader to which nothing is due, idle and with a serial left, may release with a proper request of
+-- a leader to which nothing is due, idle and with a serial left, may release with a proper operation of
 -- its own, answered as a Book with the journal in its hand may
-abbrev pub ReleaseWithKeeps : Type 0
-ReleaseWithKeeps = OfEachPen (λ d seat p.
-    (request : Request) (answer : Answer) (now : ℕ) → p.leading ≡ true → p.due ≡ None → IsIdle p.standing
-    → p.posts < GREATEST_NUMBER → IsProperRequestOf true request → MayAnswer d.room p.hand request answer
+abbrev pub ReleaseByKeeps : Type 0
+ReleaseByKeeps = OfEachPen (λ d seat p.
+    (operation : Operation) (answer : Answer) (now : ℕ) → p.leading ≡ true → p.due ≡ None → IsIdle p.standing
+    → p.posts < GREATEST_NUMBER → IsProperOperationOf true operation → MayDo d.room p.hand operation answer
     → MeetsRule
-    (with_pen (freed d (journal_after p.hand p.place (p.posts + 1) request answer)) seat
-    (after_release_with p request answer now)))
+    (with_pen (freed d (journal_by p.hand p.place (p.posts + 1) operation answer)) seat
+    (after_release_by p operation answer now)))
 
 -- a pen that waits may look
 abbrev pub LookKeeps : Type 0

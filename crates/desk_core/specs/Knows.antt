@@ -8,6 +8,7 @@ use Rattle.pq_types.specs.declared.request.Request.TheVariants.{Push, Pop, Least
 use Rattle.pq_types.specs.Asked.{Reply}
 use Rattle.pq_types.specs.declared.answer.Reply.TheVariants.{Pushed, Got, Empty, Least as LeastIs}
 use Rattle.pq_types.specs.Asked.{Line}
+use Rattle.pq_types.specs.Operation.{request_of}
 use Rattle.pq_types.specs.History.{IsLegal, SerialsRise}
 use Rattle.desk_core.specs.Calls.{call, calls_of}
 use Rattle.desk_core.specs.Pen.{IsIdle}
@@ -56,7 +57,7 @@ IsReplyTo (Push x) reply = reply ≡ Pushed
 IsReplyTo Pop reply = (reply ≡ Empty) ⊎ ((x : Item) × (reply ≡ Got x))
 IsReplyTo Least reply = (reply ≡ Empty) ⊎ ((x : Item) × (reply ≡ LeastIs x))
 
--- each call that a pen has read whole has such a reply
+-- each call that a pen has read whole has such a reply: to a removal as to a pop
 abbrev pub CallsHaveReplies : Type 0
 CallsHaveReplies = (d : Desk) (seat : ℕ) (p : PenState) → MeetsRule d → Has d.views seat p
-    → AllByRecursion (λ c. IsReplyTo c.request c.reply) p.mine
+    → AllByRecursion (λ c. IsReplyTo (request_of c.operation) c.reply) p.mine

@@ -3,26 +3,28 @@
 use Rattle.std.specs.Prelude.{◌≡◌, ℕ, ◌+◌, ◌<◌, ◌≤◌, Bool, true, false, List, []}
 use Rattle.std.specs.Prelude.{◌∷◌, ◌++◌, length, slice_get, Option, Some, None}
 use Rattle.pq_types.specs.Asked.{Request}
+use Rattle.pq_types.specs.Asked.{Operation}
+use Rattle.pq_types.specs.Operation.{Asked}
 use Rattle.pq_types.specs.Asked.{Answer}
 use Rattle.pq_types.specs.declared.answer.Answer.TheVariants.{Entered, BookFull, NoMemory}
 use Rattle.pq_types.specs.Asked.{Line}
 use Rattle.pq_types.specs.declared.journal.TheConstants.{GREATEST_NUMBER}
 use Rattle.pq_types.specs.Control.{answer_with}
 use Rattle.pq_types.specs.History.{IsLegal, SerialsRise}
-use Rattle.desk_core.specs.Calls.{call}
+use Rattle.desk_core.specs.Calls.{call_of}
 use Rattle.desk_core.specs.CallLines.{IsLineOf}
 use Rattle.desk_core.specs.Clauses.{HasNo, LockClause}
 use Rattle.desk_core.specs.Pen.{told_by}
 use Rattle.desk_core.specs.Desk.{Desk, put, opening}
 use Rattle.desk_core.specs.Steps.{Event, Drafts, Posts, Tries, Reads, ReadsItem, LaysItem, Answers, Applies}
-use Rattle.desk_core.specs.Steps.{Releases, ReleasesWith, Looks, SeesItem, TakesItem, Step, Run}
+use Rattle.desk_core.specs.Steps.{Releases, ReleasesBy, Looks, SeesItem, TakesItem, Step, Run}
 use Rattle.desk_core.specs.Rule.{StartsWith}
 use Rattle.desk_core.specs.declared.model.Call.{Call}
 
--- What a caller sees of its call, which its place and serial name: it begins, with this request; and
+-- What a caller sees of its call, which its place and serial name: it begins, with this operation; and
 -- it ends, with this answer.
 pub data Act : Type 0 where
-  Begins : (place serial : ℕ) (request : Request) → Act
+  Begins : (place serial : ℕ) (operation : Operation) → Act
   Ends : (place serial : ℕ) (answer : Answer) → Act
 
 -- the call ends where it is told an answer
@@ -37,17 +39,17 @@ told place serial (Some answer) = Ends place serial answer ∷ []
 -- of the lock, or the rest of its batch, makes its call longer, and of longer calls fewer are in an order.
 abbrev pub acts : (d : Desk) (e : Event) (d' : Desk) → Step d e d' → List Act
 acts d (Drafts seat x) d' step = []
-acts d (Posts seat request) d' step = Begins step.0.place (step.0.posts + 1) request ∷ []
+acts d (Posts seat request) d' step = Begins step.0.place (step.0.posts + 1) (Asked request) ∷ []
 acts d (Tries seat) d' step = []
 acts d (Reads seat place) d' step = []
 acts d (ReadsItem seat) d' step = []
 acts d (LaysItem seat x) d' step = []
 acts d (Answers seat answer) d' step = []
 acts d (Applies seat request answer) d' step =
-    Begins step.0.place (step.0.posts + 1) request ∷ Ends step.0.place (step.0.posts + 1) answer ∷ []
+    Begins step.0.place (step.0.posts + 1) (Asked request) ∷ Ends step.0.place (step.0.posts + 1) answer ∷ []
 acts d (Releases seat) d' step = []
-acts d (ReleasesWith seat request answer) d' step =
-    Begins step.0.place (step.0.posts + 1) request ∷ Ends step.0.place (step.0.posts + 1) answer ∷ []
+acts d (ReleasesBy seat operation answer) d' step =
+    Begins step.0.place (step.0.posts + 1) operation ∷ Ends step.0.place (step.0.posts + 1) answer ∷ []
 acts d (Looks seat) d' step = told step.0.place step.0.posts (told_by (d.control step.0.place))
 acts d (SeesItem seat) d' step = []
 acts d (TakesItem seat) d' step = Ends step.0.place step.0.posts (answer_with step.2 (d.item step.0.place)) ∷ []
@@ -66,16 +68,16 @@ pub record Precedes (history : List Act) (place serial place' serial' : ℕ) : T
   pub end : ℕ
   pub begin : ℕ
   pub answer : Answer
-  pub request : Request
+  pub operation : Operation
   pub before : end < begin
   pub ends : slice_get history end ≡ Some (Ends place serial answer)
-  pub begins : slice_get history begin ≡ Some (Begins place' serial' request)
+  pub begins : slice_get history begin ≡ Some (Begins place' serial' operation)
 
 -- What a call was told is true, where the journal has room for so many lines: an entered one has that line,
 -- with that reply, and a refused one none; and one that was told that the journal is full finds it so.
 abbrev pub IsTrueOf : ℕ → List Line → ℕ → ℕ → Answer → Type 0
 IsTrueOf room journal place serial (Entered number reply) =
-    (request : Request) × IsLineOf journal place (call number serial request reply)
+    (operation : Operation) × IsLineOf journal place (call_of number serial operation reply)
 IsTrueOf room journal place serial BookFull = (length journal ≡ room) × HasNo journal place serial
 IsTrueOf room journal place serial NoMemory = HasNo journal place serial
 
@@ -83,21 +85,21 @@ IsTrueOf room journal place serial NoMemory = HasNo journal place serial
 -- under way: a call begins, under a new serial, while none of its place is; and what ends is the one that began last there.
 abbrev pub TakeTurns : (ℕ → ℕ) → (ℕ → Bool) → List Act → Type 0
 TakeTurns last open_at [] = Unit {0}
-TakeTurns last open_at (Begins place serial request ∷ history) =
+TakeTurns last open_at (Begins place serial operation ∷ history) =
     (open_at place ≡ false) × (last place < serial) × TakeTurns (put last place serial) (put open_at place true) history
 TakeTurns last open_at (Ends place serial answer ∷ history) =
     (open_at place ≡ true) × (last place ≡ serial) × TakeTurns last (put open_at place false) history
 
 -- The journal, which has room for so many lines, linearizes the history. The calls of each place take turns. The
 -- journal is a legal history of the one-thread queue, in which each
--- call stands at most once. Only calls that have begun stand there, each with its request; a call
+-- call stands at most once. Only calls that have begun stand there, each with its operation; a call
 -- that has ended was told what is true there; and of two calls of which one has ended before the
 -- other began it has the earlier line.
 pub record Linearizes (room : ℕ) (history : List Act) (journal : List Line) : Type 0 where
   pub turns : TakeTurns (λ _. 0) (λ _. false) history
   pub legal : IsLegal journal
   pub once : SerialsRise journal
-  pub begun : (place : ℕ) (c : Call) → IsLineOf journal place c → IsIn history (Begins place c.serial c.request)
+  pub begun : (place : ℕ) (c : Call) → IsLineOf journal place c → IsIn history (Begins place c.serial c.operation)
   pub ended : (place serial : ℕ) (answer : Answer) → IsIn history (Ends place serial answer)
       → IsTrueOf room journal place serial answer
   pub order :
@@ -128,4 +130,4 @@ LinesAreWithinCalls =
     → (place : ℕ) (c : Call) → IsLineOf journal' place c
     → ((answer : Answer) → IsIn (history (opening places room) before m past) (Ends place c.serial answer)
     → c.number ≤ length journal)
-    × ((request : Request) → IsIn (history m after d rest) (Begins place c.serial request) → length journal < c.number)
+    × ((operation : Operation) → IsIn (history m after d rest) (Begins place c.serial operation) → length journal < c.number)

@@ -1,7 +1,8 @@
 -- A pen, and what it is after each of its steps, by what it stored or found.
 use Rattle.std.specs.Prelude.{◌≡◌, ℕ, ◌+◌, ◌==◌, if◌then◌else◌, Bool, true, false, List, [], ◌∷◌, ◌++◌, Option, Some, None}
 use Rattle.pq_types.specs.Item.{Item}
-use Rattle.pq_types.specs.Asked.{Request}
+use Rattle.pq_types.specs.Asked.{Request, Operation}
+use Rattle.pq_types.specs.Operation.{Asked, ByTicket, Remove}
 use Rattle.pq_types.specs.Asked.{Answer}
 use Rattle.pq_types.specs.declared.answer.Answer.TheVariants.{Entered, BookFull, NoMemory}
 use Rattle.pq_types.specs.declared.answer.Reply.TheVariants.{Pushed, Empty}
@@ -13,8 +14,8 @@ use Rattle.pq_types.specs.declared.control.Control.{Control}
 use Rattle.pq_types.specs.declared.control.Control.TheVariants.{Nothing, Posted, Answered}
 use Rattle.pq_types.specs.Asked.{Line}
 use Rattle.pq_types.specs.Control.{answer_with, posted, answered}
-use Rattle.pq_types.specs.History.{journal_after}
-use Rattle.desk_core.specs.Calls.{gained}
+use Rattle.pq_types.specs.History.{journal_by, journal_after}
+use Rattle.desk_core.specs.Calls.{gained, gained_by}
 use Rattle.desk_core.specs.declared.model.Call.{Call}
 use Rattle.desk_core.specs.declared.model.Standing.{Standing}
 use Rattle.desk_core.specs.declared.model.Standing.TheVariants.{Idle, Waiting}
@@ -144,22 +145,30 @@ own_begins p now = p.begins ++ (p.posts + 1, now) ∷ []
 abbrev pub own_ends : PenState → ℕ → List (ℕ × ℕ)
 own_ends p now = p.ends ++ (p.posts + 1, now + 1) ∷ []
 
--- it has put the Book home and freed the lock with a request of its own, which was answered so under
+-- it has put the Book home and freed the lock with an operation of its own, which was answered so under
 -- the next serial: no word of its record has changed, and it counts on no draft there. The call began at this position, and
 -- ended at the next
-abbrev pub after_release_with : PenState → Request → Answer → ℕ → PenState
-after_release_with p request answer now =
+abbrev pub after_release_by : PenState → Operation → Answer → ℕ → PenState
+after_release_by p operation answer now =
     record p {
       posts = p.posts + 1;
       standing = Idle None;
-      mine = p.mine ++ gained (p.posts + 1) request answer;
+      mine = p.mine ++ gained_by (p.posts + 1) operation answer;
       told_full = told_full_by p.told_full answer;
       leading = false;
-      known = journal_after p.hand p.place (p.posts + 1) request answer;
+      known = journal_by p.hand p.place (p.posts + 1) operation answer;
       begins = own_begins p now;
       ends = own_ends p now;
       steps = p.steps + 1;
     }
+
+-- the same with a request
+abbrev pub after_release_with : PenState → Request → Answer → ℕ → PenState
+after_release_with p request answer now = after_release_by p (Asked request) answer now
+
+-- the same with a removal of what this line put in
+abbrev pub after_release_removing : PenState → ℕ → Answer → ℕ → PenState
+after_release_removing p ticket answer now = after_release_by p (ByTicket (Remove ticket)) answer now
 
 -- as the leader it has carried a request of its own out, which was answered so under the next serial,
 -- and goes on leading: the journal in its hand has the line, if it is entered. No word of its record has

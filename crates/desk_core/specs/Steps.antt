@@ -2,7 +2,9 @@
 -- make.
 use Rattle.std.specs.Prelude.{◌≡◌, ◌≢◌, ℕ, ◌+◌, ◌<◌, ◌⊎◌, true, false, List, [], ◌∷◌, Option, Some, None}
 use Rattle.pq_types.specs.Item.{Item}
-use Rattle.pq_types.specs.Asked.{Request}
+use Rattle.pq_types.specs.Asked.{Request, Operation}
+use Rattle.pq_types.specs.Operation.{Asked, ByTicket, Remove}
+use Rattle.pq_types.specs.Entry.{IsProperOperationOf}
 use Rattle.pq_types.specs.Asked.{Answer}
 use Rattle.pq_types.specs.declared.control.Kind.TheVariants as kind
 use Rattle.pq_types.specs.declared.control.Notice.{Notice}
@@ -11,10 +13,10 @@ use Rattle.pq_types.specs.declared.journal.TheConstants.{GREATEST_NUMBER}
 use Rattle.pq_types.specs.Item.{IsItemOf}
 use Rattle.pq_types.specs.Queue.{IsProperRequestOf}
 use Rattle.pq_types.specs.Control.{kind_of, request_item, answer_item, notice_has_item, posted, answered}
-use Rattle.pq_types.specs.History.{journal_after, MayAnswer}
+use Rattle.pq_types.specs.History.{journal_by, MayAnswer, MayDo}
 use Rattle.pq_book.specs.Book.{Volume}
 use Rattle.desk_core.specs.Pen.{IsIdle, IsKept, after_draft, after_post, after_lead, after_miss, after_read, after_read_item}
-use Rattle.desk_core.specs.Pen.{after_lay, after_answer, after_apply, after_release, after_release_with, after_look, after_see, after_take}
+use Rattle.desk_core.specs.Pen.{after_lay, after_answer, after_apply, after_release, after_release_by, after_look, after_see, after_take}
 use Rattle.desk_core.specs.Desk.{Desk, Has, time, with_control, with_cell, locked, freed, with_pen}
 use Rattle.desk_core.specs.declared.model.Standing.TheVariants.{Idle, Waiting}
 use Rattle.desk_core.specs.declared.model.Due.{Due}
@@ -22,7 +24,7 @@ use Rattle.desk_core.specs.declared.model.PenState.{PenState}
 
 -- What a pen, named by its seat, may do: draft an item; post a request; try the lock; as the leader
 -- read the mail at a place, read the item of what is due, lay the item of an answer there, answer
--- it, apply a request of its own, release the lock, alone or with a request of its own; look for its
+-- it, apply a request of its own, release the lock, alone or with an operation of its own; look for its
 -- answer, and take its item. No order is preferred, and a pen may halt after any step.
 pub data Event : Type 0 where
   Drafts : (seat : ℕ) (item : Item) → Event
@@ -34,10 +36,18 @@ pub data Event : Type 0 where
   Answers : (seat : ℕ) (answer : Answer) → Event
   Applies : (seat : ℕ) (request : Request) (answer : Answer) → Event
   Releases : (seat : ℕ) → Event
-  ReleasesWith : (seat : ℕ) (request : Request) (answer : Answer) → Event
+  ReleasesBy : (seat : ℕ) (operation : Operation) (answer : Answer) → Event
   Looks : (seat : ℕ) → Event
   SeesItem : (seat : ℕ) → Event
   TakesItem : (seat : ℕ) → Event
+
+-- a leader releases the lock with a request of its own
+abbrev pub ReleasesWith : ℕ → Request → Answer → Event
+ReleasesWith seat request answer = ReleasesBy seat (Asked request) answer
+
+-- a leader releases the lock with a removal of what this line put in
+abbrev pub ReleasesRemoving : ℕ → ℕ → Answer → Event
+ReleasesRemoving seat ticket answer = ReleasesBy seat (ByTicket (Remove ticket)) answer
 
 -- whose event it is
 abbrev pub actor : Event → ℕ
@@ -50,7 +60,7 @@ actor (LaysItem seat x) = seat
 actor (Answers seat answer) = seat
 actor (Applies seat request answer) = seat
 actor (Releases seat) = seat
-actor (ReleasesWith seat request answer) = seat
+actor (ReleasesBy seat operation answer) = seat
 actor (Looks seat) = seat
 actor (SeesItem seat) = seat
 actor (TakesItem seat) = seat
@@ -124,17 +134,17 @@ StepsRelease d seat d' =
     (p : PenState) × Has d.views seat p × (p.leading ≡ true)
     × (d' ≡ with_pen (freed d p.hand) seat (after_release p))
 
--- A leader to which nothing is due, and which is idle and has a serial left, releases the lock with a
--- request of its own, answered as a Book with its journal may answer: the Book that goes home has its
+-- A leader to which nothing is due, and which is idle and has a serial left, releases the lock with an
+-- operation of its own, answered as a Book with its journal may answer: the Book that goes home has its
 -- line, if it is entered.
-abbrev pub StepsReleaseWith : Desk → ℕ → Request → Answer → Desk → Type 0
-StepsReleaseWith d seat request answer d' =
+abbrev pub StepsReleaseBy : Desk → ℕ → Operation → Answer → Desk → Type 0
+StepsReleaseBy d seat operation answer d' =
     (p : PenState)
     × Has d.views seat p × (p.leading ≡ true) × (p.due ≡ None) × IsIdle p.standing × (p.posts < GREATEST_NUMBER)
-    × IsProperRequestOf true request
-    × MayAnswer d.room p.hand request answer
-    × (d' ≡ with_pen (freed d (journal_after p.hand p.place (p.posts + 1) request answer)) seat
-    (after_release_with p request answer (time d)))
+    × IsProperOperationOf true operation
+    × MayDo d.room p.hand operation answer
+    × (d' ≡ with_pen (freed d (journal_by p.hand p.place (p.posts + 1) operation answer)) seat
+    (after_release_by p operation answer (time d)))
 
 -- A pen that waits looks at the control of its own place.
 abbrev pub StepsLook : Desk → ℕ → Desk → Type 0
@@ -170,7 +180,7 @@ Step d (LaysItem seat x) d' = StepsLayItem d seat x d'
 Step d (Answers seat answer) d' = StepsAnswer d seat answer d'
 Step d (Applies seat request answer) d' = StepsApply d seat request answer d'
 Step d (Releases seat) d' = StepsRelease d seat d'
-Step d (ReleasesWith seat request answer) d' = StepsReleaseWith d seat request answer d'
+Step d (ReleasesBy seat operation answer) d' = StepsReleaseBy d seat operation answer d'
 Step d (Looks seat) d' = StepsLook d seat d'
 Step d (SeesItem seat) d' = StepsSeeItem d seat d'
 Step d (TakesItem seat) d' = StepsTakeItem d seat d'

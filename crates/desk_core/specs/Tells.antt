@@ -2,7 +2,7 @@
 use Rattle.std.specs.Prelude.{◌≡◌, ◌≢◌, ◌↔◌, ℕ, ◌+◌, ◌<◌, true, false, [], ◌∷◌, ◌++◌, length, Some, None}
 use Rattle.std.specs.List.{AllByRecursion}
 use Rattle.pq_types.specs.Item.{Item}
-use Rattle.pq_types.specs.Asked.{Request}
+use Rattle.pq_types.specs.Asked.{Request, Operation}
 use Rattle.pq_types.specs.declared.request.Request.TheVariants.{Push}
 use Rattle.pq_types.specs.Asked.{Reply}
 use Rattle.pq_types.specs.Asked.{Answer}
@@ -10,12 +10,12 @@ use Rattle.pq_types.specs.declared.answer.Answer.TheVariants.{Entered, BookFull}
 use Rattle.pq_types.specs.declared.control.Kind.{Kind}
 use Rattle.pq_types.specs.declared.control.Control.TheVariants.{Posted}
 use Rattle.pq_types.specs.Control.{answer_item, reply_item, posted, answered, is_posted, is_answer, has_item}
-use Rattle.pq_types.specs.History.{journal_after}
-use Rattle.desk_core.specs.Calls.{call, gained}
+use Rattle.pq_types.specs.History.{journal_by, journal_after}
+use Rattle.desk_core.specs.Calls.{call, gained, gained_by}
 use Rattle.desk_core.specs.Pen.{due_to}
 use Rattle.desk_core.specs.Desk.{Desk, Has, volume}
 use Rattle.desk_core.specs.Steps.{Drafts, Posts, Tries, Reads, ReadsItem, LaysItem, Answers, Applies}
-use Rattle.desk_core.specs.Steps.{Releases, ReleasesWith, Looks, SeesItem, TakesItem, Step}
+use Rattle.desk_core.specs.Steps.{Releases, ReleasesBy, Looks, SeesItem, TakesItem, Step}
 use Rattle.desk_core.specs.Rule.{MeetsRule}
 use Rattle.desk_core.specs.declared.model.Standing.TheVariants.{Idle, Waiting}
 use Rattle.desk_core.specs.declared.model.Due.{Due}
@@ -169,14 +169,14 @@ pub record AfterRelease (d d' : Desk) (p p' : PenState) : Type 0 where
 -- full. The pen keeps that journal as what it knows, the serial is used, and an entered answer joins
 -- its calls, whose serials were below it; no word of its record has changed, and it is idle without a
 -- draft.
-pub record AfterReleaseWith (d d' : Desk) (request : Request) (answer : Answer) (p p' : PenState) : Type 0 where
+pub record AfterReleaseBy (d d' : Desk) (operation : Operation) (answer : Answer) (p p' : PenState) : Type 0 where
   pub leading : p'.leading ≡ false
   pub held : d'.held ≡ false
-  pub known : p'.known ≡ journal_after p.hand p.place p'.posts request answer
+  pub known : p'.known ≡ journal_by p.hand p.place p'.posts operation answer
   pub home : d'.home ≡ Some (volume d.room p'.known)
   pub full : (answer ≡ BookFull) ↔ (length p.hand ≡ d.room)
   pub posts : p'.posts ≡ p.posts + 1
-  pub mine : p'.mine ≡ p.mine ++ gained p'.posts request answer
+  pub mine : p'.mine ≡ p.mine ++ gained_by p'.posts operation answer
   pub below : AllByRecursion (λ c. c.serial < p'.posts) p.mine
   pub standing : p'.standing ≡ Idle None
   pub dealt : p'.dealt ≡ p.dealt
@@ -270,10 +270,10 @@ ApplyTells =
 abbrev pub ReleaseTells : Type 0
 ReleaseTells = (d d' : Desk) (seat : ℕ) → MeetsRule d → Step d (Releases seat) d' → Acted d d' seat (AfterRelease d d')
 
-abbrev pub ReleaseWithTells : Type 0
-ReleaseWithTells =
-    (d d' : Desk) (seat : ℕ) (request : Request) (answer : Answer) → MeetsRule d → Step d (ReleasesWith seat request answer) d'
-    → Acted d d' seat (AfterReleaseWith d d' request answer)
+abbrev pub ReleaseByTells : Type 0
+ReleaseByTells =
+    (d d' : Desk) (seat : ℕ) (operation : Operation) (answer : Answer) → MeetsRule d → Step d (ReleasesBy seat operation answer) d'
+    → Acted d d' seat (AfterReleaseBy d d' operation answer)
 
 abbrev pub LookTells : Type 0
 LookTells = (d d' : Desk) (seat : ℕ) → MeetsRule d → Step d (Looks seat) d' → Acted d d' seat (AfterLook d d')

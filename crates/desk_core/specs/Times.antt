@@ -2,7 +2,7 @@
 -- So of the calls of any two pens it can be told which one ended before the other began, and the journal has their lines
 -- in that order.
 use Rattle.std.specs.Prelude.{◌≡◌, ℕ, ◌<◌, ◌≤◌, ◌⊎◌, List, length, slice_get, Some}
-use Rattle.pq_types.specs.Asked.{Request}
+use Rattle.pq_types.specs.Asked.{Operation}
 use Rattle.pq_types.specs.Asked.{Answer}
 use Rattle.pq_types.specs.declared.journal.TheConstants.{GREATEST_NUMBER}
 use Rattle.desk_core.specs.Desk.{Desk, Has, acts_number, time, dealer_opening}
@@ -28,7 +28,7 @@ KeepsPosition p n = ((serial : ℕ) × BeganAt p serial n) ⊎ ((serial : ℕ) �
 pub record IsTimed (history : List Act) (p : PenState) : Type 0 where
   pub begun :
       (serial n : ℕ) → BeganAt p serial n
-      → (request : Request) × (slice_get history n ≡ Some (Begins p.place serial request))
+      → (operation : Operation) × (slice_get history n ≡ Some (Begins p.place serial operation))
   pub ended :
       (serial n : ℕ) → EndedAt p serial n
       → (answer : Answer) × (slice_get history n ≡ Some (Ends p.place serial answer))
@@ -36,7 +36,7 @@ pub record IsTimed (history : List Act) (p : PenState) : Type 0 where
 -- Before this position the history has no other acts of the pen's place than those whose positions the pen keeps.
 pub record IsWhole (history : List Act) (until : ℕ) (p : PenState) : Type 0 where
   pub begun :
-      (serial n : ℕ) (request : Request) → n < until → slice_get history n ≡ Some (Begins p.place serial request)
+      (serial n : ℕ) (operation : Operation) → n < until → slice_get history n ≡ Some (Begins p.place serial operation)
       → BeganAt p serial n
   pub ended :
       (serial n : ℕ) (answer : Answer) → n < until → slice_get history n ≡ Some (Ends p.place serial answer)

@@ -1,5 +1,6 @@
 -- Histories in full: what callers see of a run, and a history that a journal doesn't linearize.
 use Rattle.std.specs.Prelude.{◌≡◌, ℕ, false, List, [], ◌∷◌, Some}
+use Rattle.pq_types.specs.Operation.{Asked}
 use Rattle.pq_types.specs.declared.request.Request.TheVariants.{Push, Pop}
 use Rattle.pq_types.specs.declared.answer.Reply.TheVariants.{Pushed, Got, Empty}
 use Rattle.pq_types.specs.declared.answer.Answer.TheVariants.{Entered}
@@ -26,7 +27,7 @@ pub record Overtaking : Type 0 where
   pub run : Run (opening 2 4) overtaking done
   pub seen :
       history (opening 2 4) overtaking done run
-      ≡ Begins 0 1 Pop ∷ Begins 1 1 (Push (item 5 7)) ∷ Ends 1 1 (Entered 1 Pushed) ∷ Ends 0 1 (Entered 2 (Got (item 5 7))) ∷ []
+      ≡ Begins 0 1 (Asked Pop) ∷ Begins 1 1 (Asked (Push (item 5 7))) ∷ Ends 1 1 (Entered 1 Pushed) ∷ Ends 0 1 (Entered 2 (Got (item 5 7))) ∷ []
   pub journal : done.home ≡ Some (volume 4 (line 1 1 (Push (item 5 7)) Pushed ∷ line 0 1 Pop (Got (item 5 7)) ∷ []))
 
 -- The pen at 0 posts a pop. The pen at 1 leads, applies two pushes of its own, and releases: a batch of two.
@@ -41,8 +42,8 @@ pub record Together : Type 0 where
   pub run : Run (opening 2 4) together done
   pub seen :
       history (opening 2 4) together done run
-      ≡ Begins 0 1 Pop ∷ Begins 1 1 (Push (item 5 7)) ∷ Ends 1 1 (Entered 1 Pushed)
-      ∷ Begins 1 2 (Push (item 3 8)) ∷ Ends 1 2 (Entered 2 Pushed) ∷ []
+      ≡ Begins 0 1 (Asked Pop) ∷ Begins 1 1 (Asked (Push (item 5 7))) ∷ Ends 1 1 (Entered 1 Pushed)
+      ∷ Begins 1 2 (Asked (Push (item 3 8))) ∷ Ends 1 2 (Entered 2 Pushed) ∷ []
   pub journal : done.home ≡ Some (volume 4 (line 1 1 (Push (item 5 7)) Pushed ∷ line 1 2 (Push (item 3 8)) Pushed ∷ []))
 
 -- A dealer gives out the pen of place 0, which posts a pop, and then that of place 1, which enters a push by a request of its
@@ -57,12 +58,12 @@ pub record ComingOut : Type 0 where
   pub run : DealtRun (dealer_opening 2 4) coming_out done
   pub seen :
       dealt_history (dealer_opening 2 4) coming_out done run
-      ≡ Begins 0 1 Pop ∷ Begins 1 1 (Push (item 5 7)) ∷ Ends 1 1 (Entered 1 Pushed) ∷ []
+      ≡ Begins 0 1 (Asked Pop) ∷ Begins 1 1 (Asked (Push (item 5 7))) ∷ Ends 1 1 (Entered 1 Pushed) ∷ []
   pub journal : done.home ≡ Some (volume 4 (line 1 1 (Push (item 5 7)) Pushed ∷ []))
 
 -- a push that has ended, and then a pop that finds the queue empty
 abbrev pub stale : List Act
-stale = Begins 0 1 (Push (item 5 7)) ∷ Ends 0 1 (Entered 2 Pushed) ∷ Begins 1 1 Pop ∷ Ends 1 1 (Entered 1 Empty) ∷ []
+stale = Begins 0 1 (Asked (Push (item 5 7))) ∷ Ends 0 1 (Entered 2 Pushed) ∷ Begins 1 1 (Asked Pop) ∷ Ends 1 1 (Entered 1 Empty) ∷ []
 
 -- the journal that would make it so, with the pop in front of the push
 abbrev pub stale_lines : List Line

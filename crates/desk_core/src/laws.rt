@@ -8,7 +8,7 @@ ghost use Rattle.desk_core.specs.Dealing.{EveryDealtRunIsLinearizable, DealtOrde
 ghost use Rattle.desk_core.specs.Dealing.{ReachedMeetRule, MovesReach};
 ghost use Rattle.desk_core.specs.Guards.{AskingNeedsGuards, LeadingNeedsGuards};
 ghost use Rattle.desk_core.specs.Keeping.{DraftKeeps, PostKeeps, LeadKeeps, MissKeeps, ReadKeeps, ReadItemKeeps};
-ghost use Rattle.desk_core.specs.Keeping.{LayItemKeeps, AnswerKeeps, ApplyKeeps, ReleaseKeeps, ReleaseWithKeeps, LookKeeps};
+ghost use Rattle.desk_core.specs.Keeping.{LayItemKeeps, AnswerKeeps, ApplyKeeps, ReleaseKeeps, ReleaseByKeeps, LookKeeps};
 ghost use Rattle.desk_core.specs.Keeping.{SeeItemKeeps, TakeItemKeeps, DueIsNew, PensAreSeated};
 ghost use Rattle.desk_core.specs.Knows.{LeadersKnow, HomeIsKnown, CallsHaveReplies};
 ghost use Rattle.desk_core.specs.Layout.{LockStored, ControlStored, ItemStored, Loaded};
@@ -21,7 +21,7 @@ ghost use Rattle.desk_core.specs.Needs.{OwnRequestNeeds};
 ghost use Rattle.desk_core.specs.Notes.{CatchUpKeeps, WritingKeeps, HearingKeeps, CopyingKeeps};
 ghost use Rattle.desk_core.specs.Rule.{OpeningsMeetRule, EveryStepKeepsRule, DealingKeepsRule, EveryRunMeetsRule};
 ghost use Rattle.desk_core.specs.Tells.{DraftTells, PostTells, TryTells, ReadTells, ReadItemTells, LayItemTells, AnswerTells};
-ghost use Rattle.desk_core.specs.Tells.{ReleaseTells, ReleaseWithTells, LookTells, SeeItemTells, TakeItemTells, ApplyTells};
+ghost use Rattle.desk_core.specs.Tells.{ReleaseTells, ReleaseByTells, LookTells, SeeItemTells, TakeItemTells, ApplyTells};
 ghost use Rattle.desk_core.specs.Positions.{PositionsAreForced};
 ghost use Rattle.desk_core.specs.Times.{EveryDealtRunIsTimed, EveryDealtRunIsWhole, TimesOrderCalls};
 ghost use Rattle.desk_core.specs.Witnessed.{TestimoniesAreTrue, LinearizedFollowTime};
@@ -63,7 +63,7 @@ pub fn law_each_step_keeps_the_rule()
     ensures answer { AnswerKeeps }
     ensures apply { ApplyKeeps }
     ensures release { ReleaseKeeps }
-    ensures release_with { ReleaseWithKeeps }
+    ensures release_by { ReleaseByKeeps }
     ensures look { LookKeeps }
     ensures see_item { SeeItemKeeps }
     ensures take_item { TakeItemKeeps }
@@ -86,7 +86,7 @@ pub fn law_each_step_tells()
     ensures answer { AnswerTells }
     ensures apply { ApplyTells }
     ensures release { ReleaseTells }
-    ensures release_with { ReleaseWithTells }
+    ensures release_by { ReleaseByTells }
     ensures look { LookTells }
     ensures see_item { SeeItemTells }
     ensures take_item { TakeItemTells }

@@ -1,15 +1,15 @@
 // The desk's pens as plain data: what proofs know of a thread that posts, leads or waits. Machines
 // make no value of these types but `Call`.
-use pq_types::{Control, Item, Kind, Line, Reply, Request};
+use pq_types::{Control, Item, Kind, Line, Operation, Reply, Request};
 use std::collections::LinkedList;
 
 /// An answer that was entered, as its asker keeps it: the journal line, from 1, the serial of the
-/// post, the request and the reply.
+/// post, the operation and the reply.
 #[derive(Clone, Copy)]
 pub struct Call {
     pub number: u64,
     pub serial: u64,
-    pub request: Request,
+    pub operation: Operation,
     pub reply: Reply,
 }
 

@@ -25,7 +25,7 @@ one_longer x (y ∷ ys) =
 left_within : (most place serial : ℕ) (x : Item) (answer : Answer) (lines : List Line) → length (left lines) < most
     → length (left (journal_after lines place serial (Push x) answer)) ≤ most
 left_within most place serial x (Entered number reply) lines fewer =
-    omega (arith, ap length (left_more lines (line place serial (Push x) reply)), one_longer x (left lines), fewer)
+    omega (arith, ap length (left_more lines (line place serial (Push x) reply) (Push x) refl), one_longer x (left lines), fewer)
 left_within most place serial x BookFull lines fewer = omega (arith, fewer)
 left_within most place serial x NoMemory lines fewer = omega (arith, fewer)
 

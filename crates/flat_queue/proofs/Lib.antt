@@ -13,6 +13,7 @@ pub mod Turns
 pub mod Misses
 pub mod OwnRequests
 pub mod UpTos
+pub mod Removings
 pub mod Together
 pub mod Lookings
 pub mod Countings

@@ -1,7 +1,8 @@
 -- What tries that found the lock held leave of a member, and a call behind such tries.
 use Rattle.std.proofs.Common.{◌≡◌, ◌∙◌, ℕ, zero, suc, ◌+◌, ◌<◌, ◌≤◌, sym, ap, subst, refl, arith, true, List}
 use Rattle.std.specs.Prelude.{Option, Some, Result, Ok, Err, IfOk, IfErr}
-use Rattle.pq_types.specs.Asked.{Request}
+use Rattle.pq_types.specs.Asked.{Request, Operation}
+use Rattle.pq_types.specs.Operation.{Asked}
 use Rattle.pq_types.specs.Asked.{Reply}
 use Rattle.desk_core.specs.declared.model.Call.{Call}
 use Rattle.desk_core.specs.declared.model.Standing.{Standing}
@@ -10,7 +11,7 @@ use Rattle.desk_core.specs.declared.model.Word.TheVariants as word
 use Rattle.flat_queue.specs.Limits.{most_posts}
 use Rattle.flat_queue.specs.Members.{Joined}
 use Rattle.flat_queue.specs.Turns.{FindsLockHeld, Misses}
-use Rattle.flat_queue.specs.Calling.{HasPostedOne, IsCalled, IsRefused, MakesCall}
+use Rattle.flat_queue.specs.Calling.{HasPostedOne, IsEntered, IsCalled, IsRefused, MakesCall}
 use Rattle.flat_queue.specs.declared.error.CallError.{CallError}
 use Rattle.flat_queue.specs.declared.error.CallError.TheVariants.{NoMemory, BookFull, Spent, GaveUp}
 
@@ -68,10 +69,14 @@ one_behind a c read steps now calls h =
       mine = h.mine;
     }
 
+pub entered_behind : (a c : Joined) (read : Option Word) (steps : ℕ) (operation : Operation) (number : ℕ) (reply : Reply)
+    → IsEntered (missed_as a read steps) operation number reply c → IsEntered a operation number reply c
+entered_behind a c read steps operation number reply h =
+    record { member = one_behind a c read steps _ _ h.member; reply_is = h.reply_is; line = h.line; within = h.within; behind = h.behind; beyond = h.beyond; times = record { began = h.times.began; ended = h.times.ended; begins = h.times.begins; ends = h.times.ends } }
+
 pub called_behind : (a c : Joined) (read : Option Word) (steps : ℕ) (request : Request) (number : ℕ) (reply : Reply)
     → IsCalled (missed_as a read steps) request number reply c → IsCalled a request number reply c
-called_behind a c read steps request number reply h =
-    record { member = one_behind a c read steps _ _ h.member; reply_is = h.reply_is; line = h.line; within = h.within; behind = h.behind; beyond = h.beyond; times = record { began = h.times.began; ended = h.times.ended; begins = h.times.begins; ends = h.times.ends } }
+called_behind a c read steps request number reply h = entered_behind a c read steps (Asked request) number reply h
 
 -- a refusal behind them is one of the member before them
 refused_behind : (a c : Joined) (read : Option Word) (steps : ℕ) (request : Request) (error : CallError) → a.pen.posts < most_posts a.queue.room

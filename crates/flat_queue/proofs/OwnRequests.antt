@@ -3,7 +3,8 @@ use Rattle.std.proofs.Common.{◌≡◌, ◌∙◌, ℕ, zero, suc, ◌+◌, ◌
 use Rattle.std.specs.Prelude.{Option, Some, None, Result, Ok, Err, IfOk, IfErr, IsErrOf, ◌≢◌}
 use Rattle.std.proofs.lemmas.List.{append-nil}
 use Rattle.pq_types.specs.Item.{Item}
-use Rattle.pq_types.specs.Asked.{Request}
+use Rattle.pq_types.specs.Asked.{Request, Operation}
+use Rattle.pq_types.specs.Operation.{Asked, request_of}
 use Rattle.pq_types.specs.Asked.{Reply}
 use Rattle.pq_types.specs.Asked.{Answer}
 use Rattle.pq_types.specs.declared.answer.Answer.TheVariants.{Entered}
@@ -13,7 +14,7 @@ use Rattle.pq_types.specs.declared.control.Control.TheVariants.{Nothing, Posted,
 use Rattle.pq_types.specs.Control.{is_posted}
 use Rattle.pq_types.specs.History.{journal_after}
 use Rattle.pq_book.specs.Book.{Volume}
-use Rattle.desk_core.specs.Calls.{gained}
+use Rattle.desk_core.specs.Calls.{gained_by}
 use Rattle.desk_core.specs.Pen.{due_at, after_miss}
 use Rattle.desk_core.specs.Rule.{StartsWith}
 use Rattle.desk_core.specs.declared.model.Due.{Due}
@@ -29,12 +30,12 @@ use Rattle.flat_queue.specs.Members.{Joined, StaysAtPlace}
 use Rattle.flat_queue.specs.Sweeping.{SweepsBy}
 use Rattle.flat_queue.specs.TrailSweeping.{IsTrailSweptBy}
 use Rattle.flat_queue.specs.Turns.{FindsLockHeld, Misses}
-use Rattle.flat_queue.specs.Calling.{KeepsTimes, HasPostedOne, IsCalled, IsRefused, MakesCall, PostsAndWaitsBy, ended, told_by}
-use Rattle.flat_queue.specs.OwnRequest.{SweepsWhereBy, ReleasesWith, CarriesOutBy, EntersAtOnceBy, TriesOrWaitsBy, EntersOrWaitsBy}
+use Rattle.flat_queue.specs.Calling.{KeepsTimes, HasPostedOne, IsEntered, IsRefused, MakesCall, PostsAndWaitsBy, ended, told_by}
+use Rattle.flat_queue.specs.OwnRequest.{SweepsWhereBy, ReleasesOperation, ReleasesWith, CarriesOutOperationBy, CarriesOutBy, EntersAtOnceBy, TriesOrWaitsBy, EntersOrWaitsBy}
 use Rattle.flat_queue.specs.declared.error.CallError.{CallError}
 use Rattle.flat_queue.specs.declared.error.CallError.TheVariants.{NoMemory, BookFull, Spent, GaveUp}
 use Rattle.flat_queue.proofs.Misses.{HasMissed, missed_none, missed_on, call_behind}
-use Rattle.flat_queue.proofs.Waits.{starts_trans, starts_after, sweeps_start}
+use Rattle.flat_queue.proofs.Waits.{starts_trans, starts_by, sweeps_start}
 
 -- a place that was served leaves nothing due
 none_due : (control : Control) → is_posted control ≡ false → (place : ℕ) → due_at place control ≡ None
@@ -116,10 +117,10 @@ pub is_ready : (words : ℕ) (hinted : Bool) (a b c : Joined) (book : Volume) �
 is_ready words true a b c book h w s = is_swept words a b c s.0 s.1 (is_led a b book h w) s.2
 is_ready words false a b c book h w e = subst (IsReady a) (sym e) (is_led a b book h w)
 
--- what it gains by a request of its own
-gains : (a b c : Joined) (request : Request) (x : Answer) → IsReady a b → ReleasesWith b request x c → HasPostedOne a (Idle None) (a.pen.mine ++ gained (a.pen.posts + 1) request x) c
-gains a b c request x h r =
-    subst (HasPostedOne a (Idle None) (a.pen.mine ++ gained (a.pen.posts + 1) request x)) (sym r.after_is)
+-- what it gains by an operation of its own
+gains : (a b c : Joined) (operation : Operation) (x : Answer) → IsReady a b → ReleasesOperation b operation x c → HasPostedOne a (Idle None) (a.pen.mine ++ gained_by (a.pen.posts + 1) operation x) c
+gains a b c operation x h r =
+    subst (HasPostedOne a (Idle None) (a.pen.mine ++ gained_by (a.pen.posts + 1) operation x)) (sym r.after_is)
     record {
       stays = record {
         queue = h.queue;
@@ -129,11 +130,11 @@ gains a b c request x h r =
         room = h.room;
         leading = sym h.led_not;
         rest = h.rest;
-        known = starts_trans _ b.pen.hand a.pen.known (starts_after b.pen.hand b.pen.place (b.pen.posts + 1) request x) h.hand;
+        known = starts_trans _ b.pen.hand a.pen.known (starts_by b.pen.hand b.pen.place (b.pen.posts + 1) operation x) h.hand;
       };
       posts = ap (λ n. n + 1) h.posts;
       standing = refl;
-      mine = ap (λ l. l ++ gained (b.pen.posts + 1) request x) h.mine ∙ ap (λ n. a.pen.mine ++ gained (n + 1) request x) h.posts;
+      mine = ap (λ l. l ++ gained_by (b.pen.posts + 1) operation x) h.mine ∙ ap (λ n. a.pen.mine ++ gained_by (n + 1) operation x) h.posts;
     }
 
 no_more : (a c : Joined) (now : Standing) (calls : List Call) → HasPostedOne a now (calls ++ []) c → HasPostedOne a now calls c
@@ -145,13 +146,13 @@ own_turns words (Entered number reply) a c request h = (Entered number reply, re
 own_turns words answer.BookFull a c request h = (answer.BookFull, refl, h)
 own_turns words answer.NoMemory a c request h = (answer.NoMemory, refl, h)
 
--- what it gains that carried its request out
-gained_own : (words : ℕ) (x : Answer) (a c : Joined) (request : Request) → CarriesOutBy words a request x c → HasPostedOne a (Idle None) (a.pen.mine ++ gained (a.pen.posts + 1) request x) c
-gained_own words x a c request h = gains a h.ready c request x (is_ready words h.hinted a h.led h.ready h.book h.stays h.won h.sweeps) h.released
+-- what it gains that carried its operation out
+gained_own : (words : ℕ) (x : Answer) (a c : Joined) (operation : Operation) → CarriesOutOperationBy words a operation x c → HasPostedOne a (Idle None) (a.pen.mine ++ gained_by (a.pen.posts + 1) operation x) c
+gained_own words x a c operation h = gains a h.ready c operation x (is_ready words h.hinted a h.led h.ready h.book h.stays h.won h.sweeps) h.released
 
 -- when it began and ended
-times_own : (words : ℕ) (x : Answer) (a c : Joined) (request : Request) → CarriesOutBy words a request x c → KeepsTimes a.pen c.pen
-times_own words x a c request h =
+times_own : (words : ℕ) (x : Answer) (a c : Joined) (operation : Operation) → CarriesOutOperationBy words a operation x c → KeepsTimes a.pen c.pen
+times_own words x a c operation h =
     let r = is_ready words h.hinted a h.led h.ready h.book h.stays h.won h.sweeps in
     let now = h.released.now in
     record {
@@ -162,18 +163,36 @@ times_own words x a c request h =
     }
 
 -- its line is behind those of all calls before
-behind_own : (words : ℕ) (a c : Joined) (request : Request) (number : ℕ) (reply : Reply) → CarriesOutBy words a request (Entered number reply) c → IsAboveAll number a.pen.mine
-behind_own words a c request number reply h =
+behind_own : (words : ℕ) (a c : Joined) (operation : Operation) (number : ℕ) (reply : Reply) → CarriesOutOperationBy words a operation (Entered number reply) c → IsAboveAll number a.pen.mine
+behind_own words a c operation number reply h =
     subst (IsAboveAll number) (is_ready words h.hinted a h.led h.ready h.book h.stays h.won h.sweeps).mine (h.released.behind number reply refl)
 
 -- and behind the whole journal that it knew
-beyond_own : (words : ℕ) (a c : Joined) (request : Request) (number : ℕ) (reply : Reply) → CarriesOutBy words a request (Entered number reply) c → length a.pen.known < number
-beyond_own words a c request number reply h =
+beyond_own : (words : ℕ) (a c : Joined) (operation : Operation) (number : ℕ) (reply : Reply) → CarriesOutOperationBy words a operation (Entered number reply) c → length a.pen.known < number
+beyond_own words a c operation number reply h =
     let hand = (is_ready words h.hinted a h.led h.ready h.book h.stays h.won h.sweeps).hand in
     let longer = ap length hand.1 in
     let may = h.released.may in
     let next = may.1 in
     omega (arith, longer, length-append a.pen.known hand.0, next)
+
+-- an operation that it carried out and that has a line was entered: its answer is one to such an operation
+pub entered_own : (words : ℕ) (a c : Joined) (operation : Operation) (number : ℕ) (reply : Reply) → CarriesOutOperationBy words a operation (Entered number reply) c
+    → IsAnswerTo a.queue.room (request_of operation) (Entered number reply) → IsEntered a operation number reply c
+entered_own words a c operation number reply h fits =
+    record {
+      member = gained_own words (Entered number reply) a c operation h;
+      reply_is = fits.2;
+      line = fits.0;
+      within = fits.1;
+      behind = behind_own words a c operation number reply h;
+      beyond = beyond_own words a c operation number reply h;
+      times = times_own words (Entered number reply) a c operation h;
+    }
+
+-- and one that was refused left the member without a call
+pub refused_own : (words : ℕ) (a c : Joined) (operation : Operation) → CarriesOutOperationBy words a operation answer.BookFull c → HasPostedOne a (Idle None) a.pen.mine c
+refused_own words a c operation h = no_more a c (Idle None) a.pen.mine (gained_own words answer.BookFull a c operation h)
 
 -- what a call comes to that carried its request out: its answer is one to it
 pub called_own : (words : ℕ) (x : Answer) (a c : Joined) (request : Request) (has_room : Type 0) → CarriesOutBy words a request x c → IsAnswerTo a.queue.room request x
@@ -181,7 +200,7 @@ pub called_own : (words : ℕ) (x : Answer) (a c : Joined) (request : Request) (
     → MakesCall (EntersAtOnceBy words) (λ told. told) has_room a request (ended (Some x)) c
 called_own words (Entered number reply) a c request has_room h fits few memory =
     record {
-      ok = record { member = gained_own words (Entered number reply) a c request h; reply_is = fits.2; line = fits.0; within = fits.1; behind = behind_own words a c request number reply h; beyond = beyond_own words a c request number reply h; times = times_own words (Entered number reply) a c request h };
+      ok = entered_own words a c (Asked request) number reply h fits;
       err = tt;
       full = λ e. absurd (cc e);
       spent = (λ e. absurd (cc e), λ le. absurd (omega (arith, le, few)));
@@ -192,7 +211,7 @@ called_own words (Entered number reply) a c request has_room h fits few memory =
 called_own words answer.BookFull a c request has_room h fits few memory =
     record {
       ok = tt;
-      err = no_more a c (Idle None) a.pen.mine (gained_own words answer.BookFull a c request h);
+      err = refused_own words a c (Asked request) h;
       full = λ e. h.released.full refl;
       spent = (λ e. absurd (cc e), λ le. absurd (omega (arith, le, few)));
       turns = λ f. own_turns words answer.BookFull a c request h;
@@ -202,7 +221,7 @@ called_own words answer.BookFull a c request has_room h fits few memory =
 called_own words answer.NoMemory a c request has_room h fits few memory =
     record {
       ok = tt;
-      err = (fits, no_more a c (Idle None) a.pen.mine (gained_own words answer.NoMemory a c request h));
+      err = (fits, no_more a c (Idle None) a.pen.mine (gained_own words answer.NoMemory a c (Asked request) h));
       full = λ e. absurd (cc e);
       spent = (λ e. absurd (cc e), λ le. absurd (omega (arith, le, few)));
       turns = λ f. own_turns words answer.NoMemory a c request h;

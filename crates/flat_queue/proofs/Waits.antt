@@ -3,7 +3,7 @@ use Rattle.std.proofs.Common.{◌≡◌, ◌∙◌, ℕ, ◌++◌, inl, inr, ⊎
 use Rattle.std.specs.Prelude.{Option, Some, None, IfSome, IfNone}
 use Rattle.std.proofs.lemmas.List.{append-nil, append_assoc}
 use Rattle.pq_types.specs.Item.{Item}
-use Rattle.pq_types.specs.Asked.{Request}
+use Rattle.pq_types.specs.Asked.{Request, Operation}
 use Rattle.pq_types.specs.declared.request.Request.TheVariants.{Push, Pop, Least}
 use Rattle.pq_types.specs.Asked.{Answer}
 use Rattle.pq_types.specs.declared.answer.Answer.TheVariants.{Entered, BookFull, NoMemory}
@@ -14,7 +14,8 @@ use Rattle.pq_types.specs.declared.control.Control.{Control}
 use Rattle.pq_types.specs.declared.control.Control.TheVariants.{Nothing, Posted, Answered}
 use Rattle.pq_types.specs.Asked.{Line}
 use Rattle.pq_types.specs.Control.{notice_has_item}
-use Rattle.pq_types.specs.History.{journal_after, line}
+use Rattle.pq_types.specs.History.{journal_after, journal_by, line_of}
+use Rattle.pq_types.specs.Operation.{Asked}
 use Rattle.pq_book.specs.Book.{Volume}
 use Rattle.desk_core.specs.Calls.{gained}
 use Rattle.desk_core.specs.Clauses.{HasNo}
@@ -38,10 +39,13 @@ starts_refl journal = ([], sym (append-nil journal))
 pub starts_trans : (a b c : List Line) → StartsWith a b → StartsWith b c → StartsWith a c
 starts_trans a b c (r, e) (s, f) = (s ++ r, e ∙ (ap (λ l. l ++ r) f ∙ append_assoc c s r))
 
+pub starts_by : (journal : List Line) (place serial : ℕ) (operation : Operation) (answer : Answer) → StartsWith (journal_by journal place serial operation answer) journal
+starts_by journal place serial operation (Entered number told) = (line_of place serial operation told ∷ [], refl)
+starts_by journal place serial operation BookFull = starts_refl journal
+starts_by journal place serial operation NoMemory = starts_refl journal
+
 pub starts_after : (journal : List Line) (place serial : ℕ) (request : Request) (answer : Answer) → StartsWith (journal_after journal place serial request answer) journal
-starts_after journal place serial request (Entered number told) = (line place serial request told ∷ [], refl)
-starts_after journal place serial request BookFull = starts_refl journal
-starts_after journal place serial request NoMemory = starts_refl journal
+starts_after journal place serial request answer = starts_by journal place serial (Asked request) answer
 
 -- what an answer makes of the journal in hand
 hand_served : (words : ℕ) (p : PenState) (place serial : ℕ) (request : Request) (answer : Answer) (x : Option Item) → (laid_and_answered_by words x (found_posted_by words p place serial request) (due_of place serial request) request answer).hand ≡ journal_after p.hand place serial request answer

@@ -2,7 +2,8 @@
 use Rattle.std.specs.Prelude.{◌≡◌, ℕ, ◌+◌, ◌<◌, ◌≤◌, ◌↔◌, List, [], ◌∷◌, ◌++◌, length, Option, Some, None}
 use Rattle.std.specs.Prelude.{Result, Ok, Err, IfOk, IfErr, IsErrOf}
 use Rattle.pq_types.specs.Item.{Item}
-use Rattle.pq_types.specs.Asked.{Request}
+use Rattle.pq_types.specs.Asked.{Request, Operation}
+use Rattle.pq_types.specs.Operation.{Asked, request_of}
 use Rattle.pq_types.specs.Asked.{Reply}
 use Rattle.pq_types.specs.declared.answer.Reply.TheVariants.{Got, Empty, Least as LeastIs}
 use Rattle.pq_types.specs.Asked.{Answer}
@@ -12,7 +13,7 @@ use Rattle.flat_queue.specs.Limits.{most_posts}
 use Rattle.pq_types.specs.Queue.{IsPush}
 use Rattle.pq_types.specs.Mail.{IsLineNumber}
 use Rattle.desk_core.specs.Beyond.{IsBeyond}
-use Rattle.desk_core.specs.Calls.{call, gained}
+use Rattle.desk_core.specs.Calls.{call_of, gained}
 use Rattle.desk_core.specs.Rule.{StartsWith}
 use Rattle.desk_core.specs.declared.model.Call.{Call}
 use Rattle.desk_core.specs.declared.model.PenState.{PenState}
@@ -54,19 +55,24 @@ pub record KeepsTimes (before after : PenState) : Type 0 where
   pub begins : after.begins ≡ before.begins ++ (before.posts + 1, began) ∷ []
   pub ends : after.ends ≡ before.ends ++ (before.posts + 1, ended) ∷ []
 
--- The request was entered in the journal on the line of this number, for which the journal has room, and
+-- The operation, a request or a removal by a ticket, was entered in the journal on the line of this number, for which the
+-- journal has room, and
 -- which is behind those of all its calls before, and behind the whole journal that it knew: that of its last release,
 -- and of the notes that it wrote and heard since,
--- with this reply, which is one to such a request: the member is idle, has this one call more, and keeps when it began and
+-- with this reply, which is one to such an operation: the member is idle, has this one call more, and keeps when it began and
 -- ended.
-pub record IsCalled (before : Joined) (request : Request) (number : ℕ) (reply : Reply) (after : Joined) : Type 0 where
-  pub member : HasPostedOne before (Idle None) (before.pen.mine ++ call number (before.pen.posts + 1) request reply ∷ []) after
-  pub reply_is : IsReplyTo request reply
+pub record IsEntered (before : Joined) (operation : Operation) (number : ℕ) (reply : Reply) (after : Joined) : Type 0 where
+  pub member : HasPostedOne before (Idle None) (before.pen.mine ++ call_of number (before.pen.posts + 1) operation reply ∷ []) after
+  pub reply_is : IsReplyTo (request_of operation) reply
   pub line : IsLineNumber number
   pub within : number ≤ before.queue.room
   pub behind : IsAboveAll number before.pen.mine
   pub beyond : length before.pen.known < number
   pub times : KeepsTimes before.pen after.pen
+
+-- so was this request
+abbrev pub IsCalled : (before : Joined) (request : Request) (number : ℕ) (reply : Reply) (after : Joined) → Type 0
+IsCalled before request number reply after = IsEntered before (Asked request) number reply after
 
 -- what each refusal says: the request has no line and the member is idle; or nothing was done, as
 -- no serial was left; or the gate may say so and the request stays posted

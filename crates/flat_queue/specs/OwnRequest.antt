@@ -1,12 +1,13 @@
 -- What a member does that carries its own request out.
 use Rattle.std.specs.Prelude.{◌≡◌, ℕ, ◌<◌, ◌⊎◌, Bool, true, false, Some, Result}
-use Rattle.pq_types.specs.Asked.{Request}
+use Rattle.pq_types.specs.Asked.{Request, Operation}
+use Rattle.pq_types.specs.Operation.{Asked}
 use Rattle.pq_types.specs.Asked.{Reply}
 use Rattle.pq_types.specs.Asked.{Answer}
 use Rattle.pq_types.specs.declared.answer.Answer.TheVariants.{Entered, BookFull}
-use Rattle.pq_types.specs.History.{MayAnswer}
+use Rattle.pq_types.specs.History.{MayDo}
 use Rattle.pq_book.specs.Book.{Volume}
-use Rattle.desk_core.specs.Pen.{after_release_with}
+use Rattle.desk_core.specs.Pen.{after_release_by}
 use Rattle.announce_board.specs.Asking.{IsAboveAll, IsFullFor}
 use Rattle.announce_board.specs.Serving.{Wins}
 use Rattle.flat_queue.specs.Members.{Joined, StaysAtPlace}
@@ -21,19 +22,23 @@ abbrev pub SweepsWhereBy : ℕ → Bool → Joined → Joined → Type 0
 SweepsWhereBy words true before after = (answers doors : ℕ) × IsTrailSweptBy words before answers doors after
 SweepsWhereBy words false before after = after ≡ before
 
--- The leader released the lock with this request of its own, which was so answered as the one-thread
--- queue may with the journal in its hand: on a line behind those of all its calls before, and BookFull
+-- The leader released the lock with this operation of its own, a request or a removal by a ticket, which was so answered as
+-- the one-thread queue may with the journal in its hand: on a line behind those of all its calls before, and BookFull
 -- where that journal was full. It posted nothing.
-pub record ReleasesWith (before : Joined) (request : Request) (answer : Answer) (after : Joined) : Type 0 where
-  pub may : MayAnswer before.pen.room before.pen.hand request answer
+pub record ReleasesOperation (before : Joined) (operation : Operation) (answer : Answer) (after : Joined) : Type 0 where
+  pub may : MayDo before.pen.room before.pen.hand operation answer
   pub behind : (number : ℕ) (reply : Reply) → answer ≡ Entered number reply → IsAboveAll number before.pen.mine
   pub full : answer ≡ BookFull → IsFullFor after.pen
   pub now : ℕ
-  pub after_is : after ≡ record before { pen = after_release_with before.pen request answer now }
+  pub after_is : after ≡ record before { pen = after_release_by before.pen operation answer now }
 
--- The member won the lock, served the others where it read that somebody had posted, and released with this request
+-- the same with a request
+abbrev pub ReleasesWith : (before : Joined) (request : Request) (answer : Answer) (after : Joined) → Type 0
+ReleasesWith before request answer after = ReleasesOperation before (Asked request) answer after
+
+-- The member won the lock, served the others where it read that somebody had posted, and released with this operation
 -- of its own, which was so answered.
-pub record CarriesOutBy (words : ℕ) (before : Joined) (request : Request) (answer : Answer) (after : Joined) : Type 0 where
+pub record CarriesOutOperationBy (words : ℕ) (before : Joined) (operation : Operation) (answer : Answer) (after : Joined) : Type 0 where
   pub book : Volume
   pub led : Joined
   pub ready : Joined
@@ -41,7 +46,11 @@ pub record CarriesOutBy (words : ℕ) (before : Joined) (request : Request) (ans
   pub stays : StaysAtPlace before led
   pub hinted : Bool
   pub sweeps : SweepsWhereBy words hinted led ready
-  pub released : ReleasesWith ready request answer after
+  pub released : ReleasesOperation ready operation answer after
+
+-- the same with a request
+abbrev pub CarriesOutBy : (words : ℕ) (before : Joined) (request : Request) (answer : Answer) (after : Joined) → Type 0
+CarriesOutBy words before request answer after = CarriesOutOperationBy words before (Asked request) answer after
 
 -- the call found the lock free, and tells the answer with which the member carried its own request out
 abbrev pub EntersAtOnceBy : ℕ → Joined → Request → Result (ℕ × Reply) CallError → Joined → Type 0

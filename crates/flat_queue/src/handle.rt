@@ -113,7 +113,7 @@ impl<'q, S: Store<Entry<P>>, P: Part> Handle<'q, S, P> {
         self.member.posts()
     }
 
-    /// Puts an item into the queue, as `Queue::push` does: the number of the push's journal line. It
+    /// Puts an item into the queue, as `Queue::push` does: the number of the push's journal line, which is the item's ticket. It
     /// enters at once where it finds the lock free, else it waits, and it takes memory where the store
     /// has to grow. Refusals: `NoMemory` (9), but never over stores that all have room for as many
     /// items as the journal has lines, `BookFull` (10), `Spent` (11).

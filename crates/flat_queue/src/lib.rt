@@ -32,6 +32,9 @@
 //! - `Queue::pop_up_to` takes the first item out where its priority is at most a bound, and else tells it. It
 //!   waits until it has the lock, chooses its request under it, and posts nothing. `Queue::take_first` looks so too, and
 //!   makes no request where the first item stays or there is none: a look in vain has no line.
+//! - `Queue::remove` removes an item by its ticket, the number of the journal line that put it in, wherever it waits, in a queue
+//!   whose stores can (`TicketStore`). It waits until it has the lock, and posts nothing; `Queue::carry_out_removal` does so
+//!   where it finds the lock free, and wakes nobody.
 //! - `Queue::count_items` counts the items under the lock, and makes no request. `Queue::carry_out_push_within` pushes only while
 //!   the queue has fewer items than a bound: it is refused exactly where as many are there.
 //! - `Queue::push_all` puts many items into the queue under one lock, and `Queue::pop_all_up_to` takes many out that are due
@@ -73,7 +76,7 @@
 //! load and its store, with a post, a sweep and an own request, are no steps of the machine. So is the count
 //! of those who have joined, by which they nap, the event count by which takes sleep (that one is woken is no clause), and the
 //! backlog of an archive, which refuses nobody here.
-//! Only the four calls, `call_by`, `push_unless_shut`, `pop_up_to`, `push_all`, `pop_all_up_to`, the six takes, `Pending::wait`,
+//! Only the four calls, `call_by`, `push_unless_shut`, `pop_up_to`, `remove`, `push_all`, `pop_all_up_to`, the six takes, `Pending::wait`,
 //! `Rest::rest` and the sleeps of an `EventCount` may wait; that they return is not promised.
 //!
 //! That a sweep finds the posts of other members is proved of the product machine, and is no clause
@@ -105,6 +108,7 @@ mod others;
 mod own_request;
 pub mod pending;
 pub mod queue;
+pub mod removing;
 pub mod resting;
 mod searching;
 mod settling;

@@ -12,6 +12,7 @@ use Rattle.flat_queue.specs.OwnRequest.{CarriesOutBy}
 use Rattle.flat_queue.specs.Ending.{IsShutOut}
 use Rattle.flat_queue.specs.Turns.{FindsLockHeld}
 use Rattle.flat_queue.specs.UpTo.{CarriesOutUpToBy, TellsUpTo}
+use Rattle.flat_queue.specs.Removing.{CarriesOutRemovalBy, TellsRemoval}
 use Rattle.flat_queue.specs.Looking.{LooksFirstBy}
 use Rattle.flat_queue.specs.declared.looking.Wanted.{Wanted}
 use Rattle.flat_queue.specs.Counting.{CountsBy, PushesWithinBy, IsUnpushedBy}
@@ -83,6 +84,17 @@ TriesUpToBy words bound before tried.LockHeld after = MayCall before × FindsLoc
 TriesUpToBy words bound before tried.Shut after = ⊥
 TriesUpToBy words bound before (tried.Answered answer) after =
     MayCall before × CarriesOutUpToBy words bound before answer after × TellsUpTo bound answer
+
+-- The last request is not answered yet, or no serial is left, and nothing was done; or the member found
+-- the lock held; or it carried a removal by this ticket out itself, and this is the answer.
+abbrev pub TriesRemovalBy : ℕ → ℕ → Joined → Tried → Joined → Type 0
+TriesRemovalBy words ticket before tried.Waits after = (is_idle before.pen.standing ≡ false) × (after ≡ before)
+TriesRemovalBy words ticket before tried.Spent after =
+    (is_idle before.pen.standing ≡ true) × (most_posts before.queue.room ≤ before.pen.posts) × (after ≡ before)
+TriesRemovalBy words ticket before tried.LockHeld after = MayCall before × FindsLockHeld before after
+TriesRemovalBy words ticket before tried.Shut after = ⊥
+TriesRemovalBy words ticket before (tried.Answered answer) after =
+    MayCall before × CarriesOutRemovalBy words ticket before answer after × TellsRemoval answer
 
 -- The last request is not answered yet, or no serial is left, and nothing was done; or the member found
 -- the lock held; or it looked at the first item, and took it out where it wanted it.

@@ -14,12 +14,12 @@ ghost use Rattle.flat_queue.specs.Memory.{HasSpareRoom};
 ghost use Rattle.flat_queue.specs.Settling.{Archives, Settles};
 ghost use Rattle.flat_queue.specs.TrailSweeping.{MakesTrailRoundBy};
 ghost use Rattle.queue_pool.specs.Shared.{SeesBy, TriesBy, TriesUpToBy, TriesFirstBy, TriesPushesBy, TriesPopsBy};
-ghost use Rattle.queue_pool.specs.Shared.{TriesCountBy, TriesPushWithinBy};
+ghost use Rattle.queue_pool.specs.Shared.{TriesCountBy, TriesPushWithinBy, TriesRemovalBy};
 
 use flat_queue::{
     Backlog, Batch, EventCount, Looked, Member, Queue, Round, Shut, Unpushed, Wanted,
 };
-use leftist_heap::Store;
+use leftist_heap::{Store, TicketStore};
 use pq_book::{Entry, LinesError};
 use pq_types::{Answer, Item, Line, Part, Request};
 use std::alloc::{Allocator, Global};
@@ -392,5 +392,25 @@ impl<S: Store<Entry<P>>, P: Part> SharedHandle<S, P> {
     {
         let SharedHandle { queue, member } = self;
         (queue, member)
+    }
+}
+
+impl<S: TicketStore<Entry<P>>, P: Part> SharedHandle<S, P> {
+    /// Removes the item with this ticket itself, wherever it waits, where the last request is answered, not all serials are
+    /// spent, and it finds the lock free, as `Queue::remove` does: the answer is `Got` with the item, or `Empty` where it no
+    /// longer waits. Takes memory for the pushes of others alone, and never waits.
+    pub fn try_remove(&mut self, ticket: u64) -> Tried<Item<P>>
+        ensures { TriesRemovalBy (word_number P.wide) ticket self.old result self.new }
+    {
+        if !self.member.is_idle() {
+            return Tried::Waits;
+        }
+        if self.member.posts() >= self.queue.most_posts() {
+            return Tried::Spent;
+        }
+        if let Some(answer) = self.queue.carry_out_removal(&mut self.member, ticket) {
+            return Tried::Answered(answer);
+        }
+        Tried::LockHeld
     }
 }

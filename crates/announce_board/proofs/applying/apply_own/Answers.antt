@@ -1,4 +1,5 @@
 use Rattle.std.proofs.Common.{sym, ◌+◌, ◌<◌, ◌∷◌, [], length, ◌∙◌, subst, ap, arith, None}
+use Rattle.pq_types.specs.Operation.{Asked}
 use Rattle.announce_board.specs.Rule.{Seated}
 use Rattle.announce_board.specs.Steps.{pen_at}
 use Rattle.announce_board.specs.Asking.{IsFullFor}
@@ -20,7 +21,7 @@ load-requires g c =
       h.lock,
       apply_owes _ _ c.law_steps_are_allowed.ensures.apply _ _ _ _ c.args.seat.now.me _ c.apply-answer.new.self c.args.request c.apply-answer.result h.is h.leads h.idle
           (omega (arith, h.serial, h.few)) proper may
-          (carried_out c.args.seat.now.me c.args.place c.args.serial c.deref_mut.result.now c.apply-answer.new.self c.args.request c.apply-answer.result there h.place h.serial e.room e.journal) c.exchange.ensures.3,
+          (carried_out c.args.seat.now.me c.args.place c.args.serial c.deref_mut.result.now c.apply-answer.new.self (Asked c.args.request) c.apply-answer.result there h.place h.serial e.room e.journal) c.exchange.ensures.3,
     )
 
 pub apply-answer-requires : goal.apply-answer-requires
@@ -39,8 +40,8 @@ returns-clause-behind g c =
     let there = c.deref_mut.ensures.value ∙ c.book.view_is ∙ h.book in
     let may = subst (λ (b : Volume). MayAnswer b.room b.journal c.args.request c.apply-answer.result) there e.answer in
     let told = applied c.args.seat.now.me _ c.load.new.seat.me c.load.result c.apply-answer.new.self c.args.request c.apply-answer.result h.slot may
-    (carried_out c.args.seat.now.me c.args.place c.args.serial c.deref_mut.result.now c.apply-answer.new.self c.args.request c.apply-answer.result there h.place h.serial e.room e.journal) c.exchange.ensures.3 c.load.ensures.2 in
-    own_behind c.law_calls_are_lines.ensures.lines (pen_at c.args.seat.now.me) c.args.request c.apply-answer.result told.1 h.idle may
+    (carried_out c.args.seat.now.me c.args.place c.args.serial c.deref_mut.result.now c.apply-answer.new.self (Asked c.args.request) c.apply-answer.result there h.place h.serial e.room e.journal) c.exchange.ensures.3 c.load.ensures.2 in
+    own_behind c.law_calls_are_lines.ensures.lines (pen_at c.args.seat.now.me) (Asked c.args.request) c.apply-answer.result told.1 h.idle may
 
 pub returns-clause-barred : goal.returns-clause-barred
 returns-clause-barred g c =
@@ -49,15 +50,15 @@ returns-clause-barred g c =
     let there = c.deref_mut.ensures.value ∙ c.book.view_is ∙ h.book in
     let may = subst (λ (b : Volume). MayAnswer b.room b.journal c.args.request c.apply-answer.result) there e.answer in
     let told = applied c.args.seat.now.me _ c.load.new.seat.me c.load.result c.apply-answer.new.self c.args.request c.apply-answer.result h.slot may
-    (carried_out c.args.seat.now.me c.args.place c.args.serial c.deref_mut.result.now c.apply-answer.new.self c.args.request c.apply-answer.result there h.place h.serial e.room e.journal) c.exchange.ensures.3 c.load.ensures.2 in
-    own_barred (pen_at c.args.seat.now.me) c.args.request c.apply-answer.result told.1 may
+    (carried_out c.args.seat.now.me c.args.place c.args.serial c.deref_mut.result.now c.apply-answer.new.self (Asked c.args.request) c.apply-answer.result there h.place h.serial e.room e.journal) c.exchange.ensures.3 c.load.ensures.2 in
+    own_barred (pen_at c.args.seat.now.me) (Asked c.args.request) c.apply-answer.result told.1 may
 
 pub returns-clause-answers : goal.returns-clause-answers
 returns-clause-answers g c =
     let e = c.apply-answer.ensures in
     let h = c.requires in
     let there = c.deref_mut.ensures.value ∙ c.book.view_is ∙ h.book in
-    own_answer_fits g.P.Part.wide (pen_at c.args.seat.now.me).room (pen_at c.args.seat.now.me).hand c.args.request c.apply-answer.result
+    own_answer_fits g.P.Part.wide (pen_at c.args.seat.now.me).room (pen_at c.args.seat.now.me).hand (Asked c.args.request) c.apply-answer.result
     (subst (λ (b : Volume). MayAnswer b.room b.journal c.args.request c.apply-answer.result) there e.answer) e.proper
 
 pub returns-clause-spare : goal.returns-clause-spare
@@ -72,7 +73,7 @@ take_back-requires-clause-slot g c =
     let there = c.deref_mut.ensures.value ∙ c.book.view_is ∙ h.book in
     let may = subst (λ (b : Volume). MayAnswer b.room b.journal c.args.request c.apply-answer.result) there e.answer in
     let told = applied c.args.seat.now.me _ c.load.new.seat.me c.load.result c.apply-answer.new.self c.args.request c.apply-answer.result h.slot may
-    (carried_out c.args.seat.now.me c.args.place c.args.serial c.deref_mut.result.now c.apply-answer.new.self c.args.request c.apply-answer.result there h.place h.serial e.room e.journal) c.exchange.ensures.3 c.load.ensures.2 in
+    (carried_out c.args.seat.now.me c.args.place c.args.serial c.deref_mut.result.now c.apply-answer.new.self (Asked c.args.request) c.apply-answer.result there h.place h.serial e.room e.journal) c.exchange.ensures.3 c.load.ensures.2 in
     (c.apply-answer.new.self, ap (λ (m : Seated). m.1) told.0.1)
 
 pub returns-clause-after : goal.returns-clause-after
@@ -82,7 +83,7 @@ returns-clause-after g c =
     let there = c.deref_mut.ensures.value ∙ c.book.view_is ∙ h.book in
     let may = subst (λ (b : Volume). MayAnswer b.room b.journal c.args.request c.apply-answer.result) there e.answer in
     let told = applied c.args.seat.now.me _ c.load.new.seat.me c.load.result c.apply-answer.new.self c.args.request c.apply-answer.result h.slot may
-    (carried_out c.args.seat.now.me c.args.place c.args.serial c.deref_mut.result.now c.apply-answer.new.self c.args.request c.apply-answer.result there h.place h.serial e.room e.journal) c.exchange.ensures.3 c.load.ensures.2 in
+    (carried_out c.args.seat.now.me c.args.place c.args.serial c.deref_mut.result.now c.apply-answer.new.self (Asked c.args.request) c.apply-answer.result there h.place h.serial e.room e.journal) c.exchange.ensures.3 c.load.ensures.2 in
     (told.0.0, c.take_back.ensures.after ∙ ap (λ (m : Seated). (m.0, (0, None) ∷ [])) told.0.1)
 
 pub returns-clause-full : goal.returns-clause-full
@@ -92,7 +93,7 @@ returns-clause-full g c =
     let there = c.deref_mut.ensures.value ∙ c.book.view_is ∙ h.book in
     let may = subst (λ (b : Volume). MayAnswer b.room b.journal c.args.request c.apply-answer.result) there e.answer in
     let told = applied c.args.seat.now.me _ c.load.new.seat.me c.load.result c.apply-answer.new.self c.args.request c.apply-answer.result h.slot may
-    (carried_out c.args.seat.now.me c.args.place c.args.serial c.deref_mut.result.now c.apply-answer.new.self c.args.request c.apply-answer.result there h.place h.serial e.room e.journal) c.exchange.ensures.3 c.load.ensures.2 in
+    (carried_out c.args.seat.now.me c.args.place c.args.serial c.deref_mut.result.now c.apply-answer.new.self (Asked c.args.request) c.apply-answer.result there h.place h.serial e.room e.journal) c.exchange.ensures.3 c.load.ensures.2 in
     λ f. subst (λ (m : Seated). IsFullFor (pen_at m)) (sym (c.take_back.ensures.after ∙ ap (λ (m : Seated). (m.0, (0, None) ∷ [])) told.0.1))
     (applied_full (pen_at c.args.seat.now.me) c.args.request c.apply-answer.result told.0.0 f)
 
@@ -103,6 +104,6 @@ returns-clause-book g c =
     let there = c.deref_mut.ensures.value ∙ c.book.view_is ∙ h.book in
     let may = subst (λ (b : Volume). MayAnswer b.room b.journal c.args.request c.apply-answer.result) there e.answer in
     let told = applied c.args.seat.now.me _ c.load.new.seat.me c.load.result c.apply-answer.new.self c.args.request c.apply-answer.result h.slot may
-    (carried_out c.args.seat.now.me c.args.place c.args.serial c.deref_mut.result.now c.apply-answer.new.self c.args.request c.apply-answer.result there h.place h.serial e.room e.journal) c.exchange.ensures.3 c.load.ensures.2 in
+    (carried_out c.args.seat.now.me c.args.place c.args.serial c.deref_mut.result.now c.apply-answer.new.self (Asked c.args.request) c.apply-answer.result there h.place h.serial e.room e.journal) c.exchange.ensures.3 c.load.ensures.2 in
     same_held c.take_back.result c.apply-answer.new.self c.load.new.seat.me.1 c.take_back.ensures.book (ap (λ (m : Seated). m.1) told.0.1)
-    ∙ carried_out c.args.seat.now.me c.args.place c.args.serial c.deref_mut.result.now c.apply-answer.new.self c.args.request c.apply-answer.result there h.place h.serial e.room e.journal
+    ∙ carried_out c.args.seat.now.me c.args.place c.args.serial c.deref_mut.result.now c.apply-answer.new.self (Asked c.args.request) c.apply-answer.result there h.place h.serial e.room e.journal

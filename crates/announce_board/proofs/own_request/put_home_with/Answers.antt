@@ -1,4 +1,5 @@
 use Rattle.std.proofs.Common.{sym, ◌+◌, ◌<◌, length, ◌∙◌, subst, arith}
+use Rattle.pq_types.specs.Operation.{Asked}
 use Rattle.announce_board.specs.Rule.{Seated}
 use Rattle.announce_board.specs.Steps.{pen_at}
 use Rattle.announce_board.specs.Asking.{IsFullFor}
@@ -18,9 +19,9 @@ store-requires g c =
     let may = subst (λ (b : Volume). MayAnswer b.room b.journal c.args.request c.apply-answer.result) there e.answer in (
       c.exchange.ensures.0 ∙ h.here,
       h.lock,
-      release_with_owes _ _ c.law_steps_are_allowed.ensures.release_with _ _ _ _ c.args.seat.now.me _ c.apply-answer.new.self c.args.request c.apply-answer.result h.is h.leads h.due h.idle
+      release_with_owes _ _ c.law_steps_are_allowed.ensures.release_with _ _ _ _ c.args.seat.now.me _ c.apply-answer.new.self (Asked c.args.request) c.apply-answer.result h.is h.leads h.due h.idle
           (omega (arith, h.serial, h.few)) proper may
-          (carried_out c.args.seat.now.me c.args.place c.args.serial c.deref_mut.result.now c.apply-answer.new.self c.args.request c.apply-answer.result there h.place h.serial e.room e.journal) c.exchange.ensures.3,
+          (carried_out c.args.seat.now.me c.args.place c.args.serial c.deref_mut.result.now c.apply-answer.new.self (Asked c.args.request) c.apply-answer.result there h.place h.serial e.room e.journal) c.exchange.ensures.3,
     )
 
 pub returns-clause-after : goal.returns-clause-after
@@ -29,8 +30,8 @@ returns-clause-after g c =
     let h = c.requires in
     let there = c.deref_mut.ensures.value ∙ c.book.view_is ∙ h.book in
     let may = subst (λ (b : Volume). MayAnswer b.room b.journal c.args.request c.apply-answer.result) there e.answer in
-    (released_with c.args.seat.now.me _ c.store.new.seat.me c.apply-answer.new.self c.args.request c.apply-answer.result h.slot may
-    (carried_out c.args.seat.now.me c.args.place c.args.serial c.deref_mut.result.now c.apply-answer.new.self c.args.request c.apply-answer.result there h.place h.serial e.room e.journal) c.exchange.ensures.3 c.store.ensures.2).0
+    (released_with c.args.seat.now.me _ c.store.new.seat.me c.apply-answer.new.self (Asked c.args.request) c.apply-answer.result h.slot may
+    (carried_out c.args.seat.now.me c.args.place c.args.serial c.deref_mut.result.now c.apply-answer.new.self (Asked c.args.request) c.apply-answer.result there h.place h.serial e.room e.journal) c.exchange.ensures.3 c.store.ensures.2).0
 
 pub returns-clause-behind : goal.returns-clause-behind
 returns-clause-behind g c =
@@ -38,9 +39,9 @@ returns-clause-behind g c =
     let h = c.requires in
     let there = c.deref_mut.ensures.value ∙ c.book.view_is ∙ h.book in
     let may = subst (λ (b : Volume). MayAnswer b.room b.journal c.args.request c.apply-answer.result) there e.answer in
-    let told = released_with c.args.seat.now.me _ c.store.new.seat.me c.apply-answer.new.self c.args.request c.apply-answer.result h.slot may
-    (carried_out c.args.seat.now.me c.args.place c.args.serial c.deref_mut.result.now c.apply-answer.new.self c.args.request c.apply-answer.result there h.place h.serial e.room e.journal) c.exchange.ensures.3 c.store.ensures.2 in
-    own_behind c.law_calls_are_lines.ensures.lines (pen_at c.args.seat.now.me) c.args.request c.apply-answer.result told.1 h.idle may
+    let told = released_with c.args.seat.now.me _ c.store.new.seat.me c.apply-answer.new.self (Asked c.args.request) c.apply-answer.result h.slot may
+    (carried_out c.args.seat.now.me c.args.place c.args.serial c.deref_mut.result.now c.apply-answer.new.self (Asked c.args.request) c.apply-answer.result there h.place h.serial e.room e.journal) c.exchange.ensures.3 c.store.ensures.2 in
+    own_behind c.law_calls_are_lines.ensures.lines (pen_at c.args.seat.now.me) (Asked c.args.request) c.apply-answer.result told.1 h.idle may
 
 pub returns-clause-barred : goal.returns-clause-barred
 returns-clause-barred g c =
@@ -48,9 +49,9 @@ returns-clause-barred g c =
     let h = c.requires in
     let there = c.deref_mut.ensures.value ∙ c.book.view_is ∙ h.book in
     let may = subst (λ (b : Volume). MayAnswer b.room b.journal c.args.request c.apply-answer.result) there e.answer in
-    let told = released_with c.args.seat.now.me _ c.store.new.seat.me c.apply-answer.new.self c.args.request c.apply-answer.result h.slot may
-    (carried_out c.args.seat.now.me c.args.place c.args.serial c.deref_mut.result.now c.apply-answer.new.self c.args.request c.apply-answer.result there h.place h.serial e.room e.journal) c.exchange.ensures.3 c.store.ensures.2 in
-    own_barred (pen_at c.args.seat.now.me) c.args.request c.apply-answer.result told.1 may
+    let told = released_with c.args.seat.now.me _ c.store.new.seat.me c.apply-answer.new.self (Asked c.args.request) c.apply-answer.result h.slot may
+    (carried_out c.args.seat.now.me c.args.place c.args.serial c.deref_mut.result.now c.apply-answer.new.self (Asked c.args.request) c.apply-answer.result there h.place h.serial e.room e.journal) c.exchange.ensures.3 c.store.ensures.2 in
+    own_barred (pen_at c.args.seat.now.me) (Asked c.args.request) c.apply-answer.result told.1 may
 
 pub returns-clause-full : goal.returns-clause-full
 returns-clause-full g c =
@@ -58,16 +59,16 @@ returns-clause-full g c =
     let h = c.requires in
     let there = c.deref_mut.ensures.value ∙ c.book.view_is ∙ h.book in
     let may = subst (λ (b : Volume). MayAnswer b.room b.journal c.args.request c.apply-answer.result) there e.answer in
-    let told = released_with c.args.seat.now.me _ c.store.new.seat.me c.apply-answer.new.self c.args.request c.apply-answer.result h.slot may
-    (carried_out c.args.seat.now.me c.args.place c.args.serial c.deref_mut.result.now c.apply-answer.new.self c.args.request c.apply-answer.result there h.place h.serial e.room e.journal) c.exchange.ensures.3 c.store.ensures.2 in
-    λ f. subst (λ (m : Seated). IsFullFor (pen_at m)) (sym told.0.1) (own_full (pen_at c.args.seat.now.me) c.args.request c.apply-answer.result told.0.0 f)
+    let told = released_with c.args.seat.now.me _ c.store.new.seat.me c.apply-answer.new.self (Asked c.args.request) c.apply-answer.result h.slot may
+    (carried_out c.args.seat.now.me c.args.place c.args.serial c.deref_mut.result.now c.apply-answer.new.self (Asked c.args.request) c.apply-answer.result there h.place h.serial e.room e.journal) c.exchange.ensures.3 c.store.ensures.2 in
+    λ f. subst (λ (m : Seated). IsFullFor (pen_at m)) (sym told.0.1) (own_full (pen_at c.args.seat.now.me) (Asked c.args.request) c.apply-answer.result told.0.0 f)
 
 pub returns-clause-answers : goal.returns-clause-answers
 returns-clause-answers g c =
     let e = c.apply-answer.ensures in
     let h = c.requires in
     let there = c.deref_mut.ensures.value ∙ c.book.view_is ∙ h.book in
-    own_answer_fits g.P.Part.wide (pen_at c.args.seat.now.me).room (pen_at c.args.seat.now.me).hand c.args.request c.apply-answer.result
+    own_answer_fits g.P.Part.wide (pen_at c.args.seat.now.me).room (pen_at c.args.seat.now.me).hand (Asked c.args.request) c.apply-answer.result
     (subst (λ (b : Volume). MayAnswer b.room b.journal c.args.request c.apply-answer.result) there e.answer) e.proper
 
 pub apply-answer-requires : goal.apply-answer-requires

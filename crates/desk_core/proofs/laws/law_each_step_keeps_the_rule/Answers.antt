@@ -6,7 +6,7 @@ pub returns : goal.returns
 returns c =
     let line = c.law_one_more_line.ensures in
     let items = c.law_items_stay_in_range.ensures in
-    let laws : QueueLaws = record { left = line.left; legal = line.legal; rise = line.rise; content = items.content; reply = items.reply } in
+    let laws : QueueLaws = record { enters = line.entries; legal = line.legal; rise = line.rise; entries = items.entries; reply = items.reply } in
     record {
       draft = kept.draft;
       post = kept.post;
@@ -18,7 +18,7 @@ returns c =
       answer = kept.answer laws;
       apply = kept.apply laws;
       release = kept.release;
-      release_with = kept.release_with laws;
+      release_by = kept.release_by laws;
       look = kept.look;
       see_item = kept.see;
       take_item = kept.take;

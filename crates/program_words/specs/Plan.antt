@@ -3,7 +3,8 @@
 use Rattle.std.specs.Prelude.{ℕ, zero, suc, ◌+◌, ◌*◌, ◌%◌, ◌<◌, ◌≤◌, Bool, true, false, List, [], ◌++◌, map, sum}
 use Rattle.std.specs.List.{range_with_len}
 use Rattle.pq_types.specs.Item.{Item}
-use Rattle.pq_types.specs.Asked.{Request}
+use Rattle.pq_types.specs.Asked.{Operation}
+use Rattle.pq_types.specs.Operation.{Asked}
 use Rattle.pq_types.specs.declared.request.Request.TheVariants.{Push, Pop}
 use Rattle.program_words.specs.declared.plan.TheConstants.{MOST_WORKERS, MOST_PUSHES, MOST_ROUNDS}
 use Rattle.program_words.specs.declared.plan.PlanError.{PlanError}
@@ -42,13 +43,13 @@ priority_of wide worker index = part_factor wide * ((7919 * index + 104729 * wor
 abbrev pub load_item : Bool → ℕ → ℕ → Item
 load_item wide worker index = record { priority = priority_of wide worker index; value = part_factor wide * worker }
 
--- the requests of the worker in a round, in their order: its items are pushed, and then it pops so many times
-abbrev pub requests_of : Bool → ℕ → ℕ → ℕ → List Request
+-- the requests of the worker in a round, in their order, as a journal has them: its items are pushed, and then it pops so many times
+abbrev pub requests_of : Bool → ℕ → ℕ → ℕ → List Operation
 requests_of wide worker pushes pops =
-    map (λ index. Push (load_item wide worker index)) (range_with_len 0 pushes) ++ map (λ index. Pop) (range_with_len 0 pops)
+    map (λ index. Asked (Push (load_item wide worker index))) (range_with_len 0 pushes) ++ map (λ index. Asked Pop) (range_with_len 0 pops)
 
 -- its requests in so many rounds, which are the same in each
-abbrev pub all_requests : Bool → ℕ → ℕ → ℕ → ℕ → List Request
+abbrev pub all_requests : Bool → ℕ → ℕ → ℕ → ℕ → List Operation
 all_requests wide worker pushes pops zero = []
 all_requests wide worker pushes pops (suc rounds) =
     all_requests wide worker pushes pops rounds ++ requests_of wide worker pushes pops

@@ -139,7 +139,7 @@ all_made {wide = wide} queue worker plan at m t h all =
       idle = j.idle;
       leads_not = j.leads_not;
       posts = omega (arith, before_posts, all_posts);
-      requests = j.requests ∙ append-nil (map (λ c. c.request) h.before.pen.mine) ∙ h.whole.requests;
+      requests = j.requests ∙ append-nil (map (λ c. c.operation) h.before.pen.mine) ∙ h.whole.requests;
       tally = j.tally_is;
       share = record { pushed = omega arith; popped = omega arith; sum_in = omega arith; few_in = omega arith; few_out = omega arith };
     })

@@ -1,5 +1,5 @@
 -- What a journal leaves, line by line.
-use Rattle.std.proofs.Common.{◌≡◌, ℕ, zero, suc, ◌+◌, ◌*◌, ◌^◌, ◌<◌, ◌≤◌, Bool, true, false, List, [], ◌∷◌, length, take, get_or, map, Some, None, if◌then◌else◌, refl, sym, ◌∙◌, ap, subst, arith}
+use Rattle.std.proofs.Common.{◌≡◌, ◌==◌, ℕ, zero, suc, ◌+◌, ◌*◌, ◌^◌, ◌<◌, ◌≤◌, Bool, true, false, List, [], ◌∷◌, ◌++◌, length, take, get_or, map, Option, Some, None, if◌then◌else◌, refl, sym, ◌∙◌, ap, subst, arith}
 use Rattle.std.proofs.lemmas.List.{take_more, take_all}
 use Rattle.std.specs.List.{sum_by}
 use Rattle.std.proofs.lemmas.List.Sums.{sum_by-cons}
@@ -11,12 +11,13 @@ use Rattle.pq_types.specs.Asked.{Reply}
 use Rattle.pq_types.specs.declared.answer.Reply.TheVariants.{Pushed, Got, Empty, Least as LeastIs}
 use Rattle.pq_types.specs.Item.{not_above}
 use Rattle.pq_types.specs.declared.journal.TheConstants.{MOST_LINES}
+use Rattle.pq_types.specs.Asked.{Operation}
+use Rattle.pq_types.specs.Operation.{Asked, ByTicket, Remove, request_of}
 use Rattle.pq_types.specs.Queue.{with_item, content_after, reply_to}
-use Rattle.pq_types.specs.History.{left, left_from, IsLegal, IsLegalFrom}
-use Rattle.pq_types.specs.Laws.{LeavesOneMore}
+use Rattle.pq_types.specs.Entry.{Entry, item_of, item_at, without, taken, entries_after, reply_by}
+use Rattle.pq_types.specs.History.{left, entries_from, entries_of, IsLegal, IsLegalFrom}
+use Rattle.pq_types.specs.Laws.{LeavesOneMore, EntersOneMore}
 use Rattle.leftist_heap.specs.Store.{first_of, rest_of}
-use Rattle.pq_book.specs.Entry.{item_of}
-use Rattle.pq_book.specs.Entry.{Entry}
 use Rattle.queue_load.specs.Leftover.{left_after, HoldsFor}
 use Rattle.queue_load.specs.declared.leftover.Leftover.{Leftover}
 use Rattle.queue_load.proofs.Widths.{so_often, most_parts}
@@ -83,29 +84,93 @@ counts_after l (y ∷ ys) Pop (Got x) c e =
     record { count = omega arith; sum = omega (arith, sum_by-cons (λ (i : Item). i.priority) y ys) }
 counts_after l content Least reply c e = c
 
+-- the item of a ticket was among those that wait
+removed_less : (i : ℕ) (es : List Entry) (x : Item) → item_at i es ≡ Some x → (length (map item_of es) ≡ length (map item_of (without i es)) + 1) × (weight (map item_of es) ≡ weight (map item_of (without i es)) + x.priority)
+removed_less i [] x is = absurd (cc)
+removed_less i (e ∷ es) x is = at_choice (removed_less i es x) (e.line == i) is
+  where
+    at_choice : (item_at i es ≡ Some x → (length (map item_of es) ≡ length (map item_of (without i es)) + 1) × (weight (map item_of es) ≡ weight (map item_of (without i es)) + x.priority))
+        → (b : Bool) → (if b then Some (item_of e) else item_at i es) ≡ Some x
+        → (length (item_of e ∷ map item_of es) ≡ length (map item_of (if b then es else e ∷ without i es)) + 1)
+        × (weight (item_of e ∷ map item_of es) ≡ weight (map item_of (if b then es else e ∷ without i es)) + x.priority)
+    at_choice rest true is =
+        let same : item_of e ≡ x = cc in
+        let priority = ap (λ (y : Item). y.priority) same in
+        (omega arith, omega (arith, priority, sum_by-cons (λ (y : Item). y.priority) (item_of e) (map item_of es)))
+    at_choice rest false is =
+        let less = rest is in
+        let before = sum_by-cons (λ (y : Item). y.priority) (item_of e) (map item_of es) in
+        let after = sum_by-cons (λ (y : Item). y.priority) (item_of e) (map item_of (without i es)) in
+        (omega (arith, less.0), omega (arith, less.1, before, after))
+
+-- where none has the ticket nothing is removed
+removed_none : (i : ℕ) (es : List Entry) → item_at i es ≡ None → without i es ≡ es
+removed_none i [] is = refl
+removed_none i (e ∷ es) is = at_choice (removed_none i es) (e.line == i) is
+  where
+    at_choice : (item_at i es ≡ None → without i es ≡ es) → (b : Bool) → (if b then Some (item_of e) else item_at i es) ≡ None
+        → (if b then es else e ∷ without i es) ≡ e ∷ es
+    at_choice rest true is = absurd (cc)
+    at_choice rest false is = ap (λ fs. e ∷ fs) (rest is)
+
+-- what a removal is told, and what it leaves
+removed : (l : Leftover) (es : List Entry) (i : ℕ) (reply : Reply) → Counts l (map item_of es) → reply ≡ taken (item_at i es) → HoldsFor l Pop reply × Counts (left_after l Pop reply) (map item_of (without i es))
+removed l es i reply c e = by_item (item_at i es) refl reply e
+  where
+    none_less : item_at i es ≡ None → Counts l (map item_of (without i es))
+    none_less is = subst (λ fs. Counts l (map item_of fs)) (sym (removed_none i es is)) c
+
+    by_item : (found : Option Item) → item_at i es ≡ found → (r : Reply) → r ≡ taken found → HoldsFor l Pop r × Counts (left_after l Pop r) (map item_of (without i es))
+    by_item None is Pushed e = absurd (cc)
+    by_item None is (Got x) e = absurd (cc)
+    by_item None is (LeastIs x) e = absurd (cc)
+    by_item None is Empty e = (tt, none_less is)
+    by_item (Some y) is Pushed e = absurd (cc)
+    by_item (Some y) is (LeastIs x) e = absurd (cc)
+    by_item (Some y) is Empty e = absurd (cc)
+    by_item (Some y) is (Got x) e =
+        let same : x ≡ y = cc in
+        let priority = ap (λ (z : Item). z.priority) same in
+        let less = removed_less i es y is in
+        let number = less.0 in let amount = less.1 in
+        let count = c.count in let sum = c.sum in
+        ((omega arith, omega arith), record { count = omega arith; sum = omega arith })
+
+-- the same of any operation
+holds_by : (l : Leftover) (es : List Entry) (o : Operation) (reply : Reply) → Counts l (map item_of es) → reply ≡ reply_by es o → HoldsFor l (request_of o) reply
+holds_by l es (Asked q) reply c e = holds l (map item_of es) q reply c e
+holds_by l es (ByTicket (Remove i)) reply c e = (removed l es i reply c e).0
+
+counts_more : LeavesOneMore → EntersOneMore → (lines : List Line) (x : Line) (l : Leftover) → Counts l (left lines) → x.reply ≡ reply_by (entries_of lines) x.operation → Counts (left_after l (request_of x.operation) x.reply) (left (lines ++ x ∷ []))
+counts_more leaves enters lines x l c e = by x.operation refl e
+  where
+    by : (o : Operation) → x.operation ≡ o → x.reply ≡ reply_by (entries_of lines) o → Counts (left_after l (request_of o) x.reply) (left (lines ++ x ∷ []))
+    by (Asked q) is e = subst (Counts (left_after l q x.reply)) (sym (leaves lines x q is)) (counts_after l (left lines) q x.reply c e)
+    by (ByTicket (Remove i)) is e =
+        let now : left (lines ++ x ∷ []) ≡ map item_of (without i (entries_of lines)) = ap (map item_of) (enters lines x ∙ ap (entries_after (entries_of lines) (length lines + 1)) is) in
+        subst (Counts (left_after l Pop x.reply)) (sym now) (removed l (entries_of lines) i x.reply c e).1
+
 -- each line of a legal history has the reply of the queue that the lines before it leave
-legal_at : (xs : List Item) (lines : List Line) (n : ℕ) (d : Line) → IsLegalFrom xs lines → n < length lines → (get_or lines n d).reply ≡ reply_to (left_from xs (take n lines)) (get_or lines n d).request
-legal_at xs [] n d h lt = absurd (omega arith)
-legal_at xs (l ∷ ls) zero d h lt = h.0
-legal_at xs (l ∷ ls) (suc n) d h lt = legal_at (content_after xs l.request) ls n d h.1 (omega arith)
+legal_at : (es : List Entry) (k : ℕ) (lines : List Line) (n : ℕ) (d : Line) → IsLegalFrom es k lines → n < length lines → (get_or lines n d).reply ≡ reply_by (entries_from es k (take n lines)) (get_or lines n d).operation
+legal_at es k [] n d h lt = absurd (omega arith)
+legal_at es k (l ∷ ls) zero d h lt = h.0
+legal_at es k (l ∷ ls) (suc n) d h lt = legal_at (entries_after es k l.operation) (k + 1) ls n d h.1 (omega arith)
 
 -- what is left after one line more
-pub leftover_more : {wide : Bool} → LeavesOneMore → (lines : List Line) (n : ℕ) (d : Line) (l l' : Leftover) → IsLegal lines → n < length lines → IsLeftover wide n l (take n lines) → l' ≡ left_after l (get_or lines n d).request (get_or lines n d).reply → l'.count ≤ l.count + 1 → l'.sum ≤ l.sum + bound_of wide → IsLeftover wide (n + 1) l' (take (n + 1) lines)
-leftover_more {wide = wide} leaves lines n d l l' legal lt h e more grown =
+pub leftover_more : {wide : Bool} → LeavesOneMore → EntersOneMore → (lines : List Line) (n : ℕ) (d : Line) (l l' : Leftover) → IsLegal lines → n < length lines → IsLeftover wide n l (take n lines) → l' ≡ left_after l (request_of (get_or lines n d).operation) (get_or lines n d).reply → l'.count ≤ l.count + 1 → l'.sum ≤ l.sum + bound_of wide → IsLeftover wide (n + 1) l' (take (n + 1) lines)
+leftover_more {wide = wide} leaves enters lines n d l l' legal lt h e more grown =
     let x = get_or lines n d in
-    let reply = legal_at [] lines n d legal lt in
-    let counts = counts_after l (left (take n lines)) x.request x.reply h.counts reply in
-    let one : left (take (n + 1) lines) ≡ content_after (left (take n lines)) x.request = ap left (take_more lines n d lt) ∙ leaves (take n lines) x in
+    let counts = counts_more leaves enters (take n lines) x l h.counts (legal_at [] 1 lines n d legal lt) in
     let few = h.few in let small = h.small in
     record {
-      counts = subst (λ u. Counts u (left (take (n + 1) lines))) (sym e) (subst (λ xs. Counts (left_after l x.request x.reply) xs) (sym one) counts);
+      counts = subst (λ u. Counts u (left (take (n + 1) lines))) (sym e) (subst (λ ls. Counts (left_after l (request_of x.operation) x.reply) (left ls)) (sym (take_more lines n d lt)) counts);
       few = omega arith;
       small = omega arith;
     }
 
 -- the item that the next line takes out was there
-pub still_holds : {wide : Bool} → (lines : List Line) (n : ℕ) (d : Line) (l : Leftover) → IsLegal lines → n < length lines → IsLeftover wide n l (take n lines) → HoldsFor l (get_or lines n d).request (get_or lines n d).reply
-still_holds {wide = wide} lines n d l legal lt h = holds l (left (take n lines)) (get_or lines n d).request (get_or lines n d).reply h.counts (legal_at [] lines n d legal lt)
+pub still_holds : {wide : Bool} → (lines : List Line) (n : ℕ) (d : Line) (l : Leftover) → IsLegal lines → n < length lines → IsLeftover wide n l (take n lines) → HoldsFor l (request_of (get_or lines n d).operation) (get_or lines n d).reply
+still_holds {wide = wide} lines n d l legal lt h = holds_by l (entries_of (take n lines)) (get_or lines n d).operation (get_or lines n d).reply h.counts (legal_at [] 1 lines n d legal lt)
 
 -- and the next line has room
 pub still_roomy : {wide : Bool} → (lines before : List Line) (n : ℕ) (l : Leftover) → n < length lines → length lines ≤ MOST_LINES → IsLeftover wide n l before → (l.count < 2 ^ 60) × (l.sum < 2 ^ 100)

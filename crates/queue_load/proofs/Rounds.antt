@@ -2,6 +2,7 @@
 use Rattle.std.proofs.Common.{◌≡◌, ℕ, ◌+◌, ◌*◌, ◌/◌, div-mul-le_self, le_of_mul-le-mul_right, Bool, ◌<◌, ◌≤◌, ◌++◌, map, append_assoc, append-nil, sym, ◌∙◌, ap, arith, add-one, subst, Result, Ok, Err, IfOk}
 use Rattle.std.specs.List.{range_with_len, sum}
 use Rattle.pq_types.specs.declared.request.Request.TheVariants.{Push}
+use Rattle.pq_types.specs.Operation.{Asked}
 use Rattle.desk_core.specs.declared.model.Call.{Call}
 use Rattle.flat_queue.specs.Limits.{most_posts}
 use Rattle.flat_queue.specs.Members.{QueueName, Joined}
@@ -24,7 +25,7 @@ round_of {wide = wide} before tally worker pushes pops mid m u t h j =
     let a = h.counted in let b = j.counted in
     let pushed = a.pushed in let popped = a.popped in let sum_in = a.sum_in in let few_in = a.few_in in let few_out = a.few_out in
     let pushed' = b.pushed in let popped' = b.popped in let sum_in' = b.sum_in in let few_in' = b.few_in in let few_out' = b.few_out in
-    let had = map (λ (c : Call). c.request) before.pen.mine in
+    let had = map (λ (c : Call). c.operation) before.pen.mine in
     record {
       queue_is = j.queue_is ∙ h.queue_is;
       id = j.id ∙ h.id;
@@ -32,7 +33,7 @@ round_of {wide = wide} before tally worker pushes pops mid m u t h j =
       leads_not = j.leads_not;
       posts = omega arith;
       requests = j.requests ∙ ap (λ rs. rs ++ requests_of wide worker 0 pops) h.requests ∙ append_assoc had (requests_of wide worker pushes 0) (requests_of wide worker 0 pops)
-          ∙ ap (λ rs. had ++ (rs ++ requests_of wide worker 0 pops)) (append-nil (map (λ (index : ℕ). Push (load_item wide worker index)) (range_with_len 0 pushes)));
+          ∙ ap (λ rs. had ++ (rs ++ requests_of wide worker 0 pops)) (append-nil (map (λ (index : ℕ). Asked (Push (load_item wide worker index))) (range_with_len 0 pushes)));
       tally_is = j.tally_is;
       counted = record { pushed = omega arith; popped = omega arith; sum_in = omega arith; few_in = omega arith; few_out = omega arith };
     }

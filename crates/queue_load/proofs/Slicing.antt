@@ -60,7 +60,7 @@ come_still {wide = wide} queue worker plan at m m' t h s =
         idle = ap is_idle s.standing ∙ j.idle;
         leads_not = s.leading ∙ j.leads_not;
         posts = s.posts ∙ j.posts;
-        requests = ap (map (λ (c : Call). c.request)) s.mine ∙ j.requests;
+        requests = ap (map (λ (c : Call). c.operation)) s.mine ∙ j.requests;
         tally_is = j.tally_is ∙ sym (ap tally_of s.mine);
         counted = j.counted;
       };

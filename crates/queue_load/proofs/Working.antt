@@ -8,6 +8,7 @@ use Rattle.pq_types.specs.Item.{Item, bound_of}
 use Rattle.pq_types.specs.Asked.{Request}
 use Rattle.pq_types.specs.declared.request.Request.TheVariants.{Push, Pop}
 use Rattle.pq_types.specs.Asked.{Reply}
+use Rattle.pq_types.specs.Operation.{Asked, request_of}
 use Rattle.desk_core.specs.Calls.{call}
 use Rattle.desk_core.specs.declared.model.Call.{Call}
 use Rattle.desk_core.specs.Knows.{IsReplyTo}
@@ -71,7 +72,7 @@ begun {wide = wide} queue plan before m j here =
       idle = ap (λ p. is_idle p.standing) j.pen;
       leads_not = ap (λ p. p.leading) j.pen;
       posts = ap (λ p. p.posts) j.pen ∙ none_of (plan.pushes + plan.pops);
-      requests = ap (λ p. map (λ (c : Call). c.request) p.mine) j.pen;
+      requests = ap (λ p. map (λ (c : Call). c.operation) p.mine) j.pen;
       tally = sym (ap (λ p. tally_of p.mine) j.pen);
       share = record {
         pushed = none_of plan.pushes;
@@ -91,7 +92,7 @@ nothing_more {wide = wide} queue worker plan rounds m t h =
       idle = h.idle;
       leads_not = h.leads_not;
       posts = omega arith;
-      requests = sym (append-nil (map (λ (c : Call). c.request) m.pen.mine));
+      requests = sym (append-nil (map (λ (c : Call). c.operation) m.pen.mine));
       tally_is = h.tally;
       counted = record { pushed = omega arith; popped = omega arith; sum_in = omega arith; few_in = omega arith; few_out = omega arith };
     }
@@ -105,18 +106,18 @@ none_yet {wide = wide} before tally worker pushes pops m t h =
       idle = h.idle;
       leads_not = h.leads_not;
       posts = omega arith;
-      requests = sym (append-nil (map (λ (c : Call). c.request) m.pen.mine));
+      requests = sym (append-nil (map (λ (c : Call). c.operation) m.pen.mine));
       tally_is = h.tally_is;
       counted = record { pushed = omega arith; popped = omega arith; sum_in = omega arith; few_in = omega arith; few_out = omega arith };
     }
 
 -- the tally of one call more
 tally_more : (calls : List Call) (number serial : ℕ) (request : Request) (reply : Reply) → tally_of (calls ++ call number serial request reply ∷ []) ≡ counted (tally_of calls) request reply
-tally_more calls number serial request reply = fold_push (λ t (c : Call). counted t c.request c.reply) nothing calls (call number serial request reply)
+tally_more calls number serial request reply = fold_push (λ t (c : Call). counted t (request_of c.operation) c.reply) nothing calls (call number serial request reply)
 
 -- the requests of one call more
-requests_more : (calls mine : List Call) (number serial : ℕ) (request : Request) (reply : Reply) → mine ≡ calls ++ call number serial request reply ∷ [] → map (λ c. c.request) mine ≡ map (λ c. c.request) calls ++ request ∷ []
-requests_more calls mine number serial request reply e = ap (map (λ (c : Call). c.request)) e ∙ map-append (λ (c : Call). c.request) calls (call number serial request reply ∷ [])
+requests_more : (calls mine : List Call) (number serial : ℕ) (request : Request) (reply : Reply) → mine ≡ calls ++ call number serial request reply ∷ [] → map (λ c. c.operation) mine ≡ map (λ c. c.operation) calls ++ Asked request ∷ []
+requests_more calls mine number serial request reply e = ap (map (λ (c : Call). c.operation)) e ∙ map-append (λ (c : Call). c.operation) calls (call number serial request reply ∷ [])
 
 -- what any answered request leaves of a worker
 module _ {wide : Bool} (before : Joined) (tally : Tally) (worker pushes pops : ℕ) (m m' : Joined) (t t' : Tally) (request : Request) (h : HasMadeMore wide before tally worker pushes pops m t) (a : IsAnswered wide m t request m' t') where
@@ -132,10 +133,10 @@ module _ {wide : Bool} (before : Joined) (tally : Tally) (worker pushes pops : �
   one_post : m'.pen.posts ≡ before.pen.posts + (pushes + pops) + 1
   one_post = a.called.member.posts ∙ ap (λ n. n + 1) h.posts
 
-  one_call : map (λ c. c.request) m'.pen.mine ≡ map (λ c. c.request) before.pen.mine ++ (requests_of wide worker pushes pops ++ request ∷ [])
+  one_call : map (λ c. c.operation) m'.pen.mine ≡ map (λ c. c.operation) before.pen.mine ++ (requests_of wide worker pushes pops ++ Asked request ∷ [])
   one_call =
-      requests_more m.pen.mine m'.pen.mine a.number (m.pen.posts + 1) request a.reply a.called.member.mine ∙ ap (λ rs. rs ++ request ∷ []) h.requests
-      ∙ append_assoc (map (λ c. c.request) before.pen.mine) (requests_of wide worker pushes pops) (request ∷ [])
+      requests_more m.pen.mine m'.pen.mine a.number (m.pen.posts + 1) request a.reply a.called.member.mine ∙ ap (λ rs. rs ++ Asked request ∷ []) h.requests
+      ∙ append_assoc (map (λ c. c.operation) before.pen.mine) (requests_of wide worker pushes pops) (Asked request ∷ [])
 
   still_tally : t' ≡ tally_of m'.pen.mine
   still_tally =
@@ -143,19 +144,19 @@ module _ {wide : Bool} (before : Joined) (tally : Tally) (worker pushes pops : �
       ∙ sym (ap tally_of a.called.member.mine)
 
 -- the worker's list of pushes, one longer
-pushes_more : (wide : Bool) (worker pushes : ℕ) → requests_of wide worker pushes 0 ++ Push (load_item wide worker pushes) ∷ [] ≡ requests_of wide worker (pushes + 1) 0
+pushes_more : (wide : Bool) (worker pushes : ℕ) → requests_of wide worker pushes 0 ++ Asked (Push (load_item wide worker pushes)) ∷ [] ≡ requests_of wide worker (pushes + 1) 0
 pushes_more wide worker pushes =
-    let push = λ (index : ℕ). Push (load_item wide worker index) in
+    let push = λ (index : ℕ). Asked (Push (load_item wide worker index)) in
     ap (λ rs. rs ++ push pushes ∷ []) (append-nil (map push (range_with_len 0 pushes)))
     ∙ sym (map-range_with_len_more push 0 pushes pushes (omega arith))
     ∙ sym (append-nil (map push (range_with_len 0 (pushes + 1))))
 
 -- and its list of pops
-pops_more : (wide : Bool) (worker pushes pops : ℕ) → requests_of wide worker pushes pops ++ Pop ∷ [] ≡ requests_of wide worker pushes (pops + 1)
+pops_more : (wide : Bool) (worker pushes pops : ℕ) → requests_of wide worker pushes pops ++ Asked Pop ∷ [] ≡ requests_of wide worker pushes (pops + 1)
 pops_more wide worker pushes pops =
-    let pushed = map (λ (index : ℕ). Push (load_item wide worker index)) (range_with_len 0 pushes) in
-    let pop = λ (index : ℕ). Pop in
-    append_assoc pushed (map pop (range_with_len 0 pops)) (Pop ∷ []) ∙ ap (λ rs. pushed ++ rs) (sym (map-range_with_len_more pop 0 pops pops (omega arith)))
+    let pushed = map (λ (index : ℕ). Asked (Push (load_item wide worker index))) (range_with_len 0 pushes) in
+    let pop = λ (index : ℕ). Asked Pop in
+    append_assoc pushed (map pop (range_with_len 0 pops)) (Asked Pop ∷ []) ∙ ap (λ rs. pushed ++ rs) (sym (map-range_with_len_more pop 0 pops pops (omega arith)))
 
 push_share : {wide : Bool} → (tally : Tally) (worker pushes : ℕ) (t t' : Tally) (item : Item) (reply : Reply) → HasCounted wide tally worker pushes 0 t → t' ≡ counted t (Push item) reply → item ≡ load_item wide worker pushes → item.priority < part_factor wide * 1000003 → HasCounted wide tally worker (pushes + 1) 0 t'
 push_share {wide = wide} tally worker pushes t t' item reply s e item_is low =
@@ -176,14 +177,14 @@ push_share {wide = wide} tally worker pushes t t' item reply s e item_is low =
 pub push_step : {wide : Bool} → (before : Joined) (tally : Tally) (worker pushes : ℕ) (m m' : Joined) (t t' : Tally) (item : Item) → HasMadeMore wide before tally worker pushes 0 m t → IsAnswered wide m t (Push item) m' t' → item ≡ load_item wide worker pushes → item.priority < part_factor wide * 1000003 → HasMadeMore wide before tally worker (pushes + 1) 0 m' t'
 push_step {wide = wide} before tally worker pushes m m' t t' item h a item_is low =
     let posts = one_post before tally worker pushes 0 m m' t t' (Push item) h a in
-    let had = map (λ (c : Call). c.request) before.pen.mine in
+    let had = map (λ (c : Call). c.operation) before.pen.mine in
     record {
       queue_is = same_queue before tally worker pushes 0 m m' t t' (Push item) h a;
       id = same_id before tally worker pushes 0 m m' t t' (Push item) h a;
       idle = idle_again before tally worker pushes 0 m m' t t' (Push item) h a;
       leads_not = a.called.member.stays.leading ∙ h.leads_not;
       posts = omega arith;
-      requests = one_call before tally worker pushes 0 m m' t t' (Push item) h a ∙ ap (λ x. had ++ (requests_of wide worker pushes 0 ++ Push x ∷ [])) item_is ∙ ap (λ rs. had ++ rs) (pushes_more wide worker pushes);
+      requests = one_call before tally worker pushes 0 m m' t t' (Push item) h a ∙ ap (λ x. had ++ (requests_of wide worker pushes 0 ++ Asked (Push x) ∷ [])) item_is ∙ ap (λ rs. had ++ rs) (pushes_more wide worker pushes);
       tally_is = still_tally before tally worker pushes 0 m m' t t' (Push item) h a;
       counted = push_share tally worker pushes t t' item a.reply h.counted a.counts item_is low;
     }
@@ -206,7 +207,7 @@ pop_share {wide = wide} tally worker pushes pops t t' reply s e (inr (x, some)) 
 pub pop_step : {wide : Bool} → (before : Joined) (tally : Tally) (worker pushes pops : ℕ) (m m' : Joined) (t t' : Tally) → HasMadeMore wide before tally worker pushes pops m t → IsAnswered wide m t Pop m' t' → HasMadeMore wide before tally worker pushes (pops + 1) m' t'
 pop_step {wide = wide} before tally worker pushes pops m m' t t' h a =
     let posts = one_post before tally worker pushes pops m m' t t' Pop h a in
-    let had = map (λ (c : Call). c.request) before.pen.mine in
+    let had = map (λ (c : Call). c.operation) before.pen.mine in
     record {
       queue_is = same_queue before tally worker pushes pops m m' t t' Pop h a;
       id = same_id before tally worker pushes pops m m' t t' Pop h a;

@@ -6,7 +6,7 @@ use Rattle.pq_types.specs.Asked.{Reply}
 use Rattle.pq_types.specs.declared.answer.Reply.TheVariants.{Pushed, Got, Empty, Least as LeastIs}
 use Rattle.queue_load.specs.declared.leftover.Leftover.{Leftover}
 
--- a push leaves its item more, and a pop the item that it took out less
+-- a push leaves its item more, and a pop the item that it took out less; a removal counts as a pop
 abbrev pub left_after : Leftover → Request → Reply → Leftover
 left_after l (Push x) reply = record { count = l.count + 1; sum = l.sum + x.priority }
 left_after l Pop (Got x) = record { count = l.count - 1; sum = l.sum - x.priority }

@@ -109,7 +109,7 @@ pub record AreAnswered (wide : Bool) (workers : ℕ) (plan : Plan) (members : Li
 pub record LeavesFirst (wide : Bool) (room : ℕ) (plan : Plan) (first : Joined) (book : Volume) : Type 0 where
   pub room_is : book.room ≡ room
   pub calls : calls_of first.pen.place book.journal ≡ first.pen.mine
-  pub requests : map (λ c. c.request) first.pen.mine ≡ all_requests wide 1 plan.pushes plan.pops plan.rounds
+  pub requests : map (λ c. c.operation) first.pen.mine ≡ all_requests wide 1 plan.pushes plan.pops plan.rounds
 
 -- A load has this report and has left this Book: all requests of its workers were answered, the
 -- report tells what they were answered, added up, and each call of each of them stands in the

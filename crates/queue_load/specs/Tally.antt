@@ -4,6 +4,7 @@ use Rattle.std.specs.List.{fold}
 use Rattle.pq_types.specs.Asked.{Request}
 use Rattle.pq_types.specs.declared.request.Request.TheVariants.{Push, Pop, Least}
 use Rattle.pq_types.specs.Asked.{Reply}
+use Rattle.pq_types.specs.Operation.{request_of}
 use Rattle.pq_types.specs.declared.answer.Reply.TheVariants.{Pushed, Got, Empty, Least as LeastIs}
 use Rattle.desk_core.specs.declared.model.Call.{Call}
 use Rattle.queue_load.specs.declared.tally.Tally.{Tally}
@@ -23,7 +24,7 @@ counted t Least reply = t
 
 -- the tally of these calls
 abbrev pub tally_of : List Call → Tally
-tally_of calls = fold (λ t c. counted t c.request c.reply) nothing calls
+tally_of calls = fold (λ t c. counted t (request_of c.operation) c.reply) nothing calls
 
 -- two tallies together
 abbrev pub both : Tally → Tally → Tally

@@ -46,7 +46,7 @@ pub record HasMadeMore (wide : Bool) (before : Joined) (tally : Tally) (worker p
   pub idle : is_idle m.pen.standing ≡ true
   pub leads_not : m.pen.leading ≡ false
   pub posts : m.pen.posts ≡ before.pen.posts + (pushes + pops)
-  pub requests : map (λ c. c.request) m.pen.mine ≡ map (λ c. c.request) before.pen.mine ++ requests_of wide worker pushes pops
+  pub requests : map (λ c. c.operation) m.pen.mine ≡ map (λ c. c.operation) before.pen.mine ++ requests_of wide worker pushes pops
   pub tally_is : t ≡ tally_of m.pen.mine
   pub counted : HasCounted wide tally worker pushes pops t
 
@@ -67,7 +67,7 @@ pub record HasMade (wide : Bool) (queue : QueueName) (worker : ℕ) (plan : Plan
   pub idle : is_idle m.pen.standing ≡ true
   pub leads_not : m.pen.leading ≡ false
   pub posts : m.pen.posts ≡ rounds * (plan.pushes + plan.pops)
-  pub requests : map (λ c. c.request) m.pen.mine ≡ all_requests wide worker plan.pushes plan.pops rounds
+  pub requests : map (λ c. c.operation) m.pen.mine ≡ all_requests wide worker plan.pushes plan.pops rounds
   pub tally : t ≡ tally_of m.pen.mine
   pub share : IsShare wide worker plan rounds t
 

@@ -1,14 +1,15 @@
 // What a journal leaves in its queue: how many items, and their priorities added up.
 ghost use Rattle.std.specs.Prelude.{◌≡◌, ◌+◌, ◌*◌, ◌<◌, ◌≤◌, ◌^◌, length, map, sum_by};
-ghost use Rattle.pq_book.specs.Entry.{item_of};
+ghost use Rattle.pq_types.specs.Entry.{item_of};
 ghost use Rattle.pq_types.specs.Item.{bound_of};
 ghost use Rattle.pq_types.specs.History.{left, IsLegal};
+ghost use Rattle.pq_types.specs.Operation.{request_of};
 ghost use Rattle.queue_load.specs.Leftover.{HoldsFor, left_after};
 
 use leftist_heap::Store;
 use pq_book::Entry;
 use pq_types::laws::law_one_more_line;
-use pq_types::{Item, Line, MOST_LINES, Part, Reply, Request};
+use pq_types::{Done, Item, Line, MOST_LINES, Part, Reply};
 
 /// The items that a journal leaves in its queue.
 #[derive(Clone, Copy)]
@@ -21,18 +22,18 @@ pub struct Leftover {
 // What is left after one line more, of what was left before it.
 fn after_line<P: Part>(before: Leftover, line: &Line<Item<P>>) -> Leftover
     requires room { (before.count < 2 ^ 60) × (before.sum < 2 ^ 100) }
-    requires holds { HoldsFor before line.now.request line.now.reply }
-    ensures after { result ≡ left_after before line.now.request line.now.reply }
+    requires holds { HoldsFor before (request_of line.now.operation) line.now.reply }
+    ensures after { result ≡ left_after before (request_of line.now.operation) line.now.reply }
     ensures count { result.count ≤ before.count + 1 }
     ensures sum { result.sum ≤ before.sum + bound_of P.wide }
 {
     let Leftover { count, sum } = before;
-    match (line.request, line.reply) {
-        (Request::Push(item), _) => Leftover {
+    match (line.operation.done, line.reply) {
+        (Done::Push(item), _) => Leftover {
             count: count + 1,
             sum: sum + u128::from(item.priority.as_u64()),
         },
-        (Request::Pop, Reply::Got(item)) => Leftover {
+        (Done::Pop | Done::Remove(_), Reply::Got(item)) => Leftover {
             count: count - 1,
             sum: sum - u128::from(item.priority.as_u64()),
         },

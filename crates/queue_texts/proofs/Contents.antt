@@ -1,13 +1,12 @@
 -- The items of a store, taken out one after another.
-use Rattle.std.proofs.Common.{◌≡◌, ◌+◌, ◌-◌, ◌≤◌, List, [], ◌∷◌, length, map, Some, None, ap, arith}
+use Rattle.std.proofs.Common.{◌≡◌, ◌-◌, ◌≤◌, List, [], ◌∷◌, length, map, ap, arith}
 use Rattle.std.proofs.lemmas.List.{length-map}
-use Rattle.leftist_heap.specs.Store.{first_of, rest_of}
+use Rattle.leftist_heap.specs.Store.{rest_of}
 use Rattle.pq_types.specs.Asked.{Line}
 use Rattle.pq_types.specs.History.{left}
 use Rattle.pq_types.specs.Laws.{NoMoreItemsThanLines}
-use Rattle.pq_book.specs.Entry.{Entry}
-use Rattle.pq_book.specs.Entry.{item_of}
-use Rattle.queue_texts.specs.Sums.{sum_priorities}
+use Rattle.pq_types.specs.Entry.{Entry}
+use Rattle.pq_types.specs.Entry.{item_of}
 
 pub one_less : (old new : List Entry) → new ≡ rest_of old → length new ≡ length old - 1
 one_less [] new rest = ap length rest

@@ -2,27 +2,26 @@
 use Rattle.std.proofs.Common.{◌≡◌, ℕ, ◌+◌, ◌<◌, Bool, inl, inr, List, [], ◌∷◌, ◌++◌, length, Ok, Err, refl, sym, ◌∙◌, ap, subst, arith}
 use Rattle.std.specs.List.{AllByRecursion}
 use Rattle.std.proofs.lemmas.Bool.Decides.{nat_tests}
-use Rattle.pq_types.specs.Item.{Item}
 use Rattle.pq_types.specs.Asked.{Line}
-use Rattle.pq_types.specs.Queue.{content_after, reply_to}
-use Rattle.pq_types.specs.History.{left, left_from, IsLegal, IsLegalFrom, SerialsRise, last_serial}
+use Rattle.pq_types.specs.Entry.{Entry, entries_after, reply_by}
+use Rattle.pq_types.specs.History.{entries_from, entries_of, IsLegal, IsLegalFrom, SerialsRise, last_serial}
 use Rattle.queue_texts.specs.Laws.{LinesAreReadOnce}
 use Rattle.queue_texts.specs.LineText.{IsLineText}
 use Rattle.line_script.specs.declared.error.RunError.{RunError}
 use Rattle.line_script.specs.declared.error.RunError.TheVariants.{Refused, TooLong, NoMemory, Input, Output}
 use Rattle.line_script.specs.Lines.{lines_of, without_return}
 use Rattle.queue_texts.specs.declared.refusal.Breach.{Breach}
-use Rattle.queue_texts.specs.declared.refusal.Breach.TheVariants.{WrongNumber, SerialFalls, WrongReply}
+use Rattle.queue_texts.specs.declared.refusal.Breach.TheVariants.{WrongNumber, SerialFalls, WrongReply, WrongRemoval}
 use Rattle.queue_texts.specs.declared.refusal.Unlawful.{Unlawful}
 use Rattle.queue_texts.specs.declared.refusal.Unlawful.TheVariants.{NoLine, Broken}
 use Rattle.queue_texts.specs.declared.refusal.AuditRefusal.{AuditRefusal}
 use Rattle.queue_texts.specs.Audit.{SpellsFrom, IsLawful, Breaks, IsUnlawful, IsRefused, IsFirst, LawfulIsNotRefused}
 
 -- the reply of a line in a legal history
-reply_at : (xs : List Item) (before : List Line) (l : Line) (behind : List Line) → IsLegalFrom xs (before ++ l ∷ behind)
-    → l.reply ≡ reply_to (left_from xs before) l.request
-reply_at xs [] l behind h = h.0
-reply_at xs (m ∷ before) l behind h = reply_at (content_after xs m.request) before l behind h.1
+reply_at : (es : List Entry) (n : ℕ) (before : List Line) (l : Line) (behind : List Line) → IsLegalFrom es n (before ++ l ∷ behind)
+    → l.reply ≡ reply_by (entries_from es n before) l.operation
+reply_at es n [] l behind h = h.0
+reply_at es n (m ∷ before) l behind h = reply_at (entries_after es n m.operation) (n + 1) before l behind h.1
 
 member : (P : Line → Type 0) (before : List Line) (l : Line) (behind : List Line) → AllByRecursion P (before ++ l ∷ behind) → P l
 member P [] l behind h = h.0
@@ -63,13 +62,15 @@ module _ (wide : Bool) (once : LinesAreReadOnce) where
 
   -- the line that is due breaks no law
   no_breach : (journal : List Line) (number : ℕ) (l : Line) (b : Breach) → number ≡ length journal + 1
-      → l.reply ≡ reply_to (left journal) l.request → last_serial l.place journal < l.serial → ¬ (Breaks journal number l b)
+      → l.reply ≡ reply_by (entries_of journal) l.operation → last_serial l.place journal < l.serial → ¬ (Breaks journal number l b)
   no_breach journal number l (WrongNumber told due) is reply above (t, d, other) = other (t ∙ is ∙ sym d)
   no_breach journal number l (SerialFalls place serial last) is reply above (m, p, s, at, falls) = omega (arith, s, at, falls, above)
-  no_breach journal number l (WrongReply told due) is reply above (m, rises, t, d, other) = other (t ∙ reply ∙ sym d)
+  no_breach journal number l (WrongReply told due) is reply above (m, rises, t, (q, o, d), other) =
+      other (t ∙ reply ∙ ap (λ x. reply_by (entries_of journal) x) o ∙ sym d)
+  no_breach journal number l (WrongRemoval ticket told due) is reply above (m, rises, o, t, d, other) = other (t ∙ reply ∙ sym d)
 
   not_unlawful : (journal : List Line) (text : List ℕ) (l : Line) (why : Unlawful) → IsLineText wide text (length journal + 1) l
-      → l.reply ≡ reply_to (left journal) l.request → last_serial l.place journal < l.serial → ¬ (IsUnlawful wide journal text why)
+      → l.reply ≡ reply_by (entries_of journal) l.operation → last_serial l.place journal < l.serial → ¬ (IsUnlawful wide journal text why)
   not_unlawful journal text l (NoLine e) line reply above why = (once wide text (length journal + 1) l line).1 e why
   not_unlawful journal text l (Broken b) line reply above (number, k, line', breaks) =
       let same = (once wide text (length journal + 1) l line).0 number k line' in
@@ -84,7 +85,7 @@ module _ (wide : Bool) (once : LinesAreReadOnce) where
   not_refused n all journal rest text behind (Refused refusal) law whole (short, inr (l, ls, filled', is, line, h)) (short', filled, at, why) =
       let split : all ≡ journal ++ l ∷ ls = whole ∙ ap (λ xs. journal ++ xs) is in
       not_unlawful journal (without_return text) l refusal.reason (subst (λ m. IsLineText wide (without_return text) m l) (omega arith) line)
-      (reply_at [] journal l ls (subst IsLegal split law.legal)) (serial_at journal l ls line.1.serial_range.0 (subst SerialsRise split law.rise)) why
+      (reply_at [] 1 journal l ls (subst IsLegal split law.legal)) (serial_at journal l ls line.1.serial_range.0 (subst SerialsRise split law.rise)) why
   not_refused n all journal rest text behind (TooLong number) law whole (short, spelled) (long, at) = omega (arith, short, long)
   not_refused n all journal rest text behind NoMemory law whole spelled none = none
   not_refused n all journal rest text behind Input law whole spelled none = none

@@ -10,6 +10,7 @@ use Rattle.pq_types.specs.declared.answer.Reply.TheVariants.{Pushed, Got, Empty,
 use Rattle.pq_types.specs.Asked.{Line}
 use Rattle.pq_types.specs.declared.journal.TheConstants.{GREATEST_NUMBER}
 use Rattle.pq_types.specs.History.{last_serial}
+use Rattle.pq_types.specs.Operation.{request_of}
 use Rattle.pq_types.specs.Laws.{SerialOfOneMore}
 use Rattle.queue_texts.specs.declared.sums.JournalSums.{JournalSums}
 use Rattle.queue_texts.specs.Sums.{sum_over, places_of, pushes, gots, empties, priority_in, priority_out, counted, HasRoom, AreSumsOf}
@@ -63,23 +64,23 @@ few_of false = omega arith
 
 -- the sums of one more line
 pub sums_more : SerialOfOneMore → (ls : List Line) (l : Line) (t : JournalSums) (new : Bool) → AllByRecursion (λ m. 0 < m.serial) ls
-    → 0 < l.serial → (counted t new l.request l.reply).sum_in ≤ t.sum_in + 2 ^ 64 → (counted t new l.request l.reply).sum_out ≤ t.sum_out + 2 ^ 64
-    → new ≡ (last_serial l.place ls == 0) → AreSumsOf ls t → AreSumsOf (ls ++ l ∷ []) (counted t new l.request l.reply)
+    → 0 < l.serial → (counted t new (request_of l.operation) l.reply).sum_in ≤ t.sum_in + 2 ^ 64 → (counted t new (request_of l.operation) l.reply).sum_out ≤ t.sum_out + 2 ^ 64
+    → new ≡ (last_serial l.place ls == 0) → AreSumsOf ls t → AreSumsOf (ls ++ l ∷ []) (counted t new (request_of l.operation) l.reply)
 sums_more last ls l t new all some small_in small_out is h =
     let longer : length (ls ++ l ∷ []) ≡ length ls + 1 = length-append {A = Line} ls (l ∷ []) in
     let places : places_of (ls ++ l ∷ []) ≡ places_of ls + (if new then 1 else 0) =
     subst (λ b. places_of (ls ++ l ∷ []) ≡ places_of ls + (if b then 1 else 0)) (sym is) (places_more last ls l all some) in
     record {
       places = omega (arith, h.places, places);
-      pushed = omega (arith, h.pushed, sum_more (λ m. pushes m.request) ls l);
-      got = omega (arith, h.got, sum_more (λ m. gots m.request m.reply) ls l);
-      empty = omega (arith, h.empty, sum_more (λ m. empties m.request m.reply) ls l);
-      sum_in = omega (arith, h.sum_in, sum_more (λ m. priority_in m.request) ls l);
-      sum_out = omega (arith, h.sum_out, sum_more (λ m. priority_out m.request m.reply) ls l);
+      pushed = omega (arith, h.pushed, sum_more (λ m. pushes (request_of m.operation)) ls l);
+      got = omega (arith, h.got, sum_more (λ m. gots (request_of m.operation) m.reply) ls l);
+      empty = omega (arith, h.empty, sum_more (λ m. empties (request_of m.operation) m.reply) ls l);
+      sum_in = omega (arith, h.sum_in, sum_more (λ m. priority_in (request_of m.operation)) ls l);
+      sum_out = omega (arith, h.sum_out, sum_more (λ m. priority_out (request_of m.operation) m.reply) ls l);
       few_places = omega (arith, h.few_places, few_of new, longer);
-      few_pushed = omega (arith, h.few_pushed, few_pushes l.request, longer);
-      few_got = omega (arith, h.few_got, few_gots l.request l.reply, longer);
-      few_empty = omega (arith, h.few_empty, few_empties l.request l.reply, longer);
+      few_pushed = omega (arith, h.few_pushed, few_pushes (request_of l.operation), longer);
+      few_got = omega (arith, h.few_got, few_gots (request_of l.operation) l.reply, longer);
+      few_empty = omega (arith, h.few_empty, few_empties (request_of l.operation) l.reply, longer);
       few_in = omega (arith, h.few_in, small_in, longer);
       few_out = omega (arith, h.few_out, small_out, longer);
     }

@@ -8,9 +8,11 @@ use Rattle.pq_types.specs.declared.request.Request.TheVariants.{Push, Pop, Least
 use Rattle.pq_types.specs.Asked.{Reply}
 use Rattle.pq_types.specs.declared.answer.Reply.TheVariants.{Pushed, Got, Empty, Least as LeastIs}
 use Rattle.pq_types.specs.Asked.{Line}
+use Rattle.pq_types.specs.Asked.{Operation}
+use Rattle.pq_types.specs.Operation.{Asked, ByTicket, Remove}
 use Rattle.pq_types.specs.Item.{item}
 use Rattle.queue_texts.specs.ItemText.{SpellsNumber, HasNoSpace}
-use Rattle.queue_texts.specs.LineText.{Leads, LeadsBoth, LeadsAll, SpellsBoth, SpellsReply, AsksFirst, SpellsLine}
+use Rattle.queue_texts.specs.LineText.{Leads, LeadsBoth, LeadsAll, SpellsBoth, SpellsReply, AsksFirst, SaysFirst, SpellsLine}
 use Rattle.queue_texts.proofs.Items.{no_space, no_space_at, one_split, same_number}
 
 -- a text begins with one number
@@ -74,6 +76,22 @@ asks_once text a b Least Least e f = (refl, append_cancel_left (codes "least ") 
 first : (a b : List ℕ) → a ≡ b → get_or a 0 0 ≡ get_or b 0 0
 first a b e = ap (λ l. get_or l 0 0) e
 
+-- no request is said as a removal is
+pub no_removal : (text number rest : List ℕ) (q : Request) → text ≡ codes "remove " ++ number → ¬ (AsksFirst text q rest)
+no_removal text number rest (Push x) e (i, f, l) = omega (arith, first _ _ (sym e ∙ f))
+no_removal text number rest Pop e f = omega (arith, first _ _ (sym e ∙ f))
+no_removal text number rest Least e f = omega (arith, first _ _ (sym e ∙ f))
+
+-- a text says one operation first
+pub says_once : (text a b : List ℕ) (o p : Operation) → SaysFirst text o a → SaysFirst text p b → (o ≡ p) × (a ≡ b)
+says_once text a b (Asked q) (Asked r) h k = let one = asks_once text a b q r h k in (ap (λ z. Asked z) one.0, one.1)
+says_once text a b (Asked q) (ByTicket (Remove j)) h (number, e, l) = absurd (no_removal text number a q e h)
+says_once text a b (ByTicket (Remove i)) (Asked r) (number, e, l) k = absurd (no_removal text number b r e k)
+says_once text a b (ByTicket (Remove i)) (ByTicket (Remove j)) (number, e, l) (number', f, k) =
+    let same = append_cancel_left (codes "remove ") number number' (sym e ∙ f) in
+    let one = leads_once number' a b i j (subst (λ t. Leads t i a) same l) k in
+    (ap (λ z. ByTicket (Remove z)) one.0, one.1)
+
 -- a text says one reply
 pub reply_once : (text : List ℕ) (r s : Reply) → SpellsReply text r → SpellsReply text s → r ≡ s
 reply_once text Pushed Pushed e f = refl
@@ -97,16 +115,16 @@ reply_once text Empty (Got y) e (j, f, k) = absurd (omega (arith, first _ _ (sym
 reply_once text Empty (LeastIs y) e (j, f, k) = absurd (omega (arith, first _ _ (sym e ∙ f)))
 reply_once text Empty Empty e f = refl
 
-same_line : (l k : Line) → l.place ≡ k.place → l.serial ≡ k.serial → l.request ≡ k.request → l.reply ≡ k.reply → l ≡ k
+same_line : (l k : Line) → l.place ≡ k.place → l.serial ≡ k.serial → l.operation ≡ k.operation → l.reply ≡ k.reply → l ≡ k
 same_line l k p s q r =
     ap (λ x. record l { place = x }) p ∙ ap (λ x. record l { place = k.place; serial = x }) s
-    ∙ ap (λ x. record k { request = x; reply = l.reply }) q ∙ ap (λ x. record k { reply = x }) r
+    ∙ ap (λ x. record k { operation = x; reply = l.reply }) q ∙ ap (λ x. record k { reply = x }) r
 
 -- a text spells one line, under one number
 pub line_once : (text : List ℕ) (m n : ℕ) (l k : Line) → SpellsLine text m l → SpellsLine text n k → (m ≡ n) × (l ≡ k)
 line_once text m n l k h g =
-    let head = leads_all_once text h.from_request g.from_request m l.place l.serial n k.place k.serial h.head g.head in
-    let asked = asks_once g.from_request h.from_reply g.from_reply l.request k.request
-    (subst (λ t. AsksFirst t l.request h.from_reply) head.3 h.request_is) g.request_is in
-    let told = reply_once g.from_reply l.reply k.reply (subst (λ t. SpellsReply t l.reply) asked.1 h.reply_is) g.reply_is in
-    (head.0, same_line l k head.1 head.2 asked.0 told)
+    let head = leads_all_once text h.from_operation g.from_operation m l.place l.serial n k.place k.serial h.head g.head in
+    let said = says_once g.from_operation h.from_reply g.from_reply l.operation k.operation
+    (subst (λ t. SaysFirst t l.operation h.from_reply) head.3 h.operation_is) g.operation_is in
+    let told = reply_once g.from_reply l.reply k.reply (subst (λ t. SpellsReply t l.reply) said.1 h.reply_is) g.reply_is in
+    (head.0, same_line l k head.1 head.2 said.0 told)

@@ -1,9 +1,8 @@
 -- The first lines of a lawful journal.
-use Rattle.std.proofs.Common.{◌≡◌, ◌<◌, List, [], ◌∷◌, ◌++◌}
+use Rattle.std.proofs.Common.{◌≡◌, ℕ, ◌+◌, ◌<◌, List, [], ◌∷◌, ◌++◌}
 use Rattle.std.specs.List.{AllByRecursion}
-use Rattle.pq_types.specs.Item.{Item}
 use Rattle.pq_types.specs.Asked.{Line}
-use Rattle.pq_types.specs.Queue.{content_after}
+use Rattle.pq_types.specs.Entry.{Entry, entries_after}
 use Rattle.pq_types.specs.History.{IsLegalFrom, SerialsRise}
 use Rattle.queue_texts.specs.Laws.{PrefixIsLawful}
 
@@ -11,9 +10,9 @@ first_all : (P : Line → Type 0) (first others : List Line) → AllByRecursion 
 first_all P [] others h = tt
 first_all P (l ∷ first) others h = (h.0, first_all P first others h.1)
 
-first_legal : (xs : List Item) (first others : List Line) → IsLegalFrom xs (first ++ others) → IsLegalFrom xs first
-first_legal xs [] others h = tt
-first_legal xs (l ∷ first) others h = (h.0, first_legal (content_after xs l.request) first others h.1)
+first_legal : (es : List Entry) (n : ℕ) (first others : List Line) → IsLegalFrom es n (first ++ others) → IsLegalFrom es n first
+first_legal es n [] others h = tt
+first_legal es n (l ∷ first) others h = (h.0, first_legal (entries_after es n l.operation) (n + 1) first others h.1)
 
 first_rise : (first others : List Line) → SerialsRise (first ++ others) → SerialsRise first
 first_rise [] others h = tt
@@ -21,4 +20,4 @@ first_rise (l ∷ first) others h =
     (first_all (λ m. m.place ≡ l.place → l.serial < m.serial) first others h.0, first_rise first others h.1)
 
 pub prefix_is_lawful : PrefixIsLawful
-prefix_is_lawful first others h = record { legal = first_legal [] first others h.legal; rise = first_rise first others h.rise }
+prefix_is_lawful first others h = record { legal = first_legal [] 1 first others h.legal; rise = first_rise first others h.rise }

@@ -6,13 +6,15 @@ use Rattle.std.specs.List.{AllByRecursion}
 use Rattle.std.proofs.lemmas.Bool.Decides.{nat_tests}
 use Rattle.std.proofs.Math.ListN.{length-set}
 use Rattle.std.proofs.lemmas.List.{get_or-set_same, get_or-set_other, length-replicate, get_or-replicate}
-use Rattle.pq_types.specs.Asked.{Line}
+use Rattle.pq_types.specs.Asked.{Line, Operation, Reply}
 use Rattle.pq_types.specs.declared.journal.TheConstants.{GREATEST_NUMBER}
-use Rattle.pq_types.specs.Queue.{reply_to}
-use Rattle.pq_types.specs.History.{left, last_serial}
+use Rattle.pq_types.specs.Entry.{reply_by}
+use Rattle.pq_types.specs.History.{entries_of, last_serial}
+use Rattle.pq_types.specs.Operation.{Asked, ByTicket, Remove}
 use Rattle.pq_types.specs.Laws.{SerialOfOneMore, StaysLegal, StillRises}
 use Rattle.queue_texts.specs.declared.replay.TheConstants.{PLACES}
-use Rattle.queue_texts.specs.Audit.{IsLawful}
+use Rattle.queue_texts.specs.declared.refusal.Breach.{Breach}
+use Rattle.queue_texts.specs.Audit.{IsLawful, Breaks, breach_by}
 use Rattle.queue_texts.specs.Replay.{AreLastSerials, IsReplayed}
 
 -- a serial above the last of its place is above each
@@ -24,7 +26,7 @@ pub lawful_none : IsLawful []
 lawful_none = record { legal = tt; rise = tt }
 
 -- a lawful journal with a line that has the due reply, and a serial above the last of its place
-pub lawful_more : StaysLegal → StillRises → (ls : List Line) (l : Line) → l.reply ≡ reply_to (left ls) l.request
+pub lawful_more : StaysLegal → StillRises → (ls : List Line) (l : Line) → l.reply ≡ reply_by (entries_of ls) l.operation
     → last_serial l.place ls < l.serial → IsLawful ls → IsLawful (ls ++ l ∷ [])
 lawful_more legal_more rise_more ls l reply above h =
     record { legal = legal_more ls l h.legal reply; rise = rise_more ls l h.rise (below l.place l.serial ls above) }
@@ -46,7 +48,7 @@ serials_more one_more ls l last within above h = (length-set last l.place l.seri
 
 -- what a replay keeps, with one more line, where each part is known by an equation
 pub replayed_more : SerialOfOneMore → StaysLegal → StillRises → (room room' : ℕ) (ls ls' : List Line) (last last' : List ℕ) (l : Line)
-    → IsReplayed room ls last → l.place < PLACES → last_serial l.place ls < l.serial → l.reply ≡ reply_to (left ls) l.request
+    → IsReplayed room ls last → l.place < PLACES → last_serial l.place ls < l.serial → l.reply ≡ reply_by (entries_of ls) l.operation
     → room' ≡ room → ls' ≡ ls ++ l ∷ [] → last' ≡ set last l.place l.serial → IsReplayed room' ls' last'
 replayed_more one_more legal_more rise_more room room' ls ls' last last' l h within above reply e f g = record {
   room_is = e ∙ h.room_is;
@@ -67,3 +69,12 @@ replayed_none n room journal last few e f g = record {
   lawful = subst IsLawful (sym f) lawful_none;
   serials = subst (λ x. AreLastSerials x journal) (sym g) (subst (λ x. AreLastSerials (replicate n 0) x) (sym f) (none_yet n few));
 }
+
+-- how a line breaks the law that comes next, and has another reply than the due one
+pub breaks_by : (journal : List Line) (number : ℕ) (l : Line) (due : Reply) (b : Breach) → number ≡ length journal + 1
+    → last_serial l.place journal < l.serial → due ≡ reply_by (entries_of journal) l.operation → l.reply ≢ due
+    → b ≡ breach_by l.operation l.reply due → Breaks journal number l b
+breaks_by journal number l due b next above is other breach = subst (Breaks journal number l) (sym breach) (by l.operation refl) where
+  by : (o : Operation) → l.operation ≡ o → Breaks journal number l (breach_by o l.reply due)
+  by (Asked q) e = (next, above, refl, (q, e, is ∙ ap (reply_by (entries_of journal)) e), other)
+  by (ByTicket (Remove ticket)) e = (next, above, e, refl, is, other)

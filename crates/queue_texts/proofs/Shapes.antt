@@ -1,5 +1,5 @@
 -- What the reader of a journal line finds, step by step, is what the text spells.
-use Rattle.std.proofs.Common.{◌≡◌, ◌↔◌, IsTrue, Bool, true, false, ℕ, List, get_or, codes, Option, Some, None, IfNone}
+use Rattle.std.proofs.Common.{◌≡◌, ◌↔◌, ◌++◌, IsTrue, Bool, true, false, ℕ, List, get_or, codes, Option, Some, None, IfNone}
 use Rattle.std.proofs.Common.{Result, Ok, Err, refl, sym, ◌∙◌, ap, subst, arith}
 use Rattle.std.proofs.lemmas.List.{append_cancel_left}
 use Rattle.std.specs.Str.Parse.{IsNumeral, digits_value}
@@ -13,19 +13,24 @@ use Rattle.pq_types.specs.declared.control.Kind.TheVariants as kind
 use Rattle.pq_types.specs.declared.control.Outcome.{Outcome}
 use Rattle.pq_types.specs.declared.control.Outcome.TheVariants as outcome
 use Rattle.pq_types.specs.Asked.{Line}
+use Rattle.pq_types.specs.Asked.{Operation}
+use Rattle.pq_types.specs.Operation.{Asked, ByTicket, Remove, request_of}
 use Rattle.queue_texts.specs.declared.line_reading.LineError.{LineError}
 use Rattle.queue_texts.specs.declared.line_reading.LineError.TheVariants.{UnknownWord, OutOfRange, NoSuchReply}
 use Rattle.queue_texts.specs.declared.line_reading.Parts.{Parts}
+use Rattle.queue_texts.specs.declared.line_reading.Named.{Named}
+use Rattle.queue_texts.specs.declared.line_reading.Named.TheVariants as named
 use Rattle.queue_texts.specs.declared.line_reading.Shape.{Shape}
 use Rattle.pq_types.specs.Item.{item, IsItemOf}
 use Rattle.pq_types.specs.Queue.{IsProperRequestOf, IsProperReplyOf}
 use Rattle.queue_texts.specs.Command.{PushesText}
-use Rattle.pq_types.specs.History.{line}
+use Rattle.pq_types.specs.History.{line_of}
 use Rattle.pq_types.specs.Control.{kind_of, outcome_of, request_with, reply_with}
-use Rattle.queue_texts.specs.LineText.{Leads, LeadsBoth, LeadsAll, SpellsBoth, SpellsReply, AsksFirst, SpellsLine, IsInRange}
-use Rattle.queue_texts.specs.LineText.{MayReply, IsLineText, IsNoLineFor, NumberedLine, numbered}
-use Rattle.queue_texts.specs.LineShape.{capped, TellsItem, TellsNone, AsksNone, AreParts, AreNone, HasReply, HasRequest, HasShape}
-use Rattle.queue_texts.proofs.Lines.{leads_once, leads_all_once, asks_once, line_once}
+use Rattle.queue_texts.specs.LineText.{Leads, LeadsBoth, LeadsAll, SpellsBoth, SpellsReply, AsksFirst, SaysFirst, SpellsLine, IsInRange}
+use Rattle.queue_texts.specs.LineText.{MayReply, HasReplyOfItsKind, IsLineText, IsNoLineFor, NumberedLine, numbered}
+use Rattle.queue_texts.specs.LineShape.{capped, TellsItem, TellsNone, AsksNone, AreParts, HasReply, HasRequest, HasOperation}
+use Rattle.queue_texts.specs.LineShape.{HasShape}
+use Rattle.queue_texts.proofs.Lines.{leads_once, leads_all_once, no_removal, says_once, line_once}
 
 pub if_none : {X : Type 0} (P : Type 0) (r : Option X) → r ≡ None → P → IfNone r P
 if_none P (Some x) e h = absurd (cc)
@@ -120,29 +125,50 @@ no_request text no_push none (Push x) rest (j, f, k) = no_push j f
 no_request text no_push none Pop rest f = none kind.Pop rest f
 no_request text no_push none Least rest f = none kind.Least rest f
 
+-- the text says that this ticket's item is removed
+pub removal_said : (text number rest : List ℕ) (n : ℕ) → text ≡ codes "remove " ++ number → (ticket : ℕ) × Leads number ticket rest × (n ≡ capped ticket)
+    → (o : Operation) × SaysFirst text o rest × HasOperation (named.Remove n) o
+removal_said text number rest n e (ticket, l, c) = (ByTicket (Remove ticket), (number, e, l), c)
+
+-- no operation, where no number follows `remove `
+pub no_ticket : (text number : List ℕ) → text ≡ codes "remove " ++ number → ((n : ℕ) (rest : List ℕ) → ¬ (Leads number n rest))
+    → (o : Operation) (rest : List ℕ) → ¬ (SaysFirst text o rest)
+no_ticket text number e none (Asked q) rest asked = no_removal text number rest q e asked
+no_ticket text number e none (ByTicket (Remove ticket)) rest (number', f, l) =
+    none ticket rest (subst (λ t. Leads t ticket rest) (append_cancel_left (codes "remove ") number' number (sym f ∙ e)) l)
+
+pub request_said : (text rest : List ℕ) (k : Kind) (parts : Parts) → (q : Request) × AsksFirst text q rest × HasRequest k parts q
+    → (o : Operation) × SaysFirst text o rest × HasOperation (named.Asked k parts) o
+request_said text rest k parts (q, asked, has) = (Asked q, asked, has)
+
+pub no_operation : (text : List ℕ) → ((number : List ℕ) → ¬ (text ≡ codes "remove " ++ number)) → ((q : Request) (rest : List ℕ) → ¬ (AsksFirst text q rest))
+    → (o : Operation) (rest : List ℕ) → ¬ (SaysFirst text o rest)
+no_operation text unsaid none (Asked q) rest asked = none q rest asked
+no_operation text unsaid none (ByTicket (Remove ticket)) rest (number, e, l) = unsaid number e
+
 -- a text whose first words are none of a line's spells none
 pub no_line_asked : (text a : List ℕ) → (n : ℕ) × (p : ℕ) × (s : ℕ) × LeadsAll text n p s a
-    → ((q : Request) (rest : List ℕ) → ¬ (AsksFirst a q rest)) → (m : ℕ) (l : Line) → ¬ (SpellsLine text m l)
+    → ((o : Operation) (rest : List ℕ) → ¬ (SaysFirst a o rest)) → (m : ℕ) (l : Line) → ¬ (SpellsLine text m l)
 no_line_asked text a (n, p, s, led) none m l h =
-    let one = leads_all_once text h.from_request a m l.place l.serial n p s h.head led in
-    none l.request h.from_reply (subst (λ t. AsksFirst t l.request h.from_reply) one.3 h.request_is)
+    let one = leads_all_once text h.from_operation a m l.place l.serial n p s h.head led in
+    none l.operation h.from_reply (subst (λ t. SaysFirst t l.operation h.from_reply) one.3 h.operation_is)
 
-pub no_line_told : (text a b : List ℕ) → (n : ℕ) × (p : ℕ) × (s : ℕ) × LeadsAll text n p s a → (q : Request) × AsksFirst a q b
+pub no_line_told : (text a b : List ℕ) → (n : ℕ) × (p : ℕ) × (s : ℕ) × LeadsAll text n p s a → (o : Operation) × SaysFirst a o b
     → ((r : Reply) → ¬ (SpellsReply b r)) → (m : ℕ) (l : Line) → ¬ (SpellsLine text m l)
-no_line_told text a b (n, p, s, led) (q, asked) none m l h =
-    let one = leads_all_once text h.from_request a m l.place l.serial n p s h.head led in
-    let two = asks_once a h.from_reply b l.request q (subst (λ t. AsksFirst t l.request h.from_reply) one.3 h.request_is) asked in
+no_line_told text a b (n, p, s, led) (o, said) none m l h =
+    let one = leads_all_once text h.from_operation a m l.place l.serial n p s h.head led in
+    let two = says_once a h.from_reply b l.operation o (subst (λ t. SaysFirst t l.operation h.from_reply) one.3 h.operation_is) said in
     none l.reply (subst (λ t. SpellsReply t l.reply) two.1 h.reply_is)
 
 pub line_spelled : (text a b : List ℕ) (s : Shape) (n p q : ℕ) → LeadsAll text n p q a → s.number ≡ capped n → s.place ≡ capped p
     → s.serial ≡ capped q
-    → (x : Request) × AsksFirst a x b × HasRequest s.kind s.pushed x → (r : Reply) × SpellsReply b r × HasReply s.outcome s.told r
+    → (x : Operation) × SaysFirst a x b × HasOperation s.named x → (r : Reply) × SpellsReply b r × HasReply s.outcome s.told r
     → (m : ℕ) × (l : Line) × SpellsLine text m l × HasShape s m l
-line_spelled text a b s n p q led e f g (x, asked, has) (r, told, tells) = (
+line_spelled text a b s n p q led e f g (x, said, has) (r, told, tells) = (
   n,
-  line p q x r,
-  record { from_request = a; from_reply = b; head = led; request_is = asked; reply_is = told },
-  record { number_is = e; place_is = f; serial_is = g; request_is = has; reply_is = tells },
+  line_of p q x r,
+  record { from_operation = a; from_reply = b; head = led; operation_is = said; reply_is = told },
+  record { number_is = e; place_is = f; serial_is = g; operation_is = has; reply_is = tells },
 )
 
 -- the request and the reply of a line in range
@@ -183,6 +209,12 @@ outcome_is o parts (Got y) (e, a) = sym e
 outcome_is o parts (LeastIs y) (e, a) = sym e
 outcome_is o parts Empty (e, a) = sym e
 
+-- which request its reply is that of
+pub reply_kind : (k : Kind) (s : Named) (o : Operation) → HasOperation s o → ((q : Request) → HasOperation s (Asked q) → kind_of q ≡ k)
+    → ((t : ℕ) → HasOperation s (ByTicket (Remove t)) → kind.Pop ≡ k) → kind_of (request_of o) ≡ k
+reply_kind k s (Asked q) has asked removed = asked q has
+reply_kind k s (ByTicket (Remove t)) has asked removed = removed t has
+
 -- what a text is read as
 abbrev pub IsReadAs : Bool → List ℕ → Result NumberedLine LineError → Type 0
 IsReadAs wide text (Ok found) = IsLineText wide text found.number found.line
@@ -202,7 +234,7 @@ read_once wide text (Ok x) (Ok y) h g =
 read_once wide text (Ok x) (Err UnknownWord) h g = absurd (g x.number x.line h.0)
 read_once wide text (Ok x) (Err OutOfRange) h (n, l, s, high) = absurd (high (one_line (IsInRange wide) text x.number n x.line l h.0 s h.1))
 read_once wide text (Ok x) (Err NoSuchReply) h (n, l, s, range, none) =
-    absurd (none (one_line (λ m k. MayReply k.request k.reply) text x.number n x.line l h.0 s h.2))
+    absurd (none (one_line (λ m k. HasReplyOfItsKind k) text x.number n x.line l h.0 s h.2))
 read_once wide text (Err UnknownWord) (Ok y) h g = absurd (h y.number y.line g.0)
 read_once wide text (Err UnknownWord) (Err UnknownWord) h g = refl
 read_once wide text (Err UnknownWord) (Err OutOfRange) h (n, l, s, high) = absurd (h n l s)
@@ -212,7 +244,7 @@ read_once wide text (Err OutOfRange) (Err UnknownWord) (n, l, s, high) g = absur
 read_once wide text (Err OutOfRange) (Err OutOfRange) h g = refl
 read_once wide text (Err OutOfRange) (Err NoSuchReply) (n, l, s, high) (m, k, t, range, none) = absurd (high (one_line (IsInRange wide) text m n k l t s range))
 read_once wide text (Err NoSuchReply) (Ok y) (n, l, s, range, none) g =
-    absurd (none (one_line (λ m k. MayReply k.request k.reply) text y.number n y.line l g.0 s g.2))
+    absurd (none (one_line (λ m k. HasReplyOfItsKind k) text y.number n y.line l g.0 s g.2))
 read_once wide text (Err NoSuchReply) (Err UnknownWord) (n, l, s, range, none) g = absurd (g n l s)
 read_once wide text (Err NoSuchReply) (Err OutOfRange) (m, k, t, range, none) (n, l, s, high) = absurd (high (one_line (IsInRange wide) text m n k l t s range))
 read_once wide text (Err NoSuchReply) (Err NoSuchReply) h g = refl
@@ -225,27 +257,29 @@ pub every_refusal : (wide : Bool) (text : List ℕ) (r : Result NumberedLine Lin
 every_refusal wide text r h e g = read_once wide text r (Err e) h g
 
 -- a shape in range whose reply no such request has
-pub no_such_reply : (wide : Bool) (text : List ℕ) (s : Shape) (found : NumberedLine) (b : Bool) → (n : ℕ) × (l : Line) × SpellsLine text n l × HasShape s n l
+pub no_such_reply : (wide : Bool) (text : List ℕ) (s : Shape) (found : NumberedLine) (k : Kind) (b : Bool) → (n : ℕ) × (l : Line) × SpellsLine text n l × HasShape s n l
     → ((n : ℕ) (l : Line) → HasShape s n l → (found.number ≡ n) × (found.line ≡ l) × IsInRange wide n l)
-    → ((q : Request) (r : Reply) → kind_of q ≡ s.kind → outcome_of r ≡ s.outcome → IsTrue b ↔ MayReply q r) → b ≡ false → IsNoLineFor wide text NoSuchReply
-no_such_reply wide text s found b (n, l, spells, has) range may e = (
+    → ((o : Operation) → HasOperation s.named o → kind_of (request_of o) ≡ k)
+    → ((q : Request) (r : Reply) → kind_of q ≡ k → outcome_of r ≡ s.outcome → IsTrue b ↔ MayReply q r) → b ≡ false → IsNoLineFor wide text NoSuchReply
+no_such_reply wide text s found k b (n, l, spells, has) range kinds may e = (
   n,
   l,
   spells,
   (range n l has).2,
-  λ it. let yes : b ≡ true = (may l.request l.reply (kind_is s.kind s.pushed l.request has.request_is)
+  λ it. let yes : b ≡ true = (may (request_of l.operation) l.reply (kinds l.operation has.operation_is)
       (outcome_is s.outcome s.told l.reply has.reply_is)).1 it in absurd (cc),
 )
 
 -- the line that is found
-pub the_line : (wide : Bool) (text : List ℕ) (s : Shape) (found : NumberedLine) (b : Bool) → (n : ℕ) × (l : Line) × SpellsLine text n l × HasShape s n l
+pub the_line : (wide : Bool) (text : List ℕ) (s : Shape) (found : NumberedLine) (k : Kind) (b : Bool) → (n : ℕ) × (l : Line) × SpellsLine text n l × HasShape s n l
     → ((n : ℕ) (l : Line) → HasShape s n l → (found.number ≡ n) × (found.line ≡ l) × IsInRange wide n l)
-    → ((q : Request) (r : Reply) → kind_of q ≡ s.kind → outcome_of r ≡ s.outcome → IsTrue b ↔ MayReply q r) → b ≡ true
+    → ((o : Operation) → HasOperation s.named o → kind_of (request_of o) ≡ k)
+    → ((q : Request) (r : Reply) → kind_of q ≡ k → outcome_of r ≡ s.outcome → IsTrue b ↔ MayReply q r) → b ≡ true
     → IsReadAs wide text (Ok found)
-the_line wide text s found b (n, l, spells, has) range may e =
+the_line wide text s found k b (n, l, spells, has) range kinds may e =
     let is = range n l has in
-    let told : MayReply l.request
-    l.reply = (may l.request l.reply (kind_is s.kind s.pushed l.request has.request_is) (outcome_is s.outcome s.told l.reply has.reply_is)).0 e in
+    let told : HasReplyOfItsKind
+    l = (may (request_of l.operation) l.reply (kinds l.operation has.operation_is) (outcome_is s.outcome s.told l.reply has.reply_is)).0 e in
     subst (λ k. IsLineText wide text found.number k) (sym is.1) (subst (λ m. IsLineText wide text m l) (sym is.0) (spells, is.2, told))
 
 -- a line's text is read as that line alone

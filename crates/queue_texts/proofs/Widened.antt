@@ -2,11 +2,13 @@
 use Rattle.std.proofs.Common.{ℕ, ◌+◌, true, false, inl, inr, List, [], ◌∷◌, arith}
 use Rattle.pq_types.specs.Item.{Item, IsItemOf}
 use Rattle.pq_types.specs.Asked.{Request, Reply, Line}
+use Rattle.pq_types.specs.Asked.{Operation}
+use Rattle.pq_types.specs.Operation.{Asked, ByTicket, Remove}
 use Rattle.pq_types.specs.declared.request.Request.TheVariants.{Push, Pop, Least}
 use Rattle.pq_types.specs.declared.answer.Reply.TheVariants.{Pushed, Got, Empty, Least as LeastIs}
 use Rattle.pq_types.specs.Queue.{IsProperRequestOf, IsProperReplyOf}
 use Rattle.line_script.specs.Lines.{without_return}
-use Rattle.queue_texts.specs.LineText.{IsLineText}
+use Rattle.queue_texts.specs.LineText.{IsLineText, IsOperationInRange}
 use Rattle.queue_texts.specs.Audit.{NarrowIsWide}
 
 item_too : (x : Item) → IsItemOf false x → IsItemOf true x
@@ -16,6 +18,10 @@ request_too : (q : Request) → IsProperRequestOf false q → IsProperRequestOf 
 request_too (Push x) h = item_too x h
 request_too Pop h = tt
 request_too Least h = tt
+
+operation_too : (o : Operation) → IsOperationInRange false o → IsOperationInRange true o
+operation_too (Asked q) h = request_too q h
+operation_too (ByTicket (Remove ticket)) h = h
 
 reply_too : (r : Reply) → IsProperReplyOf false r → IsProperReplyOf true r
 reply_too Pushed h = tt
@@ -30,7 +36,7 @@ line_too text n l (spells, range, may) = (
     number_range = range.number_range;
     place_range = range.place_range;
     serial_range = range.serial_range;
-    request_range = request_too l.request range.request_range;
+    operation_range = operation_too l.operation range.operation_range;
     reply_range = reply_too l.reply range.reply_range;
   },
   may,

@@ -1,9 +1,9 @@
 -- How the text of a journal reaches a writer, page by page.
 use Rattle.std.proofs.Common.{◌≡◌, ℕ, ◌+◌, ◌<◌, List, [], ◌∷◌, ◌++◌, length, length-append, length-take, take, get_or, Option, Result, Ok}
-use Rattle.std.proofs.Common.{Err, OnErr, refl, sym, ◌∙◌, ap, subst, append_assoc, append-nil, codes, arith}
+use Rattle.std.proofs.Common.{Err, OnErr, sym, ◌∙◌, ap, subst, append_assoc, append-nil, codes, arith}
 use Rattle.std.proofs.lemmas.List.{take_more}
 use Rattle.std.specs.Io.KnownBytes.{Appends}
-use Rattle.std.proofs.KnownBytes.{Appends-nil, Appends-trans}
+use Rattle.std.proofs.KnownBytes.{Appends-trans}
 use Rattle.byte_writer.specs.Bytes.{AppendsPart}
 use Rattle.pq_types.specs.Asked.{Line}
 use Rattle.queue_texts.specs.LineText.{line_text, journal_text, IsWritten}

@@ -8,12 +8,15 @@ use Rattle.pq_types.specs.declared.request.Request.TheVariants.{Push, Pop, Least
 use Rattle.pq_types.specs.Asked.{Reply}
 use Rattle.pq_types.specs.declared.answer.Reply.TheVariants.{Pushed, Got, Empty, Least as LeastIs}
 use Rattle.pq_types.specs.Asked.{Line}
+use Rattle.pq_types.specs.Asked.{Operation}
+use Rattle.pq_types.specs.Operation.{Asked, ByTicket, Remove}
 use Rattle.pq_types.specs.Item.{IsItemOf}
 use Rattle.queue_texts.specs.ItemText.{item_text}
 use Rattle.pq_types.specs.Queue.{IsProperRequestOf, IsProperReplyOf}
 use Rattle.queue_texts.proofs.Items.{below_bound}
 use Rattle.queue_texts.specs.Text.{reply_text}
-use Rattle.queue_texts.specs.LineText.{request_text, line_text, Leads, SpellsBoth, SpellsReply, AsksFirst, SpellsLine, IsInRange}
+use Rattle.queue_texts.specs.LineText.{request_text, operation_text, line_text, Leads, SpellsBoth, SpellsReply, AsksFirst, SaysFirst}
+use Rattle.queue_texts.specs.LineText.{SpellsLine, IsOperationInRange, IsInRange}
 
 -- a number and a space lead to what follows
 leads : (n : ℕ) (rest : List ℕ) → n < 2 ^ 64 → Leads (decimal n ++ 32 ∷ rest) n rest
@@ -41,19 +44,23 @@ request wide (Push x) rest p = (
 request wide Pop rest p = refl
 request wide Least rest p = refl
 
+operation : (wide : Bool) (o : Operation) (rest : List ℕ) → IsOperationInRange wide o → SaysFirst (operation_text o ++ 32 ∷ rest) o rest
+operation wide (Asked q) rest p = request wide q rest p
+operation wide (ByTicket (Remove ticket)) rest p = (decimal ticket ++ 32 ∷ rest, simp append_assoc, leads ticket rest p)
+
 -- the parts of a line's text, each behind the one before
 regroup : (number : ℕ) (l : Line)
     → line_text number l ≡ decimal number
-    ++ 32 ∷ (decimal l.place ++ 32 ∷ (decimal l.serial ++ 32 ∷ (request_text l.request ++ 32 ∷ reply_text l.reply)))
+    ++ 32 ∷ (decimal l.place ++ 32 ∷ (decimal l.serial ++ 32 ∷ (operation_text l.operation ++ 32 ∷ reply_text l.reply)))
 regroup number l = simp append_assoc
 
 pub line_written : (wide : Bool) (number : ℕ) (l : Line) → IsInRange wide number l → SpellsLine (line_text number l) number l
 line_written wide number l h =
-    let rest = request_text l.request ++ 32 ∷ reply_text l.reply in
+    let rest = operation_text l.operation ++ 32 ∷ reply_text l.reply in
     let from_serial = decimal l.serial ++ 32 ∷ rest in
     let from_place = decimal l.place ++ 32 ∷ from_serial in
     subst (λ text. SpellsLine text number l) (sym (regroup number l)) (record {
-      from_request = rest;
+      from_operation = rest;
       from_reply = reply_text l.reply;
       head = record {
         from_place = from_place;
@@ -62,6 +69,6 @@ line_written wide number l h =
         place_is = leads l.place from_serial (omega (arith, h.place_range));
         serial_is = leads l.serial rest (omega (arith, h.serial_range.1));
       };
-      request_is = request wide l.request (reply_text l.reply) h.request_range;
+      operation_is = operation wide l.operation (reply_text l.reply) h.operation_range;
       reply_is = reply wide l.reply h.reply_range;
     })

@@ -3,14 +3,17 @@ use Rattle.std.specs.Prelude.{◌≡◌, ◌≢◌, ℕ, ◌+◌, ◌<◌, ◌�
 use Rattle.std.specs.Prelude.{Result, Ok, Err}
 use Rattle.pq_types.specs.Asked.{Line}
 use Rattle.pq_types.specs.Queue.{reply_to}
-use Rattle.pq_types.specs.History.{left, IsLegal, SerialsRise, last_serial}
+use Rattle.pq_types.specs.Entry.{reply_by}
+use Rattle.pq_types.specs.History.{left, entries_of, IsLegal, SerialsRise, last_serial}
+use Rattle.pq_types.specs.Operation.{Asked, ByTicket, Remove}
+use Rattle.pq_types.specs.Asked.{Request, Reply, Operation}
 use Rattle.queue_texts.specs.LineText.{IsLineText, IsNoLineFor}
 use Rattle.line_script.specs.declared.lines.TheConstants.{LONGEST_LINE}
 use Rattle.line_script.specs.declared.error.RunError.{RunError}
 use Rattle.line_script.specs.declared.error.RunError.TheVariants.{Refused, TooLong, NoMemory, Input, Output}
 use Rattle.line_script.specs.Lines.{lines_of, without_return, count_of}
 use Rattle.queue_texts.specs.declared.refusal.Breach.{Breach}
-use Rattle.queue_texts.specs.declared.refusal.Breach.TheVariants.{WrongNumber, SerialFalls, WrongReply}
+use Rattle.queue_texts.specs.declared.refusal.Breach.TheVariants.{WrongNumber, SerialFalls, WrongReply, WrongRemoval}
 use Rattle.queue_texts.specs.declared.refusal.Unlawful.{Unlawful}
 use Rattle.queue_texts.specs.declared.refusal.Unlawful.TheVariants.{NoLine, Broken}
 use Rattle.queue_texts.specs.declared.refusal.AuditRefusal.{AuditRefusal}
@@ -32,7 +35,8 @@ pub record IsLawful (journal : List Line) : Type 0 where
   pub rise : SerialsRise journal
 
 -- How the line with this number breaks the law behind this journal: its number isn't due; or its
--- serial isn't above the last of its place; or its reply isn't the one-thread queue's.
+-- serial isn't above the last of its place; or its reply, to a request or to a removal, isn't the
+-- one-thread queue's.
 abbrev pub Breaks : List Line → ℕ → Line → Breach → Type 0
 Breaks journal number l (WrongNumber told due) = (told ≡ number) × (due ≡ length journal + 1) × (told ≢ due)
 Breaks journal number l (SerialFalls place serial last) =
@@ -40,7 +44,15 @@ Breaks journal number l (SerialFalls place serial last) =
     × (serial ≤ last)
 Breaks journal number l (WrongReply told due) =
     (number ≡ length journal + 1) × (last_serial l.place journal < l.serial)
-    × (told ≡ l.reply) × (due ≡ reply_to (left journal) l.request) × (told ≢ due)
+    × (told ≡ l.reply) × ((q : Request) × (l.operation ≡ Asked q) × (due ≡ reply_to (left journal) q)) × (told ≢ due)
+Breaks journal number l (WrongRemoval ticket told due) =
+    (number ≡ length journal + 1) × (last_serial l.place journal < l.serial) × (l.operation ≡ ByTicket (Remove ticket))
+    × (told ≡ l.reply) × (due ≡ reply_by (entries_of journal) l.operation) × (told ≢ due)
+
+-- how a line with this operation and this reply breaks the law, where another reply is due
+abbrev pub breach_by : Operation → Reply → Reply → Breach
+breach_by (Asked q) told due = WrongReply told due
+breach_by (ByTicket (Remove ticket)) told due = WrongRemoval ticket told due
 
 -- why this text is no lawful line behind this journal
 abbrev pub IsUnlawful : Bool → List Line → List ℕ → Unlawful → Type 0
@@ -102,7 +114,7 @@ NarrowIsWide = (n : ℕ) (texts : List (List ℕ)) (journal : List Line) → Spe
 -- the line that this text spells may follow this journal, and then this journal stands there
 abbrev pub PlaysEntry : Bool → List Line → List ℕ → List ℕ → List Line → Type 0
 PlaysEntry wide journal line text after =
-    (l : Line) × IsLineText wide line (length journal + 1) l × (l.reply ≡ reply_to (left journal) l.request)
+    (l : Line) × IsLineText wide line (length journal + 1) l × (l.reply ≡ reply_by (entries_of journal) l.operation)
     × (last_serial l.place journal < l.serial) × (text ≡ []) × (after ≡ journal ++ l ∷ [])
 
 -- line n may not follow this journal

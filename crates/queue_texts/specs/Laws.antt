@@ -11,7 +11,7 @@ use Rattle.pq_types.specs.declared.request.Request.TheVariants.{Push}
 use Rattle.queue_texts.specs.declared.line_reading.LineError.{LineError}
 use Rattle.queue_texts.specs.ItemText.{item_text}
 use Rattle.queue_texts.specs.Command.{Spells}
-use Rattle.queue_texts.specs.LineText.{line_text, IsInRange, MayReply, IsLineText, IsNoLineFor}
+use Rattle.queue_texts.specs.LineText.{line_text, IsInRange, HasReplyOfItsKind, IsLineText, IsNoLineFor}
 use Rattle.queue_texts.specs.Audit.{IsLawful}
 
 -- the run ended as its script says: no fault came, and memory was not refused
@@ -35,9 +35,9 @@ OneTextOfAWalk =
 abbrev pub ItemsAreReadBack : Type 0
 ItemsAreReadBack = (wide : Bool) (x : Item) → IsItemOf wide x → Spells wide (codes "push " ++ item_text x) (Push x)
 
--- the text of a line in range, with a reply that such a request may have, is read back as that line
+-- the text of a line in range, with a reply that such an operation may have, is read back as that line
 abbrev pub LinesAreReadBack : Type 0
-LinesAreReadBack = (wide : Bool) (number : ℕ) (l : Line) → IsInRange wide number l → MayReply l.request l.reply
+LinesAreReadBack = (wide : Bool) (number : ℕ) (l : Line) → IsInRange wide number l → HasReplyOfItsKind l
     → IsLineText wide (line_text number l) number l
 
 -- a text is that of one line at most, under one number, and then it is refused for no reason

@@ -6,11 +6,15 @@ use Rattle.pq_types.specs.declared.request.Request.TheVariants as request
 use Rattle.pq_types.specs.Asked.{Reply}
 use Rattle.pq_types.specs.declared.answer.Reply.TheVariants as reply
 use Rattle.pq_types.specs.Asked.{Line}
+use Rattle.pq_types.specs.Asked.{Operation}
+use Rattle.pq_types.specs.Operation.{Asked, ByTicket, Remove}
 use Rattle.pq_types.specs.declared.control.Kind.{Kind}
 use Rattle.pq_types.specs.declared.control.Kind.TheVariants as kind
 use Rattle.pq_types.specs.declared.control.Outcome.{Outcome}
 use Rattle.pq_types.specs.declared.control.Outcome.TheVariants as outcome
 use Rattle.queue_texts.specs.declared.line_reading.Parts.{Parts}
+use Rattle.queue_texts.specs.declared.line_reading.Named.{Named}
+use Rattle.queue_texts.specs.declared.line_reading.Named.TheVariants as named
 use Rattle.queue_texts.specs.declared.line_reading.Shape.{Shape}
 
 -- the number, where it has 64 bits, and else the first one that has more
@@ -58,10 +62,17 @@ HasRequest k parts (request.Push x) = (k ≡ kind.Push) × AreParts parts x
 HasRequest k parts request.Pop = (k ≡ kind.Pop) × AreNone parts
 HasRequest k parts request.Least = (k ≡ kind.Least) × AreNone parts
 
+-- the same of operations: of a removal there is the ticket, of which those with more than 64 bits are not told apart
+abbrev pub HasOperation : Named → Operation → Type 0
+HasOperation (named.Asked k parts) (Asked q) = HasRequest k parts q
+HasOperation (named.Asked k parts) (ByTicket t) = ⊥
+HasOperation (named.Remove number) (Asked q) = ⊥
+HasOperation (named.Remove number) (ByTicket (Remove ticket)) = number ≡ capped ticket
+
 -- what is found of this line under this number
 pub record HasShape (s : Shape) (number : ℕ) (l : Line) : Type 0 where
   pub number_is : s.number ≡ capped number
   pub place_is : s.place ≡ capped l.place
   pub serial_is : s.serial ≡ capped l.serial
-  pub request_is : HasRequest s.kind s.pushed l.request
+  pub operation_is : HasOperation s.named l.operation
   pub reply_is : HasReply s.outcome s.told l.reply

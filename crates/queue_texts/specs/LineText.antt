@@ -1,11 +1,13 @@
 -- The text of a journal line, and what a text is read as.
-use Rattle.std.specs.Prelude.{◌≡◌, ℕ, ◌+◌, ◌<◌, Bool, List, [], ◌∷◌, ◌++◌, codes, decimal, Option}
+use Rattle.std.specs.Prelude.{◌≡◌, ℕ, ◌+◌, ◌<◌, ◌^◌, Bool, List, [], ◌∷◌, ◌++◌, codes, decimal, Option}
 use Rattle.std.specs.Io.KnownBytes.{Appends}
 use Rattle.pq_types.specs.Asked.{Request}
 use Rattle.pq_types.specs.declared.request.Request.TheVariants.{Push, Pop, Least}
 use Rattle.pq_types.specs.Asked.{Reply}
 use Rattle.pq_types.specs.declared.answer.Reply.TheVariants.{Pushed, Got, Empty, Least as LeastIs}
 use Rattle.pq_types.specs.Asked.{Line}
+use Rattle.pq_types.specs.Asked.{Operation}
+use Rattle.pq_types.specs.Operation.{Asked, ByTicket, Remove, request_of}
 use Rattle.queue_texts.specs.declared.line_reading.LineError.{LineError}
 use Rattle.queue_texts.specs.declared.line_reading.LineError.TheVariants.{UnknownWord, OutOfRange, NoSuchReply}
 use Rattle.queue_texts.specs.declared.line_reading.NumberedLine.{NumberedLine as NumberedLineOf}
@@ -21,12 +23,17 @@ request_text (Push item) = codes "push " ++ item_text item
 request_text Pop = codes "pop"
 request_text Least = codes "least"
 
--- the text of a journal line, without a line feed: its number, place, serial, request and reply,
+-- what an operation says: its request, or which ticket's item it removes
+abbrev pub operation_text : Operation → List ℕ
+operation_text (Asked request) = request_text request
+operation_text (ByTicket (Remove ticket)) = codes "remove " ++ decimal ticket
+
+-- the text of a journal line, without a line feed: its number, place, serial, operation and reply,
 -- with one space between
 abbrev pub line_text : ℕ → Line → List ℕ
 line_text number l =
     decimal number ++ codes " " ++ decimal l.place ++ codes " " ++ decimal l.serial
-    ++ codes " " ++ request_text l.request ++ codes " " ++ reply_text l.reply
+    ++ codes " " ++ operation_text l.operation ++ codes " " ++ reply_text l.reply
 
 -- the text of lines, of which the first has this number; a line feed ends each
 abbrev pub journal_text : ℕ → List Line → List ℕ
@@ -58,6 +65,15 @@ AsksFirst text (Push x) rest = (item : List ℕ) × (text ≡ codes "push " ++ i
 AsksFirst text Pop rest = text ≡ codes "pop " ++ rest
 AsksFirst text Least rest = text ≡ codes "least " ++ rest
 
+-- the text says that the item of this ticket is removed, and these bytes follow a space
+abbrev pub RemovesFirst : List ℕ → ℕ → List ℕ → Type 0
+RemovesFirst text ticket rest = (number : List ℕ) × (text ≡ codes "remove " ++ number) × Leads number ticket rest
+
+-- the text says this operation, and these bytes follow a space
+abbrev pub SaysFirst : List ℕ → Operation → List ℕ → Type 0
+SaysFirst text (Asked request) rest = AsksFirst text request rest
+SaysFirst text (ByTicket (Remove ticket)) rest = RemovesFirst text ticket rest
+
 -- the text begins with a number, a place and a serial, a space behind each
 pub record LeadsAll (text : List ℕ) (number place serial : ℕ) (rest : List ℕ) : Type 0 where
   pub from_place : List ℕ
@@ -67,20 +83,25 @@ pub record LeadsAll (text : List ℕ) (number place serial : ℕ) (rest : List �
   pub serial_is : Leads from_serial serial rest
 
 -- the text says this line under this number, whatever the size of its numbers, and whether or not
--- such a request has such a reply
+-- such an operation has such a reply
 pub record SpellsLine (text : List ℕ) (number : ℕ) (l : Line) : Type 0 where
-  pub from_request : List ℕ
+  pub from_operation : List ℕ
   pub from_reply : List ℕ
-  pub head : LeadsAll text number l.place l.serial from_request
-  pub request_is : AsksFirst from_request l.request from_reply
+  pub head : LeadsAll text number l.place l.serial from_operation
+  pub operation_is : SaysFirst from_operation l.operation from_reply
   pub reply_is : SpellsReply from_reply l.reply
 
--- a line number and a line whose place, serial and items, wide or narrow, are in their ranges
+-- an operation whose item is in its range, or whose ticket has 64 bits
+abbrev pub IsOperationInRange : Bool → Operation → Type 0
+IsOperationInRange wide (Asked request) = IsProperRequestOf wide request
+IsOperationInRange wide (ByTicket (Remove ticket)) = ticket < 2 ^ 64
+
+-- a line number and a line whose place, serial, ticket and items, wide or narrow, are in their ranges
 pub record IsInRange (wide : Bool) (number : ℕ) (l : Line) : Type 0 where
   pub number_range : IsLineNumber number
   pub place_range : l.place < 65536
   pub serial_range : IsSerial l.serial
-  pub request_range : IsProperRequestOf wide l.request
+  pub operation_range : IsOperationInRange wide l.operation
   pub reply_range : IsProperReplyOf wide l.reply
 
 -- such a request may have such a reply
@@ -106,17 +127,21 @@ NumberedLine = NumberedLineOf Item
 abbrev pub numbered : ℕ → Line → NumberedLine
 numbered number l = record { number = number; line = l }
 
--- the text is that of a journal line: in range, with a reply that such a request may have
+-- The line's operation may have its reply: a removal is replied to as a pop is.
+abbrev pub HasReplyOfItsKind : Line → Type 0
+HasReplyOfItsKind l = MayReply (request_of l.operation) l.reply
+
+-- the text is that of a journal line: in range, with a reply that such an operation may have
 abbrev pub IsLineText : Bool → List ℕ → ℕ → Line → Type 0
-IsLineText wide text number l = SpellsLine text number l × IsInRange wide number l × MayReply l.request l.reply
+IsLineText wide text number l = SpellsLine text number l × IsInRange wide number l × HasReplyOfItsKind l
 
 -- Why a text is no journal line: it spells none; or one with a number out of its range; or one
--- with a reply that no such request has.
+-- with a reply that no such operation has.
 abbrev pub IsNoLineFor : Bool → List ℕ → LineError → Type 0
 IsNoLineFor wide text UnknownWord = (number : ℕ) (l : Line) → ¬ (SpellsLine text number l)
 IsNoLineFor wide text OutOfRange = (number : ℕ) × (l : Line) × SpellsLine text number l × ¬ (IsInRange wide number l)
 IsNoLineFor wide text NoSuchReply =
-    (number : ℕ) × (l : Line) × SpellsLine text number l × IsInRange wide number l × ¬ (MayReply l.request l.reply)
+    (number : ℕ) × (l : Line) × SpellsLine text number l × IsInRange wide number l × ¬ (HasReplyOfItsKind l)
 
 -- the number of each refusal
 abbrev pub line_code : LineError → ℕ

@@ -1,10 +1,12 @@
 -- What a replay makes of a text that is read as a journal's next line, and what the lines so far leave.
 use Rattle.std.specs.Prelude.{◌≡◌, ℕ, ◌+◌, ◌-◌, ◌<◌, Bool, List, [], ◌∷◌, ◌++◌, length, map, drop, get_or}
-use Rattle.pq_types.specs.Asked.{Line}
+use Rattle.pq_types.specs.Asked.{Line, Answer}
+use Rattle.pq_types.specs.declared.answer.Answer.TheVariants as answer
 use Rattle.pq_types.specs.declared.journal.TheConstants.{GREATEST_NUMBER}
-use Rattle.pq_types.specs.Queue.{IsPush, reply_to}
-use Rattle.pq_types.specs.History.{left, last_serial}
-use Rattle.pq_book.specs.Entry.{Entry, item_of}
+use Rattle.pq_types.specs.Queue.{IsPush}
+use Rattle.pq_types.specs.Entry.{Entry, item_of, reply_by}
+use Rattle.pq_types.specs.History.{left, line_of, entries_of, last_serial}
+use Rattle.pq_types.specs.Operation.{request_of}
 use Rattle.pq_book.specs.declared.limit.TheConstants.{LONG_PAGE}
 use Rattle.queue_texts.specs.declared.replay.TheConstants.{PLACES}
 use Rattle.queue_texts.specs.declared.replay.ReplayError.{ReplayError}
@@ -21,7 +23,7 @@ pub record Replayed : Type 0 where
 pub record Follows (journal : List Line) (number : ℕ) (l : Line) : Type 0 where
   pub number_is : number ≡ length journal + 1
   pub serial : last_serial l.place journal < l.serial
-  pub reply : l.reply ≡ reply_to (left journal) l.request
+  pub reply : l.reply ≡ reply_by (entries_of journal) l.operation
 
 -- the text is that of this line, which may stand behind this journal
 abbrev pub MayFollow : Bool → List Line → List ℕ → Line → Type 0
@@ -33,12 +35,20 @@ TakesText wide journal text after = (l : Line) × MayFollow wide journal text l 
 
 -- the line of this text may stand behind this journal, a push, for whose item memory is refused
 abbrev pub LacksMemory : Bool → List Line → List ℕ → Type 0
-LacksMemory wide journal text = (l : Line) × MayFollow wide journal text l × IsPush l.request
+LacksMemory wide journal text = (l : Line) × MayFollow wide journal text l × IsPush (request_of l.operation)
 
 -- Why this text is not replayed behind this journal: it is no line that may stand there; or it is one, and memory is refused.
 abbrev pub RefusesText : Bool → List Line → List ℕ → ReplayError → Type 0
 RefusesText wide journal text (Unlawful why) = IsUnlawful wide journal text why
 RefusesText wide journal text NoMemory = LacksMemory wide journal text
+
+-- What a Book with this room and journal answers where it carries out what this line did, and its journal then: the line is
+-- entered with the due reply; or the journal is full; or memory for the item of a push is refused.
+abbrev pub IsCarriedOut : ℕ → List Line → Line → Answer → List Line → Type 0
+IsCarriedOut room journal l (answer.Entered number reply) after =
+    (reply ≡ reply_by (entries_of journal) l.operation) × (after ≡ journal ++ line_of l.place l.serial l.operation reply ∷ [])
+IsCarriedOut room journal l answer.BookFull after = (length journal ≡ room) × (after ≡ journal)
+IsCarriedOut room journal l answer.NoMemory after = IsPush (request_of l.operation) × (after ≡ journal)
 
 -- What a lawful journal is read back as: the items that it leaves in the queue, how many lines came before those that are
 -- kept, and these, its last 65,536.

@@ -9,6 +9,7 @@ use Rattle.pq_types.specs.declared.answer.Reply.TheVariants.{Pushed, Got, Empty,
 use Rattle.pq_types.specs.Asked.{Line}
 use Rattle.pq_types.specs.declared.journal.TheConstants.{GREATEST_NUMBER}
 use Rattle.pq_types.specs.History.{last_serial}
+use Rattle.pq_types.specs.Operation.{request_of}
 use Rattle.queue_texts.specs.declared.sums.JournalSums.{JournalSums}
 
 -- what a line counts, added up over lines
@@ -28,7 +29,7 @@ priority_in (Push x) = x.priority
 priority_in Pop = 0
 priority_in Least = 0
 
--- 1 for a pop that took an item out
+-- 1 for a pop that took an item out; a removal is counted as a pop
 abbrev pub gots : Request → Reply → ℕ
 gots (Push x) r = 0
 gots Pop Pushed = 0
@@ -86,14 +87,14 @@ pub record HasRoom (t : JournalSums) : Type 0 where
   pub sum_in : t.sum_in < 2 ^ 125
   pub sum_out : t.sum_out < 2 ^ 125
 
--- the sums of these lines, whose sums are no more than so many wide priorities
+-- the sums of these lines, removals among them as pops, whose sums are no more than so many wide priorities
 pub record AreSumsOf (journal : List Line) (t : JournalSums) : Type 0 where
   pub places : t.places ≡ places_of journal
-  pub pushed : t.pushed ≡ sum_over (λ l. pushes l.request) journal
-  pub got : t.got ≡ sum_over (λ l. gots l.request l.reply) journal
-  pub empty : t.empty ≡ sum_over (λ l. empties l.request l.reply) journal
-  pub sum_in : t.sum_in ≡ sum_over (λ l. priority_in l.request) journal
-  pub sum_out : t.sum_out ≡ sum_over (λ l. priority_out l.request l.reply) journal
+  pub pushed : t.pushed ≡ sum_over (λ l. pushes (request_of l.operation)) journal
+  pub got : t.got ≡ sum_over (λ l. gots (request_of l.operation) l.reply) journal
+  pub empty : t.empty ≡ sum_over (λ l. empties (request_of l.operation) l.reply) journal
+  pub sum_in : t.sum_in ≡ sum_over (λ l. priority_in (request_of l.operation)) journal
+  pub sum_out : t.sum_out ≡ sum_over (λ l. priority_out (request_of l.operation) l.reply) journal
   pub few_places : t.places ≤ length journal
   pub few_pushed : t.pushed ≤ length journal
   pub few_got : t.got ≤ length journal

@@ -11,23 +11,32 @@ use crate::refusal::{AuditRefusal, Unlawful};
 use crate::replay::{Replay, ReplayError};
 use crate::report::AuditReport;
 use crate::sums::{JournalSums, NOTHING};
-use leftist_heap::{Leftist, Store};
+use leftist_heap::TicketStore;
+use leftist_heap::flat_places::FlatPlaces;
+use leftist_heap::ticket_heap::TicketHeap;
 use line_script::{Player, RunError, play_script};
 use pq_book::Entry;
-use pq_types::Part;
 use pq_types::laws::law_one_more_line;
+use pq_types::{MOST_LINES, Part};
 use std::alloc::{AllocError, Allocator};
 use std::io::Read;
 
+/// How many tickets have a place in the table: those of the longest short journal, from 0 on. In a longer one a removal
+/// looks at every item.
+const TICKETS: usize = MOST_LINES as usize + 1;
+
+/// What keeps the items.
+type Waiting<P, A> = TicketHeap<Entry<P>, FlatPlaces<A>, A>;
+
 /// An audit so far: its lines as a replay, and what they add up to.
 #[derive(Drop)]
-struct Audit<S: Store<Entry<P>>, A: Allocator, P: Part = u32> {
+struct Audit<S: TicketStore<Entry<P>>, A: Allocator, P: Part = u32> {
     replay: Owned<Replay<S, A, P>>,
     sums: JournalSums,
     ghost counted: { CountUpTo replay.value.journal sums } by { Prim.hlevel props },
 }
 
-impl<S: Store<Entry<P>>, A: Allocator, P: Part> Player for Audit<S, A, P> {
+impl<S: TicketStore<Entry<P>>, A: Allocator, P: Part> Player for Audit<S, A, P> {
     type Refusal = AuditRefusal;
 
     ghost use Rattle.queue_texts.specs.Audit.{PlaysEntry, RefusesEntry};
@@ -49,7 +58,7 @@ impl<S: Store<Entry<P>>, A: Allocator, P: Part> Player for Audit<S, A, P> {
         match replay.value.play(line) {
             Ok(played) => {
                 let line = played.line;
-                sums.count(played.is_new_place, line.request, line.reply);
+                sums.count(played.is_new_place, line.operation, line.reply);
                 Ok(())
             }
             Err(ReplayError::Unlawful(reason)) => Err(refused(number, reason)),
@@ -72,10 +81,11 @@ fn refused(line: u64, reason: Unlawful) -> RunError<AuditRefusal>
 // An audit of no lines.
 fn opened<A: Allocator + Clone, P: Part>(
     alloc: &A,
-) -> Result<Audit<Leftist<Entry<P>, A>, A, P>, AllocError>
+) -> Result<Audit<Waiting<P, A>, A, P>, AllocError>
     ensures { IfOk result (λ audit. audit.replay.value.journal ≡ []) }
 {
-    let store = Leftist::new(alloc.clone()?);
+    let places = FlatPlaces::new(alloc.clone()?, TICKETS)?;
+    let store = TicketHeap::new(alloc.clone()?, places);
     let replay = Replay::new(alloc, store)?;
     Ok(Audit {
         replay: Owned { value: replay },
@@ -85,7 +95,7 @@ fn opened<A: Allocator + Clone, P: Part>(
 
 // The report of the journal so far, of the audit in this place, which is empty then. It is handed over in
 // a place as a Book is.
-fn report_of<S: Store<Entry<P>>, A: Allocator, P: Part>(
+fn report_of<S: TicketStore<Entry<P>>, A: Allocator, P: Part>(
     place: &mut Option<Audit<S, A, P>>,
 ) -> AuditReport
     requires { IsSome place.old }
@@ -120,8 +130,9 @@ fn report_of<S: Store<Entry<P>>, A: Allocator, P: Part>(
 /// - `Refused` and `TooLong`: the lines before this one are lawful, and this one isn't.
 /// - `NoMemory` and `Input`: nothing is said of the journal.
 ///
-/// It keeps the items that are in the queue, one serial for each of 65,536 places, and the last
-/// 65,536 lines; how many lines there are makes no difference.
+/// It keeps the items that are in the queue, one serial for each of 65,536 places, the last 65,536 lines, and 4 bytes for each
+/// of the first 1,048,577 tickets; how many lines there are makes no difference to that. Behind line 1,048,576 each removal
+/// looks at every item.
 pub fn run_audit<P: Part, A: Allocator + Clone, R: Read>(
     alloc: A,
     reader: &mut R,

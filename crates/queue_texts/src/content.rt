@@ -1,6 +1,6 @@
 // What is left in a store.
 ghost use Rattle.std.specs.Prelude.{◌≡◌, ◌+◌, ◌-◌, ◌<◌, ◌≤◌, ◌*◌, ◌^◌, map, length};
-ghost use Rattle.pq_book.specs.Entry.{item_of};
+ghost use Rattle.pq_types.specs.Entry.{item_of};
 ghost use Rattle.queue_texts.specs.Sums.{sum_priorities};
 
 use leftist_heap::Store;

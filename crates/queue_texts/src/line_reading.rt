@@ -1,36 +1,38 @@
 // The text of a journal line, read back.
 ghost use Rattle.pq_types.specs.Item.{Item as ItemSeen};
 ghost use Rattle.pq_types.specs.Asked.{Line as LineSeen};
-ghost use Rattle.std.specs.Prelude.{◌≡◌, ◌<◌, ◌≤◌, ◌↔◌, ℕ, List, IfOk, IfErr, IfSome, IfNone, IsTrue, Ok, Err};
+ghost use Rattle.std.specs.Prelude.{◌≡◌, ◌<◌, ◌≤◌, ◌^◌, ◌↔◌, ◌++◌, codes, ℕ, List, IfOk, IfErr, IfSome, IfNone, IsTrue, Ok, Err};
 ghost use Rattle.std.specs.Str.Parse.{IsNumeral, digits_value};
 ghost use Rattle.pq_types.specs.Asked.{Request};
 ghost use Rattle.pq_types.specs.Asked.{Reply};
+ghost use Rattle.pq_types.specs.Asked.{Operation as OperationSeen};
+ghost use Rattle.pq_types.specs.Operation.{request_of};
 ghost use Rattle.pq_types.specs.Item.{IsItemOf};
 ghost use Rattle.pq_types.specs.Control.{kind_of, outcome_of};
 ghost use Rattle.queue_texts.specs.LineText.{Leads, LeadsAll, LeadsBoth, SpellsBoth, SpellsReply};
-ghost use Rattle.queue_texts.specs.LineText.{AsksFirst, SpellsLine, IsInRange, MayReply};
+ghost use Rattle.queue_texts.specs.LineText.{AsksFirst, SaysFirst, SpellsLine, IsInRange, IsOperationInRange, MayReply};
 ghost use Rattle.queue_texts.specs.LineText.{IsLineText, IsNoLineFor, numbered, line_code};
 ghost use Rattle.queue_texts.specs.LineShape.{capped, TellsItem, TellsNone, AsksNone, AreParts};
-ghost use Rattle.queue_texts.specs.LineShape.{AreNone, HasReply, HasRequest, HasShape};
+ghost use Rattle.queue_texts.specs.LineShape.{AreNone, HasOperation, HasReply, HasRequest, HasShape};
 
 use crate::command::pushed_text;
 use crate::item_text::{greatest, split_at_space};
 use crate::number::{NumberError, read_number};
-use pq_types::{GREATEST_NUMBER, Item, Kind, Line, Outcome, Part};
+use pq_types::{GREATEST_NUMBER, Item, Kind, Line, Operation, Outcome, Part};
 use thiserror::Error;
 
 /// Why a text is no journal line.
 #[derive(Clone, Copy, Debug, PartialEq, Eq, Error)]
 pub enum LineError {
-    /// It isn't three numbers, a request and a reply, with one space between.
+    /// It isn't three numbers, an operation and a reply, with one space between.
     #[error("no journal line")]
     UnknownWord,
     /// One of its numbers is out of its range: of the line's number and the serial 1 to
     /// 72,057,594,037,927,936, of the place 0 to 65,535, of an item's parts 0 to 4,294,967,295,
-    /// or, where items are wide, to 18,446,744,073,709,551,615.
+    /// or, where items are wide, to 18,446,744,073,709,551,615, as of a ticket.
     #[error("number out of range")]
     OutOfRange,
-    /// No such request has such a reply.
+    /// No such operation has such a reply.
     #[error("no such reply")]
     NoSuchReply,
 }
@@ -64,6 +66,15 @@ const NO_PARTS: Parts = Parts {
     value: 0,
 };
 
+/// The operation that a text says, whether or not its numbers are in their ranges.
+#[derive(Clone, Copy)]
+enum Named {
+    /// A request of this kind, and the numbers of its item.
+    Asked(Kind, Parts),
+    /// The removal of the item that has this ticket.
+    Remove(u128),
+}
+
 /// What a text spells, whether or not its numbers are in their ranges. Those from 2^64 on are told as
 /// 2^64.
 #[derive(Clone, Copy)]
@@ -71,8 +82,7 @@ struct Shape {
     number: u128,
     place: u128,
     serial: u128,
-    kind: Kind,
-    pushed: Parts,
+    named: Named,
     outcome: Outcome,
     told: Parts,
 }
@@ -183,6 +193,31 @@ fn read_request(text: &[u8]) -> Option<(Kind, Parts, &[u8])>
     Some((kind, NO_PARTS, rest))
 }
 
+// The text behind `remove `, where the text begins so.
+fn removed_text(text: &[u8]) -> Option<&[u8]>
+    ensures some { IfSome result (λ number. text.now ≡ codes "remove " ++ number.now) }
+    ensures none { IfNone result ((number : List ℕ) → ¬ (text.now ≡ codes "remove " ++ number)) }
+{
+    match text {
+        [b'r', b'e', b'm', b'o', b'v', b'e', b' ', number @ ..] => Some(number),
+        _ => None,
+    }
+}
+
+// The operation that the text says first, and what follows a space.
+fn read_operation(text: &[u8]) -> Option<(Named, &[u8])>
+    ensures some { IfSome result (λ found.
+        (o : OperationSeen) × SaysFirst text.now o found.1.now × HasOperation found.0 o) }
+    ensures none { IfNone result ((o : OperationSeen) (rest : List ℕ) → ¬ (SaysFirst text.now o rest)) }
+{
+    if let Some(number) = removed_text(text) {
+        let (ticket, rest) = lead(number)?;
+        return Some((Named::Remove(ticket), rest));
+    }
+    let (kind, parts, rest) = read_request(text)?;
+    Some((Named::Asked(kind, parts), rest))
+}
+
 // The three numbers that the text begins with, and what follows a space.
 fn lead_all(text: &[u8]) -> Option<(u128, u128, u128, &[u8])>
     ensures some { IfSome result (λ found. (n p s : ℕ) × LeadsAll text.now n p s found.3.now
@@ -200,15 +235,14 @@ fn read_shape(text: &[u8]) -> Option<Shape>
     ensures some { IfSome result (λ shape. (n : ℕ) × (l : LineSeen) × SpellsLine text.now n l × HasShape shape n l) }
     ensures none { IfNone result ((n : ℕ) (l : LineSeen) → ¬ (SpellsLine text.now n l)) }
 {
-    let (number, place, serial, request_on) = lead_all(text)?;
-    let (kind, pushed, reply_on) = read_request(request_on)?;
+    let (number, place, serial, operation_on) = lead_all(text)?;
+    let (named, reply_on) = read_operation(operation_on)?;
     let (outcome, told) = read_reply(reply_on)?;
     Some(Shape {
         number,
         place,
         serial,
-        kind,
-        pushed,
+        named,
         outcome,
         told,
     })
@@ -251,6 +285,45 @@ fn count_of(number: u128) -> Option<u64>
     Some(number as u64)
 }
 
+// The ticket, where it has 64 bits.
+fn ticket_of(number: u128) -> Option<u64>
+    ensures some { IfSome result (λ ticket. (n : ℕ) → number ≡ capped n → (ticket ≡ n) × (n < 2 ^ 64)) }
+    ensures none { IfNone result ((n : ℕ) → number ≡ capped n → ¬ (n < 2 ^ 64)) }
+{
+    if number >= BEYOND {
+        return None;
+    }
+    Some(number as u64)
+}
+
+// The operation of these numbers, where they are in their ranges.
+fn operation_of<P: Part>(named: Named) -> Option<Operation<Item<P>>>
+    ensures some { IfSome result (λ found. (o : OperationSeen) → HasOperation named o
+        → (found ≡ o) × IsOperationInRange P.wide o) }
+    ensures none { IfNone result ((o : OperationSeen) → HasOperation named o → ¬ (IsOperationInRange P.wide o)) }
+{
+    match named {
+        Named::Asked(kind, parts) => {
+            let item = item_of(parts)?;
+            Some(Operation::asked(kind.with_item(item)))
+        }
+        Named::Remove(number) => {
+            let ticket = ticket_of(number)?;
+            Some(Operation::remove(ticket))
+        }
+    }
+}
+
+// The kind of the request to which the queue replies as to this operation: to a removal as to a pop.
+fn reply_kind(named: Named) -> Kind
+    ensures { (o : OperationSeen) → HasOperation named o → kind_of (request_of o) ≡ result }
+{
+    match named {
+        Named::Asked(kind, _) => kind,
+        Named::Remove(_) => Kind::Pop,
+    }
+}
+
 // The line of this shape, where its numbers are in their ranges.
 fn line_in_range<P: Part>(shape: &Shape) -> Option<NumberedLine<Item<P>>>
     ensures some { IfSome result (λ found. (n : ℕ) (l : LineSeen) → HasShape shape.now n l
@@ -262,12 +335,12 @@ fn line_in_range<P: Part>(shape: &Shape) -> Option<NumberedLine<Item<P>>>
     let Ok(place) = u16::try_from(shape.place) else {
         return None;
     };
-    let pushed = item_of(shape.pushed)?;
+    let operation = operation_of(shape.named)?;
     let told = item_of(shape.told)?;
     let line = Line {
         place,
         serial,
-        request: shape.kind.with_item(pushed),
+        operation,
         reply: shape.outcome.with_item(told),
     };
     Some(NumberedLine { number, line })
@@ -281,9 +354,9 @@ pub struct NumberedLine<I = Item> {
 }
 
 /// The journal line that a text without its line feed spells, with its number: number, place,
-/// serial, request and reply, with one space between. Numbers are one or more decimal digits;
+/// serial, operation and reply, with one space between. Numbers are one or more decimal digits;
 /// leading zeros are read, a sign, a further space or a capital letter isn't. Those of items are in the
-/// range of their width.
+/// range of their width; a ticket has 64 bits.
 pub fn read_line<P: Part>(text: &[u8]) -> Result<NumberedLine<Item<P>>, LineError>
     ensures ok { IfOk result (λ found. IsLineText P.wide text.now found.number found.line) }
     ensures err { IfErr result (λ error. IsNoLineFor P.wide text.now error) }
@@ -297,7 +370,7 @@ pub fn read_line<P: Part>(text: &[u8]) -> Result<NumberedLine<Item<P>>, LineErro
     let Some(found) = line_in_range(&shape) else {
         return Err(LineError::OutOfRange);
     };
-    if !may_reply(shape.kind, shape.outcome) {
+    if !may_reply(reply_kind(shape.named), shape.outcome) {
         return Err(LineError::NoSuchReply);
     }
     Ok(found)

@@ -1,26 +1,30 @@
 // The text of a journal line.
 ghost use Rattle.std.specs.Prelude.{◌≡◌, ◌≤◌, ◌+◌, ◌++◌, codes, length, OnOk, OnErr};
-ghost use Rattle.queue_texts.specs.LineText.{line_text, request_text};
+ghost use Rattle.queue_texts.specs.LineText.{line_text, operation_text};
 
 use crate::answer_text::{LONGEST, append, append_number, append_reply};
 use crate::item_text::text_of_item;
 use arrayvec::ArrayVec;
-use pq_types::{Item, Line, Part, Request};
+use pq_types::{Done, Item, Line, Operation, Part};
 use std::alloc::{AllocError, Allocator};
 
-// Puts the request behind the line so far.
-fn append_request<P: Part>(line: &mut ArrayVec<u8, LONGEST>, request: &Request<Item<P>>)
+// Puts what the line did behind the line so far: a request, or a removal.
+fn append_operation<P: Part>(line: &mut ArrayVec<u8, LONGEST>, operation: &Operation<Item<P>>)
     requires { length line.old.items + 46 ≤ LONGEST }
-    ensures text { line.new.items ≡ line.old.items ++ request_text request.now }
+    ensures text { line.new.items ≡ line.old.items ++ operation_text operation.now }
     ensures room { length line.new.items ≤ length line.old.items + 46 }
 {
-    match request {
-        Request::Push(item) => {
+    match &operation.done {
+        Done::Push(item) => {
             append(line, b"push ");
             append(line, text_of_item(item).as_slice());
         }
-        Request::Pop => append(line, b"pop"),
-        Request::Least => append(line, b"least"),
+        Done::Pop => append(line, b"pop"),
+        Done::Least => append(line, b"least"),
+        Done::Remove(ticket) => {
+            append(line, b"remove ");
+            append_number(line, *ticket);
+        }
     }
 }
 
@@ -35,7 +39,7 @@ pub(crate) fn text_of<P: Part>(number: u64, line: &Line<Item<P>>) -> ArrayVec<u8
     append(&mut text, b" ");
     append_number(&mut text, line.serial);
     append(&mut text, b" ");
-    append_request(&mut text, &line.request);
+    append_operation(&mut text, &line.operation);
     append(&mut text, b" ");
     append_reply(&mut text, &line.reply);
     append(&mut text, b"\n");
@@ -43,8 +47,8 @@ pub(crate) fn text_of<P: Part>(number: u64, line: &Line<Item<P>>) -> ArrayVec<u8
 }
 
 /// Puts the text of the journal line with this number behind what is there, ended by a line feed:
-/// number, place, serial, request and reply, with one space between, as `7 3 2 push 5 1 pushed` or
-/// `9 0 5 pop empty`. Where memory for it is refused, nothing is put there.
+/// number, place, serial, operation and reply, with one space between, as `7 3 2 push 5 1 pushed`,
+/// `9 0 5 pop empty` or `12 0 6 remove 7 got 5 1`. Where memory for it is refused, nothing is put there.
 pub fn append_line<P: Part, A: Allocator>(
     number: u64,
     line: &Line<Item<P>>,

@@ -22,9 +22,15 @@ pub enum Breach {
         serial: u64,
         last: u64,
     },
-    /// Its reply isn't the one that the queue of one thread gives there. Either is told as one of wide
+    /// Its reply to a request isn't the one that the queue of one thread gives there. Either is told as one of wide
     /// items, whatever the width of the journal's.
     WrongReply {
+        told: Reply<Item<u64>>,
+        due: Reply<Item<u64>>,
+    },
+    /// It removes the item of this ticket, and its reply isn't the one that the queue of one thread gives there.
+    WrongRemoval {
+        ticket: u64,
         told: Reply<Item<u64>>,
         due: Reply<Item<u64>>,
     },
@@ -76,6 +82,19 @@ impl fmt::Display for Breach {
                         write!(f, " where {} {} came first", item.priority, item.value)
                     }
                     _ => write!(f, " where the queue was empty"),
+                }
+            }
+            Breach::WrongRemoval { ticket, told, due } => {
+                write_reply(*told, f)?;
+                match due {
+                    Reply::Got(item) => {
+                        write!(
+                            f,
+                            " where {} {} waited with ticket {ticket}",
+                            item.priority, item.value
+                        )
+                    }
+                    _ => write!(f, " where no item waited with ticket {ticket}"),
                 }
             }
         }

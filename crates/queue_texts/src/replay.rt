@@ -1,18 +1,20 @@
-// A replay: each text is read as a journal line, and its request carried out on a Book.
+// A replay: each text is read as a journal line, and what it did is carried out on a Book.
 ghost use Rattle.std.specs.Prelude.{◌≡◌, ◌+◌, ◌<◌, ◌++◌, ◌∷◌, ◌==◌, [], length, IfOk, IfErr, IfSome, IfNone, OnOk, OnErr, IsSome};
-ghost use Rattle.pq_types.specs.Queue.{IsPush, reply_to};
-ghost use Rattle.pq_types.specs.History.{left, last_serial};
+ghost use Rattle.pq_types.specs.Queue.{IsPush};
+ghost use Rattle.pq_types.specs.Entry.{item_at, taken, reply_by};
+ghost use Rattle.pq_types.specs.History.{entries_of, last_serial};
+ghost use Rattle.pq_types.specs.Operation.{request_of};
 ghost use Rattle.pq_types.specs.declared.journal.TheConstants.{GREATEST_NUMBER};
-ghost use Rattle.queue_texts.specs.Audit.{Breaks, IsLawful};
-ghost use Rattle.queue_texts.specs.Replay.{AreLastSerials, Follows, IsReplayed, Leaves, MayFollow, RefusesText, TakesText};
+ghost use Rattle.queue_texts.specs.Audit.{Breaks, IsLawful, breach_by};
+ghost use Rattle.queue_texts.specs.Replay.{AreLastSerials, Follows, IsCarriedOut, IsReplayed, Leaves, MayFollow, RefusesText, TakesText};
 
 use crate::line_reading::{NumberedLine, read_line};
 use crate::owned::Owned;
 use crate::refusal::{Breach, Unlawful, widened};
-use leftist_heap::Store;
+use leftist_heap::TicketStore;
 use pq_book::{Book, Entry};
 use pq_types::laws::law_one_more_line;
-use pq_types::{Answer, GREATEST_NUMBER, Item, Line, Part, Reply, Request};
+use pq_types::{Answer, Done, GREATEST_NUMBER, Item, Line, Operation, Part, Reply, Request};
 use std::alloc::{AllocError, Allocator};
 use std::marker::Model;
 use thiserror::Error;
@@ -38,16 +40,16 @@ pub(crate) struct PlayedLine<P: Part> {
     pub is_new_place: bool,
 }
 
-/// A journal that is read back from its text: the lines so far were carried out on an empty queue. A contract
+/// A journal that is read back from its text: what the lines so far did was carried out on an empty queue, removals too. A contract
 /// sees them all as a journal, which is a lawful one. Memory has the items that they leave, the last 65,536 lines, and one serial for
 /// each of 65,536 places.
 #[derive(Drop)]
-pub struct Replay<S: Store<Entry<P>>, A: Allocator, P: Part = u32> {
+pub struct Replay<S: TicketStore<Entry<P>>, A: Allocator, P: Part = u32> {
     book: Owned<Book<S, A, P>>,
     last: Vec<u64, A>,
 }
 
-impl<S: Store<Entry<P>>, A: Allocator, P: Part> Model for Replay<S, A, P> {
+impl<S: TicketStore<Entry<P>>, A: Allocator, P: Part> Model for Replay<S, A, P> {
     ghost use Rattle.queue_texts.specs.Replay.{IsReplayed, Replayed};
 
     ghost Value = { Replayed };
@@ -57,23 +59,49 @@ impl<S: Store<Entry<P>>, A: Allocator, P: Part> Model for Replay<S, A, P> {
     ghost invariant = { λ r. IsReplayed r.book.value.room r.book.value.journal r.last.items };
 }
 
-// The reply that the queue of one thread gives to this request behind the lines of the book.
-fn due_reply<S: Store<Entry<P>>, A: Allocator, P: Part>(
+// The reply that the queue of one thread gives to the removal of the item with this ticket, behind the lines of the book.
+fn due_removal<S: TicketStore<Entry<P>>, A: Allocator, P: Part>(
     book: &Book<S, A, P>,
-    request: &Request<Item<P>>,
+    ticket: u64,
 ) -> Reply<Item<P>>
-    ensures { result ≡ reply_to (left book.now.journal) request.now }
+    ensures { result ≡ taken (item_at ticket (entries_of book.now.journal)) }
 {
-    match (request, book.first()) {
-        (Request::Push(_), _) => Reply::Pushed,
-        (Request::Pop, Some(first)) => Reply::Got(first),
-        (Request::Least, Some(first)) => Reply::Least(first),
-        (Request::Pop | Request::Least, None) => Reply::Empty,
+    match book.item_at(ticket) {
+        Some(item) => Reply::Got(item),
+        None => Reply::Empty,
+    }
+}
+
+// The reply that it gives to this operation.
+fn due_reply<S: TicketStore<Entry<P>>, A: Allocator, P: Part>(
+    book: &Book<S, A, P>,
+    operation: &Operation<Item<P>>,
+) -> Reply<Item<P>>
+    ensures { result ≡ reply_by (entries_of book.now.journal) operation.now }
+{
+    match (&operation.done, book.first()) {
+        (Done::Push(_), _) => Reply::Pushed,
+        (Done::Pop, Some(first)) => Reply::Got(first),
+        (Done::Least, Some(first)) => Reply::Least(first),
+        (Done::Pop | Done::Least, None) => Reply::Empty,
+        (Done::Remove(ticket), _) => due_removal(book, *ticket),
+    }
+}
+
+// How the line breaks the law where this reply is due, and it has another.
+fn wrong_reply<P: Part>(line: &Line<Item<P>>, due: Reply<Item<P>>) -> Breach
+    ensures { result ≡ breach_by line.now.operation line.now.reply due }
+{
+    let told = widened(line.reply);
+    let due = widened(due);
+    match line.operation.done {
+        Done::Remove(ticket) => Breach::WrongRemoval { ticket, told, due },
+        _ => Breach::WrongReply { told, due },
     }
 }
 
 // How the line breaks the law behind the lines of the book.
-fn breach_of<S: Store<Entry<P>>, A: Allocator, P: Part>(
+fn breach_of<S: TicketStore<Entry<P>>, A: Allocator, P: Part>(
     book: &Book<S, A, P>,
     last: &[u64],
     found: &NumberedLine<Item<P>>,
@@ -98,18 +126,33 @@ fn breach_of<S: Store<Entry<P>>, A: Allocator, P: Part>(
             last: before,
         });
     }
-    let reply = due_reply(book, &line.request);
+    let reply = due_reply(book, &line.operation);
     if line.reply != reply {
-        return Some(Breach::WrongReply {
-            told: widened(line.reply),
-            due: widened(reply),
-        });
+        return Some(wrong_reply(line, reply));
     }
     None
 }
 
-// Carries the request of a line out that may come next, and so enters the line; where memory for its item is refused, nothing changes.
-fn entered<S: Store<Entry<P>>, A: Allocator, P: Part>(
+// Carries out what the line did, for its place and under its serial.
+fn carried_out<S: TicketStore<Entry<P>>, A: Allocator, P: Part>(
+    book: &mut Book<S, A, P>,
+    line: &Line<Item<P>>,
+) -> Answer<Item<P>>
+    requires { last_serial line.now.place book.old.journal < line.now.serial }
+    ensures answer { IsCarriedOut book.old.room book.old.journal line.now result book.new.journal }
+    ensures room { book.new.room ≡ book.old.room }
+{
+    let request = match line.operation.done {
+        Done::Push(item) => Request::Push(item),
+        Done::Pop => Request::Pop,
+        Done::Least => Request::Least,
+        Done::Remove(ticket) => return book.remove(line.place, line.serial, ticket),
+    };
+    book.apply(line.place, line.serial, request)
+}
+
+// Carries out what a line did that may come next, and so enters the line; where memory for its item is refused, nothing changes.
+fn entered<S: TicketStore<Entry<P>>, A: Allocator, P: Part>(
     book: &mut Book<S, A, P>,
     last: &mut Vec<u64, A>,
     line: &Line<Item<P>>,
@@ -120,10 +163,10 @@ fn entered<S: Store<Entry<P>>, A: Allocator, P: Part>(
     ensures kept { IsReplayed book.new.room book.new.journal last.new.items }
     ensures ok { OnOk result (book.new.journal ≡ book.old.journal ++ line.now ∷ []) }
     ensures err { OnErr result (book.new.journal ≡ book.old.journal) }
-    ensures refused { OnErr result (IsPush line.now.request) }
+    ensures refused { OnErr result (IsPush (request_of line.now.operation)) }
 {
     law_one_more_line();
-    match book.apply(line.place, line.serial, line.request) {
+    match carried_out(book, line) {
         Answer::Entered(_, _) => {}
         Answer::BookFull => unreachable!(),
         Answer::NoMemory => return Err(AllocError),
@@ -133,7 +176,7 @@ fn entered<S: Store<Entry<P>>, A: Allocator, P: Part>(
 }
 
 // Reads the text as the line that comes next, and enters it.
-fn played<S: Store<Entry<P>>, A: Allocator, P: Part>(
+fn played<S: TicketStore<Entry<P>>, A: Allocator, P: Part>(
     book: &mut Book<S, A, P>,
     last: &mut Vec<u64, A>,
     text: &[u8],
@@ -163,7 +206,7 @@ fn played<S: Store<Entry<P>>, A: Allocator, P: Part>(
     }
 }
 
-impl<S: Store<Entry<P>>, A: Allocator + Clone, P: Part> Replay<S, A, P> {
+impl<S: TicketStore<Entry<P>>, A: Allocator + Clone, P: Part> Replay<S, A, P> {
     /// A replay of no lines, over an empty store. All memory but the store's is taken here: 40 bytes for each of 65,536 lines, 64
     /// where items are wide, and 8 for each place.
     pub fn new(alloc: &A, store: S) -> Result<Self, AllocError>
@@ -181,8 +224,8 @@ impl<S: Store<Entry<P>>, A: Allocator + Clone, P: Part> Replay<S, A, P> {
     }
 }
 
-impl<S: Store<Entry<P>>, A: Allocator, P: Part> Replay<S, A, P> {
-    /// Reads a text without its line feed as the line that comes next, and carries its request out. The journal gains that line,
+impl<S: TicketStore<Entry<P>>, A: Allocator, P: Part> Replay<S, A, P> {
+    /// Reads a text without its line feed as the line that comes next, and carries out what it did. The journal gains that line,
     /// and stays a lawful one; where the text is refused, it is as it was. `Unlawful` says why the text is no line that may
     /// come next: no line; or one whose number isn't due, whose serial isn't above the last of its place, or whose reply isn't that of
     /// the queue of one thread. `NoMemory` refuses one that may, a push.

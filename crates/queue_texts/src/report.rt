@@ -19,9 +19,9 @@ pub struct AuditReport {
     pub places: u64,
     /// How many pushes there are.
     pub pushed: u64,
-    /// How many pops took an item out.
+    /// How many pops and removals took an item out.
     pub got: u64,
-    /// How many pops found no item.
+    /// How many pops and removals found no item.
     pub empty: u64,
     /// How many items it leaves in the queue.
     pub left: u64,

@@ -1,9 +1,10 @@
 // What the lines of a journal add up to.
 ghost use Rattle.std.specs.Prelude.{◌≡◌, ◌+◌, ◌<◌, ◌≤◌, ◌^◌, length};
 ghost use Rattle.pq_types.specs.Asked.{Line};
+ghost use Rattle.pq_types.specs.Operation.{request_of};
 ghost use Rattle.queue_texts.specs.Sums.{HasRoom, counted};
 
-use pq_types::{Item, Part, Reply, Request};
+use pq_types::{Done, Item, Operation, Part, Reply};
 
 /// What the lines so far add up to.
 #[derive(Clone, Copy)]
@@ -12,9 +13,9 @@ pub struct JournalSums {
     pub places: u64,
     /// Pushes.
     pub pushed: u64,
-    /// Pops that took an item out.
+    /// Pops and removals that took an item out.
     pub got: u64,
-    /// Pops that found no item.
+    /// Pops and removals that found no item.
     pub empty: u64,
     /// The priorities pushed, added up.
     pub sum_in: u128,
@@ -33,31 +34,31 @@ pub const NOTHING: JournalSums = JournalSums {
 };
 
 impl JournalSums {
-    /// Counts a request and its reply, and its place, if it is a new one.
+    /// Counts an operation and its reply, and its place, if it is a new one; a removal counts as a pop.
     pub(crate) fn count<P: Part>(
         &mut self,
         new_place: bool,
-        request: Request<Item<P>>,
+        operation: Operation<Item<P>>,
         reply: Reply<Item<P>>,
     )
         requires { HasRoom self.old }
-        ensures counted { self.new ≡ counted self.old new_place request reply }
+        ensures counted { self.new ≡ counted self.old new_place (request_of operation) reply }
         ensures small_in { self.new.sum_in ≤ self.old.sum_in + 2 ^ 64 }
         ensures small_out { self.new.sum_out ≤ self.old.sum_out + 2 ^ 64 }
     {
         if new_place {
             self.places += 1;
         }
-        match (request, reply) {
-            (Request::Push(item), _) => {
+        match (operation.done, reply) {
+            (Done::Push(item), _) => {
                 self.pushed += 1;
                 self.sum_in += u128::from(item.priority.as_u64());
             }
-            (Request::Pop, Reply::Got(item)) => {
+            (Done::Pop | Done::Remove(_), Reply::Got(item)) => {
                 self.got += 1;
                 self.sum_out += u128::from(item.priority.as_u64());
             }
-            (Request::Pop, Reply::Empty) => self.empty += 1,
+            (Done::Pop | Done::Remove(_), Reply::Empty) => self.empty += 1,
             _ => {}
         }
     }

@@ -1,5 +1,5 @@
 use Rattle.std.proofs.Common.{◌≡◌, ◌+◌, ◌*◌, ◌^◌, ◌≤◌, length, map}
-use Rattle.pq_book.specs.Entry.{item_of}
+use Rattle.pq_types.specs.Entry.{item_of}
 use Rattle.queue_texts.specs.Sums.{sum_priorities}
 use Rattle.queue_texts.proofs.content.sum_of.Given as goal
 

@@ -23,7 +23,9 @@ pub returns-in_default-line_in_range-clause-every_refusal : goal.returns-in_defa
 returns-in_default-line_in_range-clause-every_refusal g c = every_refusal g.P.Part.wide _ (Err OutOfRange) (found g c)
 
 told : (g : _) (c : goal.Then-not-may_reply g) → IsNoLineFor g.P.Part.wide c.args.text.now NoSuchReply
-told g c = no_such_reply g.P.Part.wide _ c.in-Some.shape _ _ c.in-Some.ensures.some c.in-Some-line_in_range.ensures.some c.may_reply.ensures c.if-not-may_reply.true
+told g c =
+    no_such_reply g.P.Part.wide _ c.in-Some.shape _ _ _ c.in-Some.ensures.some c.in-Some-line_in_range.ensures.some c.reply_kind.ensures c.may_reply.ensures
+    c.if-not-may_reply.true
 
 pub returns-then-not-may_reply-clause-err : goal.returns-then-not-may_reply-clause-err
 returns-then-not-may_reply-clause-err g c = told g c
@@ -35,7 +37,9 @@ pub returns-then-not-may_reply-clause-every_refusal : goal.returns-then-not-may_
 returns-then-not-may_reply-clause-every_refusal g c = every_refusal g.P.Part.wide _ (Err NoSuchReply) (told g c)
 
 read : (g : _) (c : goal.Else-not-may_reply g) → IsReadAs g.P.Part.wide c.args.text.now (Ok c.in-Some-line_in_range.found)
-read g c = the_line g.P.Part.wide _ c.in-Some.shape _ _ c.in-Some.ensures.some c.in-Some-line_in_range.ensures.some c.may_reply.ensures c.if-not-may_reply.false
+read g c =
+    the_line g.P.Part.wide _ c.in-Some.shape _ _ _ c.in-Some.ensures.some c.in-Some-line_in_range.ensures.some c.reply_kind.ensures c.may_reply.ensures
+    c.if-not-may_reply.false
 
 pub returns-clause-ok : goal.returns-clause-ok
 returns-clause-ok g c = read g c

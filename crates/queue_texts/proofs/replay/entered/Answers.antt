@@ -1,5 +1,5 @@
 use Rattle.std.proofs.Common.{rules, ◌≡◌, ◌<◌, ap, slice_set}
-use Rattle.pq_types.specs.History.{line as line_with}
+use Rattle.pq_types.specs.History.{line_of}
 use Rattle.queue_texts.specs.declared.replay.TheConstants.{PLACES}
 use Rattle.queue_texts.proofs.Replays.{replayed_more}
 use Rattle.queue_texts.proofs.replay.entered.Goals as goal
@@ -10,6 +10,6 @@ returns-clause-kept g c =
     let there : c.from.result ≡ line.place = search rules in
     let within : line.place < PLACES = search rules in
     let law = c.law_one_more_line.ensures in
-    replayed_more law.last_serial law.legal law.rise _ _ _ _ _ _ (line_with line.place line.serial line.request c.in-Entered.field-1)
-    c.requires.kept within c.requires.next.serial c.in-Entered.ensures.answer.2 c.in-Entered.ensures.room c.in-Entered.ensures.journal
+    replayed_more law.last_serial law.legal law.rise _ _ _ _ _ _ (line_of line.place line.serial line.operation c.in-Entered.field-1)
+    c.requires.kept within c.requires.next.serial c.in-Entered.ensures.answer.0 c.in-Entered.ensures.room c.in-Entered.ensures.answer.1
     (ap (λ p. slice_set c.args.last.now.items p line.serial) there)

@@ -23,12 +23,13 @@ use Rattle.pq_types.specs.contracts.part.U64Part.TheImpl as wide_part
 use Rattle.pq_types.proofs.item.Item.TheSendSync as item_sent
 use Rattle.pq_types.proofs.journal.Line.TheSendSync as line
 use Rattle.pq_book.specs.contracts.entry.Entry as entry
+use Rattle.pq_book.specs.contracts.entry.EntryHasTicket.TheImpl as ticketed
 use Rattle.pq_book.specs.contracts.entry.EntryOrd.TheImpl as order
 use Rattle.pq_book.specs.contracts.entry.EntryPartialEq.TheImpl as equality
 use Rattle.pq_book.specs.contracts.entry.EntryPartialOrd.TheImpl as partial_order
 use Rattle.pq_book.proofs.entry.Entry.TheSendSync as entry_sent
-use Rattle.leftist_heap.specs.contracts.array_heap.ArrayHeap as array
 use Rattle.leftist_heap.specs.declared.store.Store as Store
+use Rattle.leftist_heap.specs.declared.ticket_store.HasTicket as HasTicket
 use Rattle.queue_pool.proofs.pool.Pool.TheSendSync as pool
 use Rattle.queue_pool.proofs.shared.SharedHandle.TheSendSync as shared
 use Rattle.queue_texts.specs.contracts.owned.Owned as owned_row
@@ -36,6 +37,8 @@ use Rattle.queue_texts.specs.contracts.replay.Replay as replay_row
 use Rattle.queue_texts.proofs.owned.Owned.TheSendSync as owned
 use Rattle.queue_texts.proofs.replay.Replay.TheSendSync as replay
 use Rattle.queue_c.specs.Boxes.{heap, held_if}
+use Rattle.queue_c.specs.contracts.any_heap.AnyHeap as any_heap
+use Rattle.queue_c.proofs.any_heap.AnyHeap.TheSendSync as any_heap_sent
 use Rattle.queue_c.specs.contracts.handle.Handle as handle
 use Rattle.queue_c.specs.contracts.contents.Contents as held
 use Rattle.queue_c.specs.contracts.journal.Journal as journal
@@ -65,12 +68,16 @@ compared = equality.ghosts u64 wide_part.ghosts wide_part.dict (clone.ghosts u64
 abbrev half_ordered : PartialOrd.Ghosts row.Denot
 half_ordered = partial_order.ghosts u64 wide_part.ghosts wide_part.dict (clone.ghosts u64) (clone.dict u64) wide_equivalence.ghosts wide_equivalence.dict wide_equal.ghosts wide_equal.dict
 
--- the heap
-abbrev array_row : RattleType
-array_row = array.the_row row global.the_row ordered compared half_ordered allocator.ghosts
+-- their tickets
+abbrev tickets : HasTicket.Ghosts row.Denot
+tickets = ticketed.ghosts u64 wide_part.ghosts wide_part.dict (clone.ghosts u64) (clone.dict u64) wide_equivalence.ghosts wide_equivalence.dict wide_equal.ghosts wide_equal.dict
 
-array_sent : IsSend array_row
-array_sent = search (row_sent, sendable, crosses) depth 40
+-- the heap
+abbrev heap_row : RattleType
+heap_row = any_heap.the_row row tickets ordered compared half_ordered
+
+heap_sent : IsSend heap_row
+heap_sent = any_heap_sent.the_send row tickets ordered compared half_ordered row_sent
 
 -- the item of a line
 abbrev item_of_line : RattleType
@@ -81,23 +88,23 @@ item_of_line_sent = search (number_sent, item_sent.the_send, sendable) depth 40
 
 -- each part whole, since a `search` that goes down through them runs out of steps
 inside_journal_sent : IsSend inside_journal.the_row
-inside_journal_sent = declared_send inside_journal.the_type (number_sent, (Vec-send _ (line.the_send item_of_line item_of_line_sent), (array_sent, tt)))
+inside_journal_sent = declared_send inside_journal.the_type (number_sent, (Vec-send _ (line.the_send item_of_line item_of_line_sent), (heap_sent, tt)))
 
 journal_sent : IsSend journal.the_row
 journal_sent = view_send inside_journal.the_row _ _ _ _ inside_journal_sent
 
 -- a replay, by what its store has; `search` finds that, where an argument `_` stays open
-replay_sent : (g : Store.Ghosts array_row.Denot row.Denot) → IsSend (owned_row.the_field (replay_row.the_row array_row global.the_row u64 g allocator.ghosts wide_part.ghosts wide_equal.ghosts)).row
-replay_sent g = owned.the_field_send _ (replay.the_send array_row global.the_row u64 g allocator.ghosts wide_part.ghosts wide_equal.ghosts array_sent send number_sent frees)
+replay_sent : (g : Store.Ghosts heap_row.Denot row.Denot) → IsSend (owned_row.the_field (replay_row.the_row heap_row global.the_row u64 g allocator.ghosts wide_part.ghosts wide_equal.ghosts)).row
+replay_sent g = owned.the_field_send _ (replay.the_send heap_row global.the_row u64 g allocator.ghosts wide_part.ghosts wide_equal.ghosts heap_sent send number_sent frees)
 
 pub held_sent : IsSend held.the_row
 held_sent =
     by_variants held.the_type (
       tt,
       (
-        (pool.the_send array_row u64 _ wide_part.ghosts (clone.ghosts u64) wide_equivalence.ghosts wide_equal.ghosts array_sent number_sent, tt),
+        (pool.the_send heap_row u64 _ wide_part.ghosts (clone.ghosts u64) wide_equivalence.ghosts wide_equal.ghosts heap_sent number_sent, tt),
         (
-          (shared.the_send array_row u64 _ wide_part.ghosts (clone.ghosts u64) wide_equivalence.ghosts wide_equal.ghosts array_sent number_sent, (number_sent, tt)),
+          (shared.the_send heap_row u64 _ wide_part.ghosts (clone.ghosts u64) wide_equivalence.ghosts wide_equal.ghosts heap_sent number_sent, (number_sent, tt)),
           ((journal_sent, tt), ((search (replay_sent), tt), tt)),
         ),
       ),

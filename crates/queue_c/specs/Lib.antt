@@ -1,3 +1,4 @@
+pub mod AnyHeap
 pub mod Asking
 pub mod Batches
 pub mod Boxes
@@ -11,6 +12,7 @@ pub mod Looking
 pub mod Numbers
 pub mod Openings
 pub mod Plain
+pub mod Removing
 pub mod Replaying
 pub mod Threads
 pub mod Values

@@ -1,7 +1,8 @@
 -- What a C program is told, and what its numbers mean.
 use Rattle.std.specs.Prelude.{◌≡◌, ℕ, ◌≤◌, ◌==◌, if◌then◌else◌, Option, Some, None}
 use Rattle.pq_types.specs.Item.{Item}
-use Rattle.pq_types.specs.Asked.{Request}
+use Rattle.pq_types.specs.Asked.{Request, Operation}
+use Rattle.pq_types.specs.Operation.{Asked, ByTicket, Remove}
 use Rattle.pq_types.specs.declared.request.Request.TheVariants.{Push, Pop, Least}
 use Rattle.pq_types.specs.Asked.{Reply}
 use Rattle.pq_types.specs.declared.answer.Reply.TheVariants.{Pushed, Got, Empty, Least as LeastIs}
@@ -24,6 +25,21 @@ abbrev pub request_number : Request → ℕ
 request_number (Push x) = 0
 request_number Pop = 1
 request_number Least = 2
+
+-- the number of an operation
+abbrev pub operation_number : Operation → ℕ
+operation_number (Asked request) = request_number request
+operation_number (ByTicket (Remove ticket)) = 3
+
+-- its item
+abbrev pub operation_item : Operation → Option Item
+operation_item (Asked request) = request_item request
+operation_item (ByTicket (Remove ticket)) = None
+
+-- its ticket, or 0
+abbrev pub operation_ticket : Operation → ℕ
+operation_ticket (Asked request) = 0
+operation_ticket (ByTicket (Remove ticket)) = ticket
 
 -- the number of a reply
 abbrev pub reply_number : Reply → ℕ
@@ -65,10 +81,11 @@ told_line l =
     record {
       serial = l.serial;
       place = l.place;
-      request = request_number l.request;
-      priority = (or_zeros (request_item l.request)).priority;
-      value = (or_zeros (request_item l.request)).value;
+      request = operation_number l.operation;
+      priority = (or_zeros (operation_item l.operation)).priority;
+      value = (or_zeros (operation_item l.operation)).value;
       reply = reply_number l.reply;
       reply_priority = (or_zeros (reply_item l.reply)).priority;
       reply_value = (or_zeros (reply_item l.reply)).value;
+      ticket = operation_ticket l.operation;
     }

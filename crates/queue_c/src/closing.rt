@@ -1,6 +1,6 @@
 // How a C program closes a queue.
 ghost use Rattle.std.specs.Prelude.{◌≡◌, ◌≢◌, ◌↔◌, ◌⊎◌, ◌∷◌, [], map, Some, None, IfSome, IfOk, IfErr, IsSome};
-ghost use Rattle.pq_book.specs.Entry.{item_of};
+ghost use Rattle.pq_types.specs.Entry.{item_of};
 ghost use Rattle.pq_book.specs.Parts.{AreParts};
 ghost use Rattle.queue_pool.specs.StillOpen.{IsStillOpen};
 ghost use Rattle.queue_c.specs.Handles.{queue_in, journal_in};

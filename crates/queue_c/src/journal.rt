@@ -2,10 +2,12 @@
 ghost use Rattle.std.specs.Prelude.{◌≡◌, [], Some, None, length, map, slice_get};
 ghost use Rattle.std.specs.Option.{MatchOption};
 ghost use Rattle.leftist_heap.specs.Store.{first_of, rest_of};
-ghost use Rattle.pq_book.specs.Entry.{item_of};
+ghost use Rattle.pq_types.specs.Entry.{item_of};
+ghost use Rattle.queue_c.specs.AnyHeap.{items_of};
 
+use crate::any_heap::AnyHeap;
 use crate::contents::Heap;
-use leftist_heap::{ArrayHeap, Store};
+use leftist_heap::Store;
 use pq_types::{Item, Line};
 use std::alloc::Global;
 use std::marker::Model;
@@ -21,12 +23,13 @@ pub struct Journal {
 
 impl Model for Journal {
     ghost use Rattle.std.specs.Prelude.{map};
-    ghost use Rattle.pq_book.specs.Entry.{item_of};
+    ghost use Rattle.pq_types.specs.Entry.{item_of};
+    ghost use Rattle.queue_c.specs.AnyHeap.{items_of};
     ghost use Rattle.queue_c.specs.Values.{Told};
 
     ghost Value = { Told };
 
-    ghost view = { λ j. record { before = j.before; lines = j.lines.items; items = map item_of j.store.items } };
+    ghost view = { λ j. record { before = j.before; lines = j.lines.items; items = map item_of (items_of j.store) } };
 }
 
 impl Journal {
@@ -34,7 +37,7 @@ impl Journal {
     pub fn of(store: Heap, before: u64, lines: Vec<Line<Item<u64>>>) -> Journal
         ensures before { result.before ≡ before }
         ensures lines { result.lines ≡ lines.items }
-        ensures items { result.items ≡ map item_of store.items }
+        ensures items { result.items ≡ map item_of (items_of store) }
     {
         Journal {
             before,
@@ -49,7 +52,7 @@ impl Journal {
         ensures lines { result.lines ≡ lines.items }
         ensures items { result.items ≡ [] }
     {
-        Journal::of(ArrayHeap::new(alloc), before, lines)
+        Journal::of(AnyHeap::new(alloc, false), before, lines)
     }
 
     /// How many lines came before these.

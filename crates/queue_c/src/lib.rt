@@ -3,6 +3,7 @@
 //! and answer 42 where it is another than they need.
 #![tactic(auto)]
 
+mod any_heap;
 mod archiving;
 mod asking;
 mod batches;
@@ -23,6 +24,7 @@ mod plain;
 mod plain_batch;
 mod raw_box;
 mod reading;
+mod removing;
 mod replaying;
 mod returning;
 mod shutting;

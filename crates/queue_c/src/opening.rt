@@ -13,13 +13,13 @@ ghost use Rattle.queue_c.specs.Calls.{IsOneOf, Opening};
 ghost use Rattle.queue_c.specs.declared.contents.Contents.TheVariants as holds;
 ghost use Rattle.queue_c.specs.declared.codes.TheConstants.{NO_HANDLE, NO_MEMORY, OK, OUT_OF_RANGE};
 
+use crate::any_heap::AnyHeap;
 use crate::codes::{NO_HANDLE, NO_MEMORY, OK, OUT_OF_RANGE};
 use crate::contents::{Contents, Heap, QueuePool};
 use crate::handle::Handle;
 use crate::length::{Length, length_of};
 use crate::place::boxed;
 use flat_queue::{Newcomer, Queue, QueueError};
-use leftist_heap::ArrayHeap;
 use queue_pool::Pool;
 use split_core::places::MAX_COMERS;
 use std::alloc::Global;
@@ -30,6 +30,7 @@ fn new_queue(
     alloc: Global,
     ids: &[u64],
     length: Length,
+    has_tickets: bool,
 ) -> Result<(Queue<Heap, u64>, Vec<Newcomer>), QueueError>
     ensures ok { IfOk result (λ r. Opens ids.now (room_of length) r.0 r.1.items) }
     ensures opens { OnOk result (OpenGrid ids.now × IsLength length) }
@@ -37,7 +38,7 @@ fn new_queue(
     ensures lines { (result ≡ Err QueueError.LinesOutOfRange) ↔ (OpenGrid ids.now × (¬ (IsLength length))) }
     ensures memory { result ≡ Err QueueError.NoMemory → OpenGrid ids.now × IsLength length }
 {
-    let heap = ArrayHeap::new(alloc);
+    let heap = AnyHeap::new(alloc, has_tickets);
     match length {
         Length::Lines(lines) => Queue::wide_with_store(alloc, ids, heap, lines),
         Length::Keeping(kept) => Queue::wide_keeping(alloc, ids, heap, kept),
@@ -50,14 +51,19 @@ fn new_queue(
 }
 
 // Its pool.
-fn new_pool(alloc: Global, ids: &[u64], length: Length) -> Result<QueuePool, QueueError>
+fn new_pool(
+    alloc: Global,
+    ids: &[u64],
+    length: Length,
+    has_tickets: bool,
+) -> Result<QueuePool, QueueError>
     ensures ok { IfOk result (IsOpened ids.now (room_of length)) }
     ensures opens { OnOk result (OpenGrid ids.now × IsLength length) }
     ensures comers { (e : IdError) → (result ≡ Err (QueueError.Comers e)) ↔ IsFault ids.now e }
     ensures lines { (result ≡ Err QueueError.LinesOutOfRange) ↔ (OpenGrid ids.now × (¬ (IsLength length))) }
     ensures memory { result ≡ Err QueueError.NoMemory → OpenGrid ids.now × IsLength length }
 {
-    let (queue, newcomers) = new_queue(alloc, ids, length)?;
+    let (queue, newcomers) = new_queue(alloc, ids, length, has_tickets)?;
     let Ok(queue) = Arc::new(alloc, queue) else {
         return Err(QueueError::NoMemory);
     };
@@ -79,7 +85,12 @@ fn all_ids() -> [u64; MAX_COMERS]
 }
 
 // The pool of a queue for so many threads, whose ids are 1 to their number.
-fn pool_for(alloc: Global, threads: u32, length: Length) -> Result<QueuePool, u32>
+fn pool_for(
+    alloc: Global,
+    threads: u32,
+    length: Length,
+    has_tickets: bool,
+) -> Result<QueuePool, u32>
     ensures opened { IfOk result (Opening (ids_of threads) (room_of length)) }
     ensures in_range { OnOk result (AreThreads threads × IsLength length) }
     ensures codes { IfErr result (λ code. IsOneOf code (OUT_OF_RANGE ∷ NO_MEMORY ∷ [])) }
@@ -91,7 +102,7 @@ fn pool_for(alloc: Global, threads: u32, length: Length) -> Result<QueuePool, u3
         return Err(OUT_OF_RANGE);
     }
     let ids = all_ids();
-    match new_pool(alloc, &ids[..count], length) {
+    match new_pool(alloc, &ids[..count], length, has_tickets) {
         Ok(pool) => Ok(pool),
         Err(QueueError::LinesOutOfRange) => Err(OUT_OF_RANGE),
         Err(QueueError::NoMemory) => Err(NO_MEMORY),
@@ -100,21 +111,32 @@ fn pool_for(alloc: Global, threads: u32, length: Length) -> Result<QueuePool, u3
 }
 
 // The same on the heap.
-fn open_boxed(alloc: Global, threads: u32, length: Length) -> Result<Box<Contents, Global>, u32>
+fn open_boxed(
+    alloc: Global,
+    threads: u32,
+    length: Length,
+    has_tickets: bool,
+) -> Result<Box<Contents, Global>, u32>
     ensures opened { IfOk result (λ b. (o : _) × (b.value ≡ holds.Queue o) × Opening (ids_of threads) (room_of length) o) }
     ensures in_range { OnOk result (AreThreads threads × IsLength length) }
     ensures codes { IfErr result (λ code. IsOneOf code (OUT_OF_RANGE ∷ NO_MEMORY ∷ [])) }
     ensures range { IfErr result (λ code. code ≡ OUT_OF_RANGE → ¬ (AreThreads threads × IsLength length)) }
     ensures memory { IfErr result (λ code. code ≡ NO_MEMORY → AreThreads threads × IsLength length) }
 {
-    match pool_for(alloc, threads, length) {
+    match pool_for(alloc, threads, length, has_tickets) {
         Ok(pool) => boxed(alloc, Contents::Queue(pool)),
         Err(code) => Err(code),
     }
 }
 
 // The same for an empty handle, where there is a journal of this length.
-fn open(alloc: Global, threads: u32, length: Option<Length>, queue: &mut Handle) -> u32
+fn open(
+    alloc: Global,
+    threads: u32,
+    length: Option<Length>,
+    has_tickets: bool,
+    queue: &mut Handle,
+) -> u32
     ensures answers { OpenAnswers threads length queue.old.value result queue.new.value }
 {
     if !queue.is_empty() {
@@ -123,7 +145,7 @@ fn open(alloc: Global, threads: u32, length: Option<Length>, queue: &mut Handle)
     let Some(length) = length else {
         return OUT_OF_RANGE;
     };
-    match open_boxed(alloc, threads, length) {
+    match open_boxed(alloc, threads, length, has_tickets) {
         Ok(held) => {
             queue.put(held);
             OK
@@ -136,6 +158,7 @@ fn open(alloc: Global, threads: u32, length: Option<Length>, queue: &mut Handle)
 /// it, two numbers say. Where `keeping` is 0 the journal lasts for years, and memory keeps its last `entries` lines, 65,536 to
 /// 16,777,216. Where it is 1 it is so, and members are refused each request that might have memory forget a line before it is
 /// archived (52), until an archive goes on behind it. Where it is 2 the journal fills, with `entries` lines, 1 to 1,048,576.
+/// Unless `tickets` is 0 the store keeps the places of tickets, so that a removal takes no longer than a pop.
 /// Refusals, which leave the handle as it was: 42 where it isn't empty, 5 where a number is out of its range, 6 no memory.
 #[unsafe(no_mangle)]
 pub extern "C" fn pq_core_open(
@@ -143,10 +166,17 @@ pub extern "C" fn pq_core_open(
     threads: u32,
     keeping: u32,
     entries: u32,
+    tickets: u32,
     queue: &mut Handle,
 ) -> u32
     ensures answers { OpenAnswers threads (length_of keeping entries) queue.old.value result queue.new.value }
     ensures kept { result ≡ OK → keeping < 2 → page_of (room_keeping entries) ≡ entries }
 {
-    open(alloc, threads, length_of(keeping, entries), queue)
+    open(
+        alloc,
+        threads,
+        length_of(keeping, entries),
+        tickets != 0,
+        queue,
+    )
 }

@@ -1,11 +1,11 @@
 // The structs that a C program reads, and its numbers.
 ghost use Rattle.std.specs.Prelude.{◌≡◌, ℕ};
 ghost use Rattle.pq_types.specs.Item.{item};
-ghost use Rattle.pq_types.specs.Control.{request_item, reply_item};
-ghost use Rattle.queue_c.specs.Plain.{request_of, request_number, reply_number};
+ghost use Rattle.pq_types.specs.Control.{reply_item};
+ghost use Rattle.queue_c.specs.Plain.{request_of, reply_number, operation_number, operation_item, operation_ticket};
 ghost use Rattle.queue_c.specs.Plain.{or_zeros, told, told_item, told_answer, told_line};
 
-use pq_types::{Answer, Item, Line, Reply, Request};
+use pq_types::{Answer, Done, Item, Line, Operation, Reply, Request};
 
 /// An item.
 #[repr(C)]
@@ -28,8 +28,8 @@ pub struct PlainAnswer {
     pub value: u64,
 }
 
-/// A line of the journal. The requests: 0 push, 1 pop, 2 least; the replies are the first four kinds
-/// of answers.
+/// A line of the journal. The requests: 0 push, 1 pop, 2 least, 3 the removal of the item with this ticket, which is 0 else; the replies are the
+/// first four kinds of answers.
 #[repr(C)]
 #[derive(Clone, Copy)]
 pub struct PlainLine {
@@ -41,6 +41,7 @@ pub struct PlainLine {
     pub reply: u32,
     pub reply_priority: u64,
     pub reply_value: u64,
+    pub ticket: u64,
 }
 
 /// What is told where there is no item.
@@ -63,15 +64,17 @@ pub fn told_reply(reply: Reply<Item<u64>>) -> (u32, Item<u64>)
     }
 }
 
-/// The kind of a request, and its item, or zeros.
-pub fn told_request(request: Request<Item<u64>>) -> (u32, Item<u64>)
-    ensures number { result.0 ≡ request_number request }
-    ensures item { result.1 ≡ or_zeros (request_item request) }
+/// The kind of an operation, its item and its ticket, or zeros.
+pub fn told_operation(operation: Operation<Item<u64>>) -> (u32, Item<u64>, u64)
+    ensures number { result.0 ≡ operation_number operation }
+    ensures item { result.1 ≡ or_zeros (operation_item operation) }
+    ensures ticket { result.2 ≡ operation_ticket operation }
 {
-    match request {
-        Request::Push(item) => (0, item),
-        Request::Pop => (1, no_item()),
-        Request::Least => (2, no_item()),
+    match operation.done {
+        Done::Push(item) => (0, item, 0),
+        Done::Pop => (1, no_item(), 0),
+        Done::Least => (2, no_item(), 0),
+        Done::Remove(ticket) => (3, no_item(), ticket),
     }
 }
 
@@ -129,7 +132,7 @@ pub fn tell_answer(answer: &Answer<Item<u64>>, owes_wake: u32) -> PlainAnswer
 pub fn tell_line(line: &Line<Item<u64>>) -> PlainLine
     ensures { result ≡ told_line line.now }
 {
-    let (request, item) = told_request(line.request);
+    let (request, item, ticket) = told_operation(line.operation);
     let (reply, told) = told_reply(line.reply);
     PlainLine {
         serial: line.serial,
@@ -140,5 +143,6 @@ pub fn tell_line(line: &Line<Item<u64>>) -> PlainLine
         reply,
         reply_priority: told.priority,
         reply_value: told.value,
+        ticket,
     }
 }

@@ -6,13 +6,13 @@ ghost use Rattle.queue_c.specs.Replaying.{OpenReplayAnswers, LineAnswers, IsRead
 ghost use Rattle.queue_c.specs.declared.contents.Contents.TheVariants as holds;
 ghost use Rattle.queue_c.specs.declared.codes.TheConstants.{NO_HANDLE, NO_MEMORY, OK};
 
+use crate::any_heap::AnyHeap;
 use crate::closing::put_closed;
 use crate::codes::{NO_HANDLE, NO_MEMORY, NOT_LAWFUL, OK};
 use crate::contents::{Contents, JournalReplay};
 use crate::handle::Handle;
 use crate::journal::Journal;
 use crate::place::{boxed, set};
-use leftist_heap::ArrayHeap;
 use queue_texts::{Owned, Replay, ReplayError};
 use std::alloc::{AllocError, Global};
 use std::mem;
@@ -22,7 +22,7 @@ fn open_boxed(alloc: Global) -> Result<Box<Contents, Global>, u32>
     ensures opened { IfOk result (λ b. b.value ≡ holds.Replay (record { value = record { journal = [] } })) }
     ensures err { IfErr result (λ code. code ≡ NO_MEMORY) }
 {
-    match Replay::new(&alloc, ArrayHeap::new(alloc)) {
+    match Replay::new(&alloc, AnyHeap::new(alloc, true)) {
         Ok(replay) => boxed(alloc, Contents::Replay(Owned { value: replay })),
         Err(AllocError) => Err(NO_MEMORY),
     }

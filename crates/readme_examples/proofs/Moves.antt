@@ -4,8 +4,8 @@ use Rattle.std.proofs.lemmas.List.{append_assoc}
 use Rattle.leftist_heap.specs.Store.{first_of, rest_of}
 use Rattle.pq_types.specs.Item.{Item}
 use Rattle.pq_types.specs.Queue.{IsAscending, with_item}
-use Rattle.pq_book.specs.Entry.{Entry}
-use Rattle.pq_book.specs.Entry.{item_of}
+use Rattle.pq_types.specs.Entry.{Entry}
+use Rattle.pq_types.specs.Entry.{item_of}
 use Rattle.readme_examples.proofs.Firsts.{first_is}
 use Rattle.readme_examples.proofs.Ordered.{with_last, before_is_low}
 

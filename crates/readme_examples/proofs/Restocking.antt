@@ -3,10 +3,11 @@ use Rattle.std.proofs.Common.{◌≡◌, ◌∙◌, ap, sym, ℕ, List, [], ◌�
 use Rattle.std.proofs.lemmas.List.{append_assoc, append-nil}
 use Rattle.pq_types.specs.Item.{Item}
 use Rattle.pq_types.specs.declared.request.Request.TheVariants.{Push}
+use Rattle.pq_types.specs.Operation.{request_of}
 use Rattle.pq_types.specs.declared.answer.Reply.TheVariants.{Pushed}
 use Rattle.leftist_heap.specs.Store.{first_of, rest_of}
-use Rattle.pq_book.specs.Entry.{Entry}
-use Rattle.pq_book.specs.Entry.{item_of}
+use Rattle.pq_types.specs.Entry.{Entry}
+use Rattle.pq_types.specs.Entry.{item_of}
 use Rattle.desk_core.specs.Calls.{call}
 use Rattle.desk_core.specs.declared.model.Call.{Call}
 use Rattle.flat_queue.specs.Members.{Joined}
@@ -15,10 +16,10 @@ use Rattle.readme_examples.specs.Epochs.{put_in_by, pushed_by}
 use Rattle.readme_examples.proofs.Firsts.{first_is}
 
 -- one call more adds what its request puts in
-pushed_more : (calls : List Call) (c : Call) → pushed_by (calls ++ c ∷ []) ≡ pushed_by calls ++ put_in_by c.request
-pushed_more [] c = append-nil (put_in_by c.request)
+pushed_more : (calls : List Call) (c : Call) → pushed_by (calls ++ c ∷ []) ≡ pushed_by calls ++ put_in_by (request_of c.operation)
+pushed_more [] c = append-nil (put_in_by (request_of c.operation))
 pushed_more (x ∷ xs) c =
-    ap (λ ys. put_in_by x.request ++ ys) (pushed_more xs c) ∙ sym (append_assoc (put_in_by x.request) (pushed_by xs) (put_in_by c.request))
+    ap (λ ys. put_in_by (request_of x.operation) ++ ys) (pushed_more xs c) ∙ sym (append_assoc (put_in_by (request_of x.operation)) (pushed_by xs) (put_in_by (request_of c.operation)))
 
 -- a push that is entered adds its item
 pub pushed_one : {m m' : Joined} {x : Item} {number : ℕ} → IsCalled m (Push x) number Pushed m'

@@ -3,8 +3,9 @@ use Rattle.std.specs.Prelude.{List, [], ◌∷◌, ◌++◌, map}
 use Rattle.pq_types.specs.Item.{Item}
 use Rattle.pq_types.specs.Asked.{Request}
 use Rattle.pq_types.specs.declared.request.Request.TheVariants.{Push, Pop, Least}
+use Rattle.pq_types.specs.Operation.{request_of}
 use Rattle.pq_types.specs.History.{left}
-use Rattle.pq_book.specs.Entry.{item_of}
+use Rattle.pq_types.specs.Entry.{item_of}
 use Rattle.desk_core.specs.declared.model.Call.{Call}
 use Rattle.readme_examples.specs.declared.epochs.Unmoved.{Unmoved}
 use Rattle.readme_examples.specs.declared.epochs.Unmoved.TheVariants.{Old, Between}
@@ -23,4 +24,4 @@ put_in_by Least = []
 -- the items that these calls of a member put into the queue, in their order
 abbrev pub pushed_by : List Call → List Item
 pushed_by [] = []
-pushed_by (c ∷ cs) = put_in_by c.request ++ pushed_by cs
+pushed_by (c ∷ cs) = put_in_by (request_of c.operation) ++ pushed_by cs

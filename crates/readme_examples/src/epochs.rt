@@ -2,7 +2,7 @@
 // or a new queue, in which the journal begins anew.
 ghost use Rattle.std.specs.Prelude.{◌≡◌, ◌<◌, ◌++◌, ◌∷◌, length, map, IfOk, IfErr, OnOk};
 ghost use Rattle.pq_types.specs.History.{left};
-ghost use Rattle.pq_book.specs.Entry.{item_of};
+ghost use Rattle.pq_types.specs.Entry.{item_of};
 ghost use Rattle.readme_examples.specs.Epochs.{items_of, pushed_by};
 
 use crate::agenda::{Agenda, Heap, Refused};

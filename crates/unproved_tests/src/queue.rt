@@ -11,7 +11,7 @@ mod threads;
 use flat_queue::{Newcomer, Queue, QueueError};
 use leftist_heap::{Leftist, Store};
 use pq_book::{Book, Entry};
-use pq_types::{Item, Reply, Request};
+use pq_types::{Item, Operation, Reply, Request};
 use std::alloc::Global;
 use std::collections::VecDeque;
 use std::process::Abort;
@@ -42,7 +42,12 @@ fn stands<R: Abort, S: Store<Entry>>(rt: &R, book: Book<S, Global>, wanted: &[Wa
     assert!(rt; lines.len() == wanted.len());
     for at in 0..lines.len() {
         let line = lines[at];
-        assert!(rt; (line.place, line.serial, line.request, line.reply) == wanted[at]);
+        let (place, serial, request, reply) = wanted[at];
+        let operation = Operation::asked(request);
+        assert!(rt;
+            (line.place, line.serial, line.operation, line.reply)
+                == (place, serial, operation, reply)
+        );
     }
     drop(book);
 }

@@ -5,6 +5,7 @@ mod many_items;
 mod memory;
 mod openings;
 mod regions;
+mod removals;
 mod rooms;
 mod splitters;
 mod texts;

@@ -7,7 +7,7 @@ use crate::tables::{ask, look};
 use announce_board::{Desk, DeskError, Lead, LockHeld, Pen};
 use leftist_heap::{Leftist, Store};
 use pq_book::Entry;
-use pq_types::{Answer, Item, Line, Reply, Request};
+use pq_types::{Answer, Done, Item, Line, Operation, Reply, Request};
 use std::alloc::Global;
 use std::process::Abort;
 
@@ -202,21 +202,23 @@ fn played_on<R: Abort, S: Store<Entry>>(
 const PUSHED: Line = Line {
     place: 1,
     serial: 1,
-    request: Request::Push(FOUR),
+    operation: Operation {
+        done: Done::Push(FOUR),
+    },
     reply: Reply::Pushed,
 };
 
 const GOT: Line = Line {
     place: 1,
     serial: 2,
-    request: Request::Pop,
+    operation: Operation { done: Done::Pop },
     reply: Reply::Got(FOUR),
 };
 
 const FOUND_NONE: Line = Line {
     place: 1,
     serial: 1,
-    request: Request::Pop,
+    operation: Operation { done: Done::Pop },
     reply: Reply::Empty,
 };
 

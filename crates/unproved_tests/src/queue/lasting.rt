@@ -2,7 +2,7 @@
 use flat_queue::{Handle, Queue};
 use leftist_heap::{Leftist, Store};
 use pq_book::Entry;
-use pq_types::{Item, Line, Reply, Request};
+use pq_types::{Done, Item, Line, Operation, Reply};
 use std::process::Abort;
 use std::sync::Wait;
 use std::test::Fail;
@@ -16,13 +16,15 @@ const LINES: [Line; 2] = [
     Line {
         place: 0,
         serial: 1,
-        request: Request::Push(ITEM),
+        operation: Operation {
+            done: Done::Push(ITEM),
+        },
         reply: Reply::Pushed,
     },
     Line {
         place: 0,
         serial: 2,
-        request: Request::Pop,
+        operation: Operation { done: Done::Pop },
         reply: Reply::Got(ITEM),
     },
 ];

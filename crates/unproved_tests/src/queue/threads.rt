@@ -4,7 +4,7 @@ use crate::queue::{Heap, push};
 use flat_queue::{Arrival, CallError, Handle, Newcomer, Queue};
 use leftist_heap::Store;
 use pq_book::{Book, Entry};
-use pq_types::{Item, Line, Reply, Request};
+use pq_types::{Item, Line, Operation, Reply, Request};
 use std::alloc::{AllocError, Global};
 use std::process::Abort;
 use std::sync::Wait;
@@ -63,7 +63,7 @@ fn calls<R: Abort + Wait, S: Store<Entry>>(
     let line = Line {
         place: handle.place(),
         serial: u64::from(number),
-        request,
+        operation: Operation::asked(request),
         reply,
     };
     (at, line)
@@ -103,7 +103,7 @@ fn pushes_all<R: Abort + Wait, S: Store<Entry>>(
         let line = Line {
             place,
             serial: serial + at as u64,
-            request: Request::Push(*item),
+            operation: Operation::asked(Request::Push(*item)),
             reply: Reply::Pushed,
         };
         keeps(rt, all, batch.first + at as u64, line);
@@ -124,7 +124,7 @@ fn pops_all<R: Abort + Wait, S: Store<Entry>>(
         let line = Line {
             place,
             serial: serial + at as u64,
-            request: Request::Pop,
+            operation: Operation::asked(Request::Pop),
             reply: Reply::Got(*item),
         };
         keeps(rt, all, batch.first + at as u64, line);

@@ -2,7 +2,7 @@
 use flat_queue::{Called, Handle, Newcomer, Queue, UpTo};
 use leftist_heap::{Leftist, SortedVec};
 use pq_book::{Book, BookError, Entry};
-use pq_types::{Answer, Item, Line, Reply, Request};
+use pq_types::{Answer, Item, Line, Operation, Reply, Request};
 use queue_pool::{Pool, StillOpen, Tried};
 use std::alloc::Global;
 use std::mem::size_of;
@@ -227,10 +227,10 @@ fn a_lasting_wide_queue_keeps_wide_lines(rt: HostRuntime) -> Result<(), Fail> {
     assert!(&rt; handle.archive(0, &mut archive) == Some(Ok(2)));
     drop(handle);
     let line = |serial, request, reply| Line {
-        place: 0,
         serial,
-        request,
+        operation: Operation::asked(request),
         reply,
+        place: 0,
     };
     let wanted = [
         line(1, Request::Push(GREATEST), Reply::Pushed),

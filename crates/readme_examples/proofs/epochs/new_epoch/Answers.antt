@@ -1,8 +1,8 @@
 use Rattle.std.proofs.Common.{◌∙◌, ap, sym, List, ◌++◌, map, length, arith}
 use Rattle.pq_types.specs.Item.{Item}
 use Rattle.pq_types.specs.Queue.{with_item}
-use Rattle.pq_book.specs.Entry.{Entry}
-use Rattle.pq_book.specs.Entry.{item_of}
+use Rattle.pq_types.specs.Entry.{Entry}
+use Rattle.pq_types.specs.Entry.{item_of}
 use Rattle.readme_examples.specs.Agenda.{Held}
 use Rattle.readme_examples.proofs.Moves.{next_moves}
 use Rattle.readme_examples.proofs.Ordered.{length-with}

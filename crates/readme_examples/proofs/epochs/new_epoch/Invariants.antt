@@ -1,7 +1,7 @@
 use Rattle.std.proofs.Common.{◌≡◌, ◌++◌, map, length}
 use Rattle.pq_types.specs.Queue.{IsAscending}
 use Rattle.pq_types.specs.History.{left}
-use Rattle.pq_book.specs.Entry.{item_of}
+use Rattle.pq_types.specs.Entry.{item_of}
 use Rattle.readme_examples.proofs.epochs.new_epoch.Given as goal
 
 -- the items that were moved, and those that are left in the store, are all of them; and each that

@@ -1,6 +1,6 @@
 use Rattle.std.proofs.Common.{◌∙◌, ap, sym, List, ◌++◌, map}
-use Rattle.pq_book.specs.Entry.{Entry}
-use Rattle.pq_book.specs.Entry.{item_of}
+use Rattle.pq_types.specs.Entry.{Entry}
+use Rattle.pq_types.specs.Entry.{item_of}
 use Rattle.readme_examples.specs.Epochs.{pushed_by}
 use Rattle.readme_examples.proofs.Restocking.{next_pushed}
 use Rattle.readme_examples.proofs.epochs.restock.Goals as goal

@@ -1,5 +1,5 @@
 use Rattle.std.proofs.Common.{◌≡◌, ◌++◌, map, length}
-use Rattle.pq_book.specs.Entry.{item_of}
+use Rattle.pq_types.specs.Entry.{item_of}
 use Rattle.readme_examples.specs.Epochs.{pushed_by}
 use Rattle.readme_examples.proofs.epochs.restock.Given as goal
 

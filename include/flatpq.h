@@ -21,7 +21,6 @@
  * Nothing checks these duties of the caller. Pointers are valid. A member that was joined is in one call at a time. No call is
  * made from a signal handler, and none is left by longjmp. A queue, member or journal is not used after it was freed. A queue itself, and
  * pq_own(queue), may be in calls of many threads at once.
- *
  * A thread that dies inside a call may hold the queue's lock for ever. Then calls with a deadline time out, and the others hang.
  */
 #ifndef FLATPQ_H
@@ -72,6 +71,9 @@ typedef enum pq_code {
     PQ_NOT_LAWFUL = 54,   /* a line of text is no entry that may come next */
     PQ_TORN = 55,         /* the last line of the text is cut off, as after a crash */
     PQ_NOT_READ = 56,     /* a read failed */
+    PQ_NO_TIMER = 57,     /* the descriptor is no timerfd */
+    PQ_GONE = 58,         /* no item waits under this ticket */
+    PQ_NO_TICKETS = 59,   /* the queue was not opened for removals by ticket */
     PQ_FORKED = 60,       /* this process is a forked child of one that had opened a queue */
     PQ_PROCESSOR = 61,    /* the processor has no SSE4.1 */
     PQ_TIMED_OUT = 62,    /* other threads had the lock, or all members, until then: nothing was done */
@@ -113,9 +115,9 @@ typedef struct pq_options {
     uint32_t members; /* how many members there may be at once: 1 to 64; 0 is 64 */
     uint32_t keeping; /* of enum pq_keeping */
     uint32_t entries;
-    uint32_t unused;     /* 0 */
-    uint64_t time_zero;  /* for pq_take_due: the priority of the time 0 of pq_now */
-    uint64_t time_unit;  /* for pq_take_due: how many nanoseconds a priority is later than the one before it; 0 is 1 */
+    uint32_t tickets;    /* 1: items can be removed by ticket (pq_remove), and pushes and pops take a little longer; 0: they can't */
+    uint64_t time_zero;  /* for what is due: the priority of the time 0 of pq_now */
+    uint64_t time_unit;  /* for what is due: how many nanoseconds a priority is later than the one before it; 0 is 1 */
     uint64_t most_items; /* how many items the queue may have: a push waits until there are fewer (pq_push); 0: no bound */
 } pq_options;
 
@@ -187,24 +189,30 @@ PQ_CHECKED pq_code pq_take(pq_member *member, pq_item *item, uint64_t until, uin
    PQ_OK; PQ_NOT_DUE: *item is the first item, and stays; PQ_EMPTY; PQ_SHUT. Only PQ_OK has an entry. */
 PQ_CHECKED pq_code pq_take_due(pq_member *member, pq_item *item, uint64_t until, uint64_t *number);
 
-/* Put `count` items in, or take up to `room` items out whose priorities are at most this one. *done is how many; a refusal ends the batch
-   after that many. Up to 64 items go under one lock, and have consecutive entries; a larger batch is made in parts. Where the number of
-   items is bounded, the pushes are made one after the other, and each waits for room. A pop returns PQ_OK if it took an item, or if `room`
-   is 0; PQ_NOT_DUE: items[0] is the first item, and stays; PQ_EMPTY. */
-PQ_CHECKED pq_code pq_push_many(pq_member *member, const pq_item *items, size_t count, uint64_t until, size_t *done);
-PQ_CHECKED pq_code pq_pop_due_many(pq_member *member, uint64_t priority, pq_item *items, size_t room, uint64_t until, size_t *done);
+/* Put `count` items in, or take up to `room` items out whose priorities are at most this one. *done is how many, and *number the number of the
+   first one's entry. A refusal ends the batch after that many; where that is none, *number stays as it was. Up to 64 items go under one lock,
+   and have consecutive entries. A larger batch is made in parts, and so is one that could make memory forget an unarchived entry. Where the
+   number of items is bounded, the pushes are made one after the other, and each waits for room. A pop returns PQ_OK if it took an item, or if
+   `room` is 0; PQ_NOT_DUE: items[0] is the first item, and stays; PQ_EMPTY. */
+PQ_CHECKED pq_code pq_push_many(pq_member *member, const pq_item *items, size_t count, uint64_t until, size_t *done, uint64_t *number);
+PQ_CHECKED pq_code pq_pop_due_many(pq_member *member, uint64_t priority, pq_item *items, size_t room, uint64_t until, size_t *done,
+                                   uint64_t *number);
 
 /* How many items the queue has, exactly, at one moment of the call. It has no entry. PQ_OK. */
 PQ_CHECKED pq_code pq_size(pq_member *member, uint64_t until, uint64_t *size);
 
+/* Takes the item out that the push with this entry number put in, wherever it waits: that number is the item's ticket. No other call returns
+   the item then. PQ_OK; PQ_GONE: it was taken out before, or no push has this number, which has an entry too; PQ_NO_TICKETS. */
+PQ_CHECKED pq_code pq_remove(pq_member *member, uint64_t ticket, pq_item *item, uint64_t until, uint64_t *number);
+
 /*
- * For programs that never wait: post a request, and poll for its answer. A thread that posts by pq_own keeps its member until it has the
- * answer.
+ * For programs that never wait: post a request, and poll for its answer. Until then a thread that posts by pq_own keeps its member.
  */
 
-enum pq_request { PQ_PUSH = 0, PQ_POP = 1, PQ_PEEK = 2 };
+enum pq_request { PQ_PUSH = 0, PQ_POP = 1, PQ_PEEK = 2, PQ_REMOVE = 3 };
 
-/* Posts a request, for the next thread that combines. PQ_OK; PQ_SHUT; PQ_BAD_REQUEST, also for a push where the number of items is bounded. */
+/* Posts a request, for the next thread that combines. PQ_OK; PQ_SHUT; PQ_BAD_REQUEST, also for PQ_REMOVE, and for a push where the
+   number of items is bounded. */
 PQ_CHECKED pq_code pq_post(pq_member *member, uint32_t request, pq_item item);
 
 /* Polls for the answer to the posted request: what its call would have returned; PQ_PENDING: none yet; PQ_NOT_PENDING. */
@@ -214,19 +222,25 @@ PQ_CHECKED pq_code pq_poll(pq_member *member, pq_item *item, uint64_t *number);
 pq_code pq_combine(pq_member *member);
 
 /*
- * For event loops and futures.
+ * For event loops and futures. A thread that listens by pq_own keeps its member meanwhile.
  */
+
+/* Takes the first item out if it is due (pq_take_due); else the member listens by `timer`, a timerfd of CLOCK_MONOTONIC that no other member
+   has. It becomes readable once the first item is due, after a push of an earlier one or a shut, or sometimes for nothing. Then make this call
+   again, until it does not return PQ_OK. The program neither sets nor reads the timer, and closes it after pq_unlisten. The call never waits.
+   PQ_OK; PQ_NOT_DUE: it listens, and *item is the first item, and stays; PQ_EMPTY: it listens; PQ_SHUT; PQ_NO_TIMER; or a refusal. */
+PQ_CHECKED pq_code pq_take_due_or_listen(pq_member *member, int timer, pq_item *item, uint64_t *number);
 
 /* Takes the first item out if its priority is at most this one; else the member listens. The call never waits.
    PQ_OK; PQ_EMPTY: it listens; PQ_NOT_DUE: it listens, and *item is the first item, and stays: call again when that is due at the latest;
    PQ_SHUT; or a refusal. While the member listens, notify(context) is called once, after a push or a shut, or sometimes for nothing. It runs
    in any thread that calls the queue, or in this call itself where another thread holds the lock for long. Then make this call again. notify
-   must not wait or call this library. A thread that listens by pq_own keeps its member meanwhile. All members that listen to a queue shall pass
-   the same bound, or the current time: a push notifies one of them. */
+   must not wait or call this library. All that listen so shall pass the same bound, or the current time: a push notifies one of them. */
 PQ_CHECKED pq_code pq_take_or_listen(pq_member *member, uint64_t priority, pq_item *item, uint64_t *number,
                                      void (*notify)(void *context), void *context);
 
-/* Ends the listening: once this returns, notify is not running and is not called again. 1: the member listened, and was not notified. */
+/* Ends the listening: once this returns, notify is not running and is not called again, nor is the timer set. 1: the member listened, and was
+   not notified. */
 int pq_unlisten(pq_member *member);
 
 /* A notify that writes to an eventfd. context is its number: pq_notify_fd, (void *)(intptr_t)fd. The event loop reads the descriptor first,
@@ -238,7 +252,7 @@ void pq_notify_fd(void *context);
  */
 
 /* An entry: its number, from 1; how many requests its member had made, this one included; the member's place; the request, with the item of
-   a push; and the reply, PQ_OK or PQ_EMPTY, with the item of a pop or a peek. */
+   a push, or the ticket of a removal; and the reply, PQ_OK or PQ_EMPTY, with the item of a pop, a peek or a removal. */
 typedef struct pq_entry {
     uint64_t number;
     uint64_t serial;
@@ -247,6 +261,7 @@ typedef struct pq_entry {
     uint32_t reply;
     uint32_t unused;
     pq_item item;
+    uint64_t ticket; /* 0 where it is no removal */
 } pq_entry;
 
 /* Copies the entries after the first `archived`, and counts those first ones as archived from now on. No call checks that there are so many:
@@ -265,7 +280,8 @@ size_t pq_count(const pq_journal *journal, uint64_t *before);
 /* Reads the entry of this index, from 0. PQ_OK; PQ_NO_ENTRY. */
 PQ_CHECKED pq_code pq_read(const pq_journal *journal, size_t index, pq_entry *entry);
 
-/* Writes an entry as text, with a line feed and a zero at its end: `7 3 2 push 5 1 pushed`, `9 0 5 pop empty`. Returns its length. A peek is
+/* Writes an entry as text, with a line feed and a zero at its end: `7 3 2 push 5 1 pushed`, `9 0 5 pop empty`,
+   `11 4 3 remove 7 got 5 1`. Returns its length. A peek is
    written as `least`. */
 #define PQ_TEXT_ROOM 160
 size_t pq_text(const pq_entry *entry, char text[PQ_TEXT_ROOM]);

@@ -16,7 +16,15 @@ typedef struct batch {
     uint64_t bound;
     uint64_t until;
     size_t done;
+    uint64_t number; /* of the first one's journal entry, if any is done */
 } batch;
+
+static void count_done(batch *it, size_t count, uint64_t number) {
+    if (it->done == 0) {
+        it->number = number;
+    }
+    it->done += count;
+}
 
 static void watch(const pq_item *items, size_t count, void (*tell)(pq_item item)) {
     if (!LIKELY((flatpq_special & WATCHED) == 0)) {
@@ -36,7 +44,7 @@ static pq_code try_part(const batch *it, size_t count, core_batch *told) {
     } else {
         code = LEAVE_OUT(pq_core_try_pop_many(proved, it->bound, it->popped + it->done, count, told));
     }
-    flatpq_thread.pace.calls++;
+    flatpq_pace.calls++;
     return code;
 }
 
@@ -69,7 +77,7 @@ static pq_code carry_out(batch *it, size_t count, size_t *carried) {
         if (it->pushed == NULL) {
             watch(it->popped + it->done, *carried, flatpq_tsan_pop);
         }
-        it->done += *carried;
+        count_done(it, *carried, told.first);
         flatpq_carried_out(it->member, &answer);
         code = refusal(told.refused);
     }
@@ -97,51 +105,63 @@ static pq_code push_each(batch *it, size_t count) {
     while (code == PQ_OK && it->done < count) {
         core_answer answer;
         code = flatpq_push_within(it->member, it->pushed[it->done], it->until, &answer);
-        it->done += code == PQ_OK;
+        if (code == PQ_OK) {
+            count_done(it, 1, answer.number);
+        }
     }
     return code;
 }
 
-pq_code pq_push_many(pq_member *member, const pq_item *items, size_t count, uint64_t until, size_t *done) {
+/* Returns what the batch came to: *number stays where nothing was done. */
+static void return_done(const batch *it, size_t *done, uint64_t *number) {
+    *done = it->done;
+    if (it->done > 0 && number != NULL) {
+        *number = it->number;
+    }
+}
+
+pq_code pq_push_many(pq_member *member, const pq_item *items, size_t count, uint64_t until, size_t *done, uint64_t *number) {
     own *mine;
     pq_code code;
     if (count == 1) {
-        code = pq_push(member, *items, until, NULL);
+        code = pq_push(member, *items, until, number);
         *done = code == PQ_OK;
         return code;
     }
     code = flatpq_begin(&member, until, &mine);
     *done = 0;
     if (code == PQ_OK) {
-        batch all = { member, items, NULL, 0, until, 0 };
+        batch all = { member, items, NULL, 0, until, 0, 0 };
         code = member->queue->most_items == 0 ? carry_out_all(&all, count) : push_each(&all, count);
-        *done = all.done;
+        return_done(&all, done, number);
         flatpq_end(mine);
     }
     return code;
 }
 
-pq_code pq_pop_due_many(pq_member *member, uint64_t priority, pq_item *items, size_t room, uint64_t until, size_t *done) {
+pq_code pq_pop_due_many(pq_member *member, uint64_t priority, pq_item *items, size_t room, uint64_t until, size_t *done, uint64_t *number) {
     own *mine;
     pq_code code;
     if (room == 1) {
-        code = pq_pop_due(member, priority, items, until, NULL);
+        code = pq_pop_due(member, priority, items, until, number);
         *done = code == PQ_OK;
         return code;
     }
     code = flatpq_begin(&member, until, &mine);
     *done = 0;
     if (code == PQ_OK) {
-        batch all = { member, NULL, items, priority, until, 0 };
+        batch all = { member, NULL, items, priority, until, 0, 0 };
         code = carry_out_all(&all, room);
         if (code == PQ_OK && all.done == 0 && room > 0) {
             /* The first item says why; it may be another one by now, and due. */
             core_answer answer;
             code = flatpq_take_first(member, priority, until, &answer);
             flatpq_return_first(code, &answer, items, NULL);
-            all.done = code == PQ_OK;
+            if (code == PQ_OK) {
+                count_done(&all, 1, answer.number);
+            }
         }
-        *done = all.done;
+        return_done(&all, done, number);
         flatpq_end(mine);
     }
     return *done > 0 ? PQ_OK : code;

@@ -38,7 +38,7 @@ static pq_code try_push(const push *it) {
         flatpq_tsan_push(it->item);
     }
     code = LEAVE_OUT(pq_core_try_push_within(&member->proved, member->queue->most_items, it->item.priority, it->item.value, it->answer));
-    flatpq_thread.pace.calls++;
+    flatpq_pace.calls++;
     if (code == PQ_FULL) {
         it->answer->kind = KIND_FULL;
     }
@@ -160,7 +160,7 @@ static pq_code wait_for_room(push *it) {
 }
 
 pq_code flatpq_push_within(pq_member *member, pq_item item, uint64_t until, core_answer *answer) {
-    push it = { { NULL, NULL, NULL, NULL, NULL, 0, 0, ASLEEP }, member, item, until, answer, 0 };
+    push it = { { NULL, NULL, NULL, NULL, NULL, 0, 0, 0, ASLEEP }, member, item, until, answer, 0 };
     pq_code code = try_until(&it);
     if (code == PQ_OK || code == PQ_FULL) {
         flatpq_carried_out(member, answer);

@@ -12,49 +12,59 @@
  * The proved calls, with what follows each of them. The thread that carries a push out wakes threads that wait for its item.
  */
 
-INLINE void watch_push(uint32_t special, uint32_t request, pq_item item) {
-    if (!LIKELY((special & WATCHED) == 0) && request == PQ_PUSH) {
+static void watch_push(uint32_t request, pq_item item) {
+    if (IS_WATCHED && request == PQ_PUSH) {
         flatpq_tsan_push(item);
     }
 }
 
-INLINE void watch_answer(uint32_t special, const core_answer *answer) {
-    if (!LIKELY((special & WATCHED) == 0) && (answer->kind == KIND_POPPED || answer->kind == KIND_FIRST)) {
+static void watch_answer(const core_answer *answer) {
+    if (IS_WATCHED && (answer->kind == KIND_POPPED || answer->kind == KIND_FIRST)) {
         flatpq_tsan_pop(answer->item);
     }
 }
 
-INLINE pq_code left_out(uint32_t special, int begins) {
-    if (!LIKELY((special & WATCHED) == 0)) {
-        flatpq_tsan_ignore(begins);
-    }
-    return PQ_OK;
+/* A call of push, pop or peek. The answer comes last, as the proved call gets its address: a compiler would keep that of the whole call in a
+   register meanwhile, if it were the same. */
+typedef struct call {
+    pq_member *member;
+    own *mine;    /* the thread's record of the member, where that is its own */
+    pq_item item; /* of a push */
+    uint64_t until;
+    pq_item *first; /* where the item goes that a pop or a peek finds */
+    uint64_t *number;
+    core_answer answer;
+} call;
+
+INLINE pq_item item_of(uint32_t request, const call *it) {
+    const pq_item none = { 0, 0 };
+    return request == PQ_PUSH ? it->item : none;
 }
 
-/* Carries a request out where the lock is free. */
-INLINE pq_code try_call_as(uint32_t special, pq_member *it, uint32_t request, pq_item item, core_answer *answer) {
+/* Carries the request out where the lock is free, and does not look at what comes of it. */
+INLINE pq_code try_call_once(uint32_t request, call *it) {
+    const pq_item item = item_of(request, it);
+    pq_code code = pq_core_try_call(&it->member->proved, request, item.priority, item.value, &it->answer);
+    flatpq_pace.calls++;
+    return code;
+}
+
+static pq_code try_call(uint32_t request, call *it) {
     pq_code code;
-    watch_push(special, request, item);
-    left_out(special, 1);
-    code = pq_core_try_call(&it->proved, request, item.priority, item.value, answer);
-    left_out(special, 0);
-    flatpq_thread.pace.calls++;
-    if (LIKELY(code == PQ_OK)) {
-        watch_answer(special, answer);
-        flatpq_carried_out(it, answer);
+    watch_push(request, item_of(request, it));
+    code = LEAVE_OUT(try_call_once(request, it));
+    if (code == PQ_OK) {
+        watch_answer(&it->answer);
+        flatpq_carried_out(it->member, &it->answer);
     }
     return code;
 }
 
-static pq_code try_call(pq_member *it, uint32_t request, pq_item item, core_answer *answer) {
-    return try_call_as(flatpq_special, it, request, item, answer);
-}
-
 static pq_code poll(pq_member *it, core_answer *answer) {
     pq_code code = LEAVE_OUT(pq_core_look(&it->proved, answer));
-    flatpq_thread.pace.calls++;
+    flatpq_pace.calls++;
     if (code == PQ_OK) {
-        watch_answer(flatpq_special, answer);
+        watch_answer(answer);
         flatpq_carried_out(it, answer);
     }
     return code;
@@ -69,13 +79,13 @@ static pq_code try_round(pq_member *it) {
 }
 
 static pq_code post(pq_member *it, uint32_t request, pq_item item) {
-    watch_push(flatpq_special, request, item);
+    watch_push(request, item);
     return LEAVE_OUT(pq_core_post(&it->proved, request, item.priority, item.value));
 }
 
-static pq_code try_take(pq_member *it, uint64_t priority, core_answer *answer) {
+INLINE pq_code try_take(pq_member *it, uint64_t priority, core_answer *answer) {
     pq_code code = LEAVE_OUT(pq_core_try_pop_or_look(&it->proved, 1, priority, answer));
-    flatpq_thread.pace.calls++;
+    flatpq_pace.calls++;
     return code;
 }
 
@@ -96,76 +106,33 @@ static pq_code wait_for_answer(pq_member *it, rest *resting, core_answer *answer
     }
 }
 
-/* A request, and until when its call may wait. */
-typedef struct asked {
-    uint32_t request;
-    pq_item item;
-    uint64_t until;
-} asked;
-
-static pq_code try_until(pq_member *it, const asked *what, core_answer *answer) {
-    rest resting = flatpq_rest_of(it->queue, what->until);
+static pq_code try_until(uint32_t request, call *it) {
+    rest resting = flatpq_rest_of(it->member->queue, it->until);
     pq_code code = LOCK_HELD;
     while (code == LOCK_HELD && flatpq_rests(&resting)) {
-        code = try_call(it, what->request, what->item, answer);
+        code = try_call(request, it);
     }
     flatpq_rested(&resting);
     return code == LOCK_HELD ? PQ_TIMED_OUT : code;
 }
 
-static pq_code try_and_post(pq_member *it, const asked *what, core_answer *answer) {
-    rest resting = flatpq_rest_of(it->queue, PQ_FOREVER);
+static pq_code try_and_post(uint32_t request, call *it) {
+    rest resting = flatpq_rest_of(it->member->queue, PQ_FOREVER);
     pq_code code = LOCK_HELD;
     while (code == LOCK_HELD && resting.now < resting.posts && flatpq_spins(&resting)) {
-        code = try_call(it, what->request, what->item, answer);
+        code = try_call(request, it);
     }
     if (code == LOCK_HELD) {
-        code = post(it, what->request, what->item);
-        code = code == PQ_OK ? wait_for_answer(it, &resting, answer) : code;
+        code = post(it->member, request, item_of(request, it));
+        code = code == PQ_OK ? wait_for_answer(it->member, &resting, &it->answer) : code;
     }
     flatpq_rested(&resting);
     return code;
 }
 
 /* Carries a request out that found the lock held. */
-static COLD pq_code ask_again(pq_member *it, const asked *what, core_answer *answer) {
-    return what->until == PQ_FOREVER ? try_and_post(it, what, answer) : try_until(it, what, answer);
-}
-
-INLINE pq_code ask_by(uint32_t special, pq_member *it, asked what, core_answer *answer) {
-    pq_code code;
-    if (what.request == PQ_PUSH && !LIKELY(it->queue->most_items == 0)) {
-        return flatpq_push_within(it, what.item, what.until, answer);
-    }
-    code = try_call_as(special, it, what.request, what.item, answer);
-    if (!LIKELY(code != LOCK_HELD)) {
-        const asked copy = what;
-        code = ask_again(it, &copy, answer);
-    }
-    return code;
-}
-
-INLINE pq_code ask_as(uint32_t special, pq_member *it, asked what, core_answer *answer) {
-    own *mine;
-    pq_code code = flatpq_begin_as(special, &it, what.until, &mine);
-    if (LIKELY(code == PQ_OK)) {
-        code = ask_by(special, it, what, answer);
-        flatpq_end_as(special, mine);
-    }
-    return code;
-}
-
-static COLD pq_code ask_specially(pq_member *it, const asked *what, core_answer *answer) {
-    return ask_as(flatpq_special, it, *what, answer);
-}
-
-INLINE pq_code ask(pq_member *it, asked what, core_answer *answer) {
-    if (LIKELY(flatpq_special == 0)) {
-        return ask_as(0, it, what, answer);
-    } else {
-        const asked copy = what;
-        return ask_specially(it, &copy, answer);
-    }
+static pq_code ask_again(uint32_t request, call *it) {
+    return it->until == PQ_FOREVER ? try_and_post(request, it) : try_until(request, it);
 }
 
 /* What an answer comes to that has no item. */
@@ -195,46 +162,130 @@ INLINE pq_code result(const core_answer *answer, pq_item *item, uint64_t *number
     return PQ_OK;
 }
 
-pq_code pq_push(pq_member *member, pq_item item, uint64_t until, uint64_t *number) {
-    const asked what = { PQ_PUSH, item, until };
-    core_answer answer;
-    pq_code code = ask(member, what, &answer);
-    if (!LIKELY(code == PQ_OK)) {
+/* Ends a call that has its answer, or this code instead. */
+static pq_code end(const call *it, own *mine, pq_code code) {
+    flatpq_end(mine);
+    return code == PQ_OK ? result(&it->answer, it->first, it->number) : code;
+}
+
+/* Goes on with a call whose request was tried once. */
+static COLD pq_code go_on(uint32_t request, pq_code code, call *it, own *mine) {
+    if (code == LOCK_HELD) {
+        code = ask_again(request, it);
+    } else if (code == PQ_OK) {
+        flatpq_carried_out(it->member, &it->answer);
+    }
+    return end(it, mine, code);
+}
+
+static pq_code push_within(call *it, own *mine) {
+    return end(it, mine, flatpq_push_within(it->member, it->item, it->until, &it->answer));
+}
+
+/* Makes any call. */
+static COLD pq_code ask_fully(uint32_t request, call *it) {
+    pq_code code = flatpq_begin(&it->member, it->until, &it->mine);
+    if (code != PQ_OK) {
         return code;
     }
-    if (!LIKELY(answer.kind == KIND_PUSHED)) {
-        return result_of(&answer, NULL);
+    if (request == PQ_PUSH && it->member->is_bounded) {
+        return push_within(it, it->mine);
     }
-    if (number != NULL) {
-        *number = answer.number;
+    code = try_call(request, it);
+    return end(it, it->mine, code == LOCK_HELD ? ask_again(request, it) : code);
+}
+
+_Static_assert(KIND_PUSHED == (int)PQ_PUSH && KIND_POPPED == (int)PQ_POP && KIND_FIRST == (int)PQ_PEEK, "the usual answers");
+
+/* Whether the request was carried out, and has the usual answer, and nobody is to be woken. */
+INLINE int is_done(uint32_t request, pq_code code, const call *it) {
+    return LIKELY(code == PQ_OK) && LIKELY(flatpq_owes_nothing(it->member, &it->answer)) && LIKELY(it->answer.kind == request);
+}
+
+/* What a call returns whose request is done. */
+INLINE pq_code returned(uint32_t request, const call *it) {
+    if (request != PQ_PUSH) {
+        flatpq_copy(it->first, &it->answer.item);
+    }
+    if (it->number != NULL) {
+        *it->number = it->answer.number;
     }
     return PQ_OK;
 }
 
-INLINE pq_code ask_first(pq_member *member, uint32_t request, pq_item *item, uint64_t until, uint64_t *number) {
-    const asked what = { request, { 0, 0 }, until };
-    core_answer answer;
-    pq_code code = ask(member, what, &answer);
-    return LIKELY(code == PQ_OK) ? result(&answer, item, number) : code;
+/* Whether a call by this member needs neither the thread's record nor a look for room. */
+INLINE int is_plain(uint32_t request, const pq_member *member) {
+    return request == PQ_PUSH ? !member->is_shared && !member->is_bounded : !member->is_shared;
+}
+
+INLINE pq_code ask_by_own(uint32_t request, call *it) {
+    own *last = flatpq_thread.last;
+    pq_code code;
+    if (!LIKELY(last->shared == it->member) || !flatpq_enter(last, 0)) {
+        return ask_fully(request, it);
+    }
+    it->mine = last;
+    it->member = last->member;
+    if (request == PQ_PUSH && !LIKELY(!it->member->is_bounded)) {
+        return push_within(it, last);
+    }
+    code = try_call_once(request, it);
+    if (!is_done(request, code, it)) {
+        return go_on(request, code, it, it->mine);
+    }
+    flatpq_leave(it->mine, 0);
+    return returned(request, it);
+}
+
+/* Makes a call as most are: nothing is special, the member is joined, or is the one that the thread used last, the queue has no bound, and the lock
+   is free. What the call needs later lies in memory meanwhile, and in no register, which it would have to save. */
+INLINE pq_code ask(uint32_t request, call *it) {
+    pq_code code;
+    if (!LIKELY(flatpq_special == 0) || !LIKELY(it->member != NULL)) {
+        return ask_fully(request, it);
+    }
+    if (!LIKELY(is_plain(request, it->member))) {
+        return it->member->is_shared ? ask_by_own(request, it) : push_within(it, NULL);
+    }
+    code = try_call_once(request, it);
+    return is_done(request, code, it) ? returned(request, it) : go_on(request, code, it, NULL);
+}
+
+pq_code pq_push(pq_member *member, pq_item item, uint64_t until, uint64_t *number) {
+    call it;
+    it.member = member;
+    it.item = item;
+    it.until = until;
+    it.number = number;
+    return ask(PQ_PUSH, &it);
+}
+
+INLINE pq_code ask_first(uint32_t request, pq_member *member, pq_item *item, uint64_t until, uint64_t *number) {
+    call it;
+    it.member = member;
+    it.until = until;
+    it.first = item;
+    it.number = number;
+    return ask(request, &it);
 }
 
 pq_code pq_pop(pq_member *member, pq_item *item, uint64_t until, uint64_t *number) {
-    return ask_first(member, PQ_POP, item, until, number);
+    return ask_first(PQ_POP, member, item, until, number);
 }
 
 pq_code pq_peek(pq_member *member, pq_item *item, uint64_t until, uint64_t *number) {
-    return ask_first(member, PQ_PEEK, item, until, number);
+    return ask_first(PQ_PEEK, member, item, until, number);
 }
 
 /*
  * Taking the first item out, or looking at it, which has no entry. No other thread does it for this one.
  */
 
-static pq_code taken(pq_member *it, pq_code code, const core_answer *answer) {
+INLINE pq_code taken(pq_member *it, pq_code code, const core_answer *answer) {
     if (!LIKELY(code == PQ_OK)) {
         return code == LOCK_HELD ? PQ_TIMED_OUT : code;
     }
-    watch_answer(flatpq_special, answer);
+    watch_answer(answer);
     flatpq_carried_out(it, answer);
     switch (answer->kind) {
     case KIND_POPPED:
@@ -297,7 +348,7 @@ pq_code pq_pop_due(pq_member *it, uint64_t priority, pq_item *item, uint64_t unt
  */
 
 pq_code flatpq_count(pq_member *it, uint64_t *count, uint32_t *owes_wake) {
-    flatpq_thread.pace.calls++;
+    flatpq_pace.calls++;
     return LEAVE_OUT(pq_core_try_count(&it->proved, count, owes_wake));
 }
 

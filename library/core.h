@@ -30,6 +30,7 @@ typedef struct core_line {
     pq_item item;
     uint32_t reply;
     pq_item reply_item;
+    uint64_t ticket;
 } core_line;
 
 /* A batch: how many of its requests took effect, the number of the first one's journal entry, and the code that refused the next, or 0. */
@@ -43,11 +44,11 @@ typedef struct core_batch {
 /* What refuses a request of a batch. */
 enum { REFUSED_NO_MEMORY = 9, REFUSED_JOURNAL_FULL = 10, REFUSED_EXHAUSTED = 11 };
 
-_Static_assert(sizeof(core_answer) == 32 && sizeof(core_line) == 56 && sizeof(core_batch) == 24 && sizeof(pq_code) == 4,
+_Static_assert(sizeof(core_answer) == 32 && sizeof(core_line) == 64 && sizeof(core_batch) == 24 && sizeof(pq_code) == 4,
                "the layouts of the proved calls");
 
 /* Queues. `number` stands for the queue in each of its members. */
-pq_code pq_core_open(uint32_t threads, uint32_t keeping, uint32_t entries, core *queue);
+pq_code pq_core_open(uint32_t threads, uint32_t keeping, uint32_t entries, uint32_t tickets, core *queue);
 pq_code pq_core_join(core *queue, core *member, uint64_t number);
 pq_code pq_core_give_back(core *queue, core *member, uint64_t number);
 pq_code pq_core_shut(core *queue, uint32_t *count, uint64_t **word);
@@ -58,6 +59,7 @@ pq_code pq_core_place(core *member, uint32_t *place);
 pq_code pq_core_post(core *member, uint32_t request, uint64_t priority, uint64_t value);
 pq_code pq_core_try_call(core *member, uint32_t request, uint64_t priority, uint64_t value, core_answer *answer);
 pq_code pq_core_try_pop_or_look(core *member, uint32_t takes, uint64_t priority, core_answer *answer);
+pq_code pq_core_try_remove(core *member, uint64_t ticket, core_answer *answer);
 pq_code pq_core_try_count(core *member, uint64_t *count, uint32_t *owes_wake);
 pq_code pq_core_try_push_within(core *member, uint64_t most, uint64_t priority, uint64_t value, core_answer *answer);
 pq_code pq_core_try_push_many(core *member, const pq_item *items, size_t count, core_batch *batch);

@@ -24,6 +24,7 @@ typedef struct waiter {
     void (*notify)(void *context); /* NULL of a thread */
     void *context;
     uint64_t priority; /* up to which it takes an item, where it listens */
+    uint64_t armed;    /* of an alarm: the time for which its timer is set; PQ_FOREVER while it looks, and where the queue is empty */
     uint32_t is_woken; /* it was taken out of its list to be woken, and has not looked since */
     uint32_t word;     /* a thread sleeps at it */
 } waiter;
@@ -32,11 +33,13 @@ typedef struct waiters {
     waiter *first, **end;
 } waiters;
 
-/* A member. The one inside a queue stands for each thread's own member, and only its `queue` and `is_shared` are used. */
+/* A member. The one inside a queue stands for each thread's own member, and only its `queue`, and what the queue is, are used. */
 struct pq_member {
     core proved;
     pq_queue *queue;
-    uint32_t is_shared;    /* it is the one inside a queue */
+    uint32_t is_shared : 1;  /* it is the one inside a queue */
+    uint32_t is_bounded : 1; /* it is another, and the queue has a bound: one test finds either */
+    uint32_t has_tickets : 1;
     uint32_t keeps;        /* POSTED, LISTENS: its thread keeps it between calls */
     uint32_t place;
     uint32_t has_left;     /* its last take_or_listen found an item */
@@ -96,13 +99,16 @@ struct pq_queue {
     /* Members that wait for an item, or for room, under the lock `waiting`. */
     pthread_mutex_t waiting __attribute__((aligned(64)));
     waiters takers, timers, listeners; /* threads that take any item, threads that take what is due, and members that listen */
+    waiters alarms;                    /* members that listen by a timer (listening.c) */
     waiters producers;                 /* threads that wait for room */
     uint32_t producer_on_way;          /* one of these was woken, and has not settled that yet */
     uint64_t owed;    /* wakes that are owed, the one that is on its way among them */
     uint32_t on_way;  /* a thread was woken, and has not settled that yet */
     uint64_t watched; /* until when a thread sleeps that watches for what is due; 0: none does */
     uint64_t incoming __attribute__((aligned(64))); /* wakes that are owed, and not in `owed` yet. It needs no lock. */
-    uint32_t room; /* NONE_SAID, SAID or HEARD: there may be room, for which a producer is to be woken. It needs no lock. */
+    uint64_t earliest;    /* an item may be due then, for which alarms are to be rung; PQ_FOREVER: none. It needs no lock. */
+    uint32_t alarm_count; /* of the list above. It needs no lock. */
+    uint32_t room;        /* NONE_SAID, SAID or HEARD: there may be room, for which a producer is to be woken. It needs no lock. */
 
     /* What is archived, without a lock (durable.c). */
     uint64_t archived __attribute__((aligned(64))); /* how many entries */
@@ -121,11 +127,11 @@ typedef struct pace {
 } pace;
 
 typedef struct thread {
-    own *last; /* the record that it used last; never NULL */
-    pace pace;
+    own *last;  /* the record that it used last; never NULL */
     own **owns; /* lists of its records, by the queues' addresses; NULL where it has none */
 } thread;
 extern __thread thread flatpq_thread HIDDEN __attribute__((tls_model("initial-exec")));
+extern __thread pace flatpq_pace HIDDEN __attribute__((tls_model("initial-exec")));
 
 /*
  * guard.c: forks, the processor, the clock, sleeping, barriers, and ThreadSanitizer.
@@ -195,11 +201,20 @@ INLINE int flatpq_enter(own *it, uint32_t special) {
     return LIKELY(__atomic_load_n(&it->taken, __ATOMIC_ACQUIRE) == 0);
 }
 
+/* The thread is no longer in that call. The queue may be gone after this. */
+INLINE void flatpq_leave(own *it, uint32_t special) {
+    __atomic_store_n(&it->busy, 0, __ATOMIC_RELEASE);
+    flatpq_fence(special);
+    if (!LIKELY(__atomic_load_n(&it->taken, __ATOMIC_ACQUIRE) == 0)) {
+        flatpq_end_own(it);
+    }
+}
+
 /* Begins a call: *member is the one to use. *mine is the thread's record of it, or NULL where the caller joined it. */
-INLINE pq_code flatpq_begin_as(uint32_t special, pq_member **member, uint64_t until, own **mine) {
+static inline pq_code flatpq_begin(pq_member **member, uint64_t until, own **mine) {
     pq_member *it = *member;
     *mine = NULL;
-    if (!LIKELY((special & FORKED) == 0)) {
+    if (!LIKELY((flatpq_special & FORKED) == 0)) {
         return PQ_FORKED;
     }
     if (!LIKELY(it != NULL)) {
@@ -207,7 +222,7 @@ INLINE pq_code flatpq_begin_as(uint32_t special, pq_member **member, uint64_t un
     }
     if (it->is_shared) {
         own *last = flatpq_thread.last;
-        if (!LIKELY(last->shared == it) || !flatpq_enter(last, special)) {
+        if (!LIKELY(last->shared == it) || !flatpq_enter(last, flatpq_special)) {
             pq_code code = flatpq_begin_own(it, until, &last);
             if (code != PQ_OK) {
                 return code;
@@ -220,22 +235,10 @@ INLINE pq_code flatpq_begin_as(uint32_t special, pq_member **member, uint64_t un
 }
 
 /* Ends a call. The queue may be gone after this. */
-INLINE void flatpq_end_as(uint32_t special, own *mine) {
-    if (mine != NULL) {
-        __atomic_store_n(&mine->busy, 0, __ATOMIC_RELEASE);
-        flatpq_fence(special);
-        if (!LIKELY(__atomic_load_n(&mine->taken, __ATOMIC_ACQUIRE) == 0)) {
-            flatpq_end_own(mine);
-        }
-    }
-}
-
-static inline pq_code flatpq_begin(pq_member **member, uint64_t until, own **mine) {
-    return flatpq_begin_as(flatpq_special, member, until, mine);
-}
-
 static inline void flatpq_end(own *mine) {
-    flatpq_end_as(flatpq_special, mine);
+    if (mine != NULL) {
+        flatpq_leave(mine, flatpq_special);
+    }
 }
 
 /* Ends a call that may have changed whether the thread keeps the member. */
@@ -295,9 +298,14 @@ INLINE void flatpq_copy(pq_item *to, const volatile pq_item *from) {
     to->value = from->value;
 }
 
+/* Whether nobody is to be woken after a proved call. */
+INLINE int flatpq_owes_nothing(const pq_member *member, const core_answer *answer) {
+    return (answer->owes_wake | __atomic_load_n(&member->queue->concerned, __ATOMIC_RELAXED)) == 0;
+}
+
 /* After each proved call that may have carried requests out. */
 INLINE void flatpq_carried_out(pq_member *member, const core_answer *answer) {
-    if (!LIKELY((answer->owes_wake | __atomic_load_n(&member->queue->concerned, __ATOMIC_RELAXED)) == 0)) {
+    if (!LIKELY(flatpq_owes_nothing(member, answer))) {
         flatpq_wake_after(member, answer);
     }
 }
@@ -318,6 +326,8 @@ typedef struct wait {
 /* Puts the member into its list, and announces it. PQ_SHUT: it is not announced, as nothing is pushed any more; LOCK_HELD: nor is it announced,
    while a push is being posted to a queue that is shut. */
 HIDDEN pq_code flatpq_begin_wait(wait *it);
+HIDDEN uint64_t flatpq_due_time(const pq_queue *queue, uint64_t priority); /* at which an item of this priority is due */
+HIDDEN uint64_t flatpq_due_now(const pq_queue *queue);                     /* the greatest priority that is due */
 /* Takes the member out of its list, and ends its announcement, if it is announced: whether it was woken since its last look began. */
 HIDDEN int flatpq_end_wait(pq_member *member, int is_announced);
 HIDDEN int flatpq_unlisten(pq_member *member);

@@ -85,6 +85,7 @@ pq_code pq_read(const pq_journal *journal, size_t index, pq_entry *entry) {
         entry->reply = line.reply == KIND_EMPTY ? PQ_EMPTY : PQ_OK;
         entry->unused = 0;
         entry->item = line.request == PQ_PUSH ? line.item : line.reply_item;
+        entry->ticket = line.ticket;
     }
     return code;
 }
@@ -127,11 +128,12 @@ size_t pq_text(const pq_entry *entry, char text[PQ_TEXT_ROOM]) {
     if (entry->request == PQ_PUSH) {
         at = put_word(put_item(put_word(at, " push"), entry->item), " pushed");
     } else {
-        at = put_word(at, entry->request == PQ_POP ? " pop" : " least");
+        at = put_word(at, entry->request == PQ_POP ? " pop" : entry->request == PQ_PEEK ? " least" : " remove ");
+        at = entry->request == PQ_REMOVE ? put_number(at, entry->ticket) : at;
         if (entry->reply == PQ_EMPTY) {
             at = put_word(at, " empty");
         } else {
-            at = put_item(put_word(at, entry->request == PQ_POP ? " got" : " least"), entry->item);
+            at = put_item(put_word(at, entry->request == PQ_PEEK ? " least" : " got"), entry->item);
         }
     }
     *at++ = '\n';
@@ -218,6 +220,9 @@ static const char *const texts[] = {
     [PQ_NOT_LAWFUL] = "a line is no entry that may come next",
     [PQ_TORN] = "the last line is cut off",
     [PQ_NOT_READ] = "a read failed",
+    [PQ_NO_TIMER] = "the descriptor is no timerfd",
+    [PQ_GONE] = "no item waits under this ticket",
+    [PQ_NO_TICKETS] = "the queue has no tickets",
     [PQ_FORKED] = "a forked child can't use a queue",
     [PQ_PROCESSOR] = "the processor has no SSE4.1",
     [PQ_TIMED_OUT] = "timed out",

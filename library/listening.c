@@ -3,8 +3,25 @@
  * sleep it returns, and is notified once.
  *
  * At a queue that is shut a member listens for what will be due there: it is counted in `concerned`, and not announced.
+ *
+ * An alarm is a member that listens by a timer of the program. It is in a list of its own, and takes no wake from others. While it listens its
+ * timer is set for the time at which the first item is due, or for an earlier one. To ring it is to set the timer for a time that is over.
+ *
+ * Why that holds. The alarm (1) is counted and in its list, with `armed` PQ_FOREVER, (2) announces itself, (3) looks for an item, and (4) sets its
+ * timer and `armed` under the lock of the lists, if it is still in its list. A thread that carries a push out first does so, then claims the
+ * wakes that are owed, then looks for the first item, and then says in `earliest` when that is due. The looks and the push need the queue's
+ * lock. If the push came before the alarm's look, that look found its item, an earlier one, or that another call took it. Else a wake is owed,
+ * and the thread that claims it says a time at which or before which the item of the push is due. Each thread that has the lock of the lists rings
+ * the alarms that are set for later than `earliest`, before it unlocks. It rings them without a lock, once they are out of the list, and the alarm's
+ * next call waits for that.
  */
 #include "inside.h"
+
+#include <sys/timerfd.h>
+
+static int is_alarm(const pq_member *member) {
+    return member->waits.list == &member->queue->alarms;
+}
 
 /* Ends the listening: whether the member was notified, and has not looked since. */
 static int end_listening(pq_member *member) {
@@ -14,6 +31,9 @@ static int end_listening(pq_member *member) {
         member->keeps &= ~(uint32_t)LISTENS;
         if (!member->is_announced) {
             __atomic_fetch_sub(&member->queue->concerned, DRAIN, SEQ);
+        }
+        if (is_alarm(member)) {
+            __atomic_fetch_sub(&member->queue->alarm_count, 1, SEQ);
         }
     }
     member->waits.is_woken = 0;
@@ -42,25 +62,34 @@ static pq_code look(wait *it, uint64_t priority) {
     return code == PQ_EMPTY && begun == PQ_SHUT ? PQ_SHUT : code;
 }
 
+/* Has the member listen in this list, and look: it listens no more where that found an item to take, or was refused. */
+static pq_code listen(wait *it, waiters *list, uint64_t priority, void (*notify)(void *context), void *context) {
+    pq_member *member = it->member;
+    pq_code code;
+    member->waits.list = list;
+    member->waits.priority = priority;
+    member->waits.armed = PQ_FOREVER;
+    member->waits.notify = notify;
+    member->waits.context = context;
+    member->looks = 1;
+    code = look(it, priority);
+    member->looks = 0;
+    if (code != PQ_EMPTY && code != PQ_NOT_DUE) {
+        it->was_woken = end_listening(member);
+    }
+    return code;
+}
+
 static pq_code take_or_listen(wait *it, uint64_t priority, void (*notify)(void *context), void *context) {
     pq_member *member = it->member;
-    int was_notified = end_listening(member), passes_on = was_notified;
+    int passes_on = end_listening(member);
     pq_code code = flatpq_take_first_at_once(member, priority, it->answer);
+    it->was_woken = passes_on;
     if (code == PQ_EMPTY || code == PQ_NOT_DUE) {
-        was_notified = 0;
-        member->waits.list = &member->queue->listeners;
-        member->waits.priority = priority;
-        member->waits.notify = notify;
-        member->waits.context = context;
-        member->looks = 1;
-        code = look(it, priority);
-        member->looks = 0;
-        if (code != PQ_EMPTY && code != PQ_NOT_DUE) {
-            was_notified = end_listening(member);
-        }
+        code = listen(it, &member->queue->listeners, priority, notify, context);
     }
     member->has_left = code == PQ_OK || code == PQ_NOT_DUE;
-    if (was_notified && code != PQ_OK) {
+    if (it->was_woken && code != PQ_OK) {
         flatpq_owe(member->queue, 1);
     } else if (passes_on && code == PQ_NOT_DUE) {
         flatpq_pass_on(member->queue, it->answer->item.priority);
@@ -88,11 +117,86 @@ pq_code pq_take_or_listen(pq_member *member, uint64_t priority, pq_item *item, u
     return code;
 }
 
+/*
+ * Alarms.
+ */
+
+/* Sets a timer: PQ_FOREVER unsets it. 0: it is none. */
+static int set_timer(int timer, uint64_t time) {
+    const uint64_t second = 1000000000;
+    struct itimerspec at = { { 0, 0 }, { 0, 0 } };
+    if (time != PQ_FOREVER) {
+        at.it_value.tv_sec = (time_t)(time / second);
+        at.it_value.tv_nsec = (long)(time % second);
+    }
+    return timerfd_settime(timer, TFD_TIMER_ABSTIME, &at, NULL) == 0;
+}
+
+static void ring(void *context) {
+    const uint64_t over = 1;
+    set_timer((int)(intptr_t)context, over);
+}
+
+/* Sets the timer of an alarm that listens, unless it was rung since. */
+static int arm(pq_member *member, int timer, uint64_t time) {
+    int is_set = 1;
+    flatpq_lock_lists(member->queue);
+    if (member->waits.at != NULL) {
+        member->waits.armed = time;
+        is_set = set_timer(timer, time);
+    }
+    flatpq_unlock_lists(member->queue);
+    return is_set;
+}
+
+static pq_code take_due_or_listen(wait *it, int timer) {
+    const uint64_t soon = 100000;
+    pq_member *member = it->member;
+    pq_queue *queue = member->queue;
+    uint64_t priority = flatpq_due_now(queue);
+    pq_code code;
+    flatpq_unlisten(member);
+    code = flatpq_take_first_at_once(member, priority, it->answer);
+    if (code == PQ_EMPTY || code == PQ_NOT_DUE) {
+        __atomic_fetch_add(&queue->alarm_count, 1, SEQ);
+        code = listen(it, &queue->alarms, priority, ring, (void *)(intptr_t)timer);
+    }
+    if (code == PQ_EMPTY || code == PQ_NOT_DUE) {
+        uint64_t time = code == PQ_EMPTY ? PQ_FOREVER : flatpq_due_time(queue, it->answer->item.priority);
+        if (!arm(member, timer, time)) {
+            end_listening(member);
+            return PQ_NO_TIMER;
+        }
+    } else if (code == PQ_TIMED_OUT) {
+        /* Another thread had the lock for long: this call is to be made again. */
+        return set_timer(timer, pq_after(soon)) ? PQ_EMPTY : PQ_NO_TIMER;
+    }
+    return code;
+}
+
+pq_code pq_take_due_or_listen(pq_member *member, int timer, pq_item *item, uint64_t *number) {
+    core_answer answer;
+    wait it = { NULL, PQ_NOW, &answer, 0, 0, 0, 0 };
+    own *mine;
+    pq_code code = flatpq_begin(&member, PQ_NOW, &mine);
+    if (code == PQ_OK) {
+        it.member = member;
+        code = take_due_or_listen(&it, timer);
+        flatpq_end_keeping(mine, member);
+        flatpq_return_first(code, &answer, item, number);
+    }
+    return code;
+}
+
+/*
+ * Ending.
+ */
+
 int flatpq_unlisten(pq_member *member) {
     int listened = (member->keeps & LISTENS) != 0;
     int was_notified = end_listening(member);
-    /* Another member may rely on this one for what is left. */
-    if (was_notified || member->has_left) {
+    /* Another member may rely on this one for what is left, but not on an alarm. */
+    if ((was_notified && !is_alarm(member)) || member->has_left) {
         member->has_left = 0;
         flatpq_owe(member->queue, 1);
     }

@@ -20,7 +20,7 @@
 enum { LISTS = 64 };
 
 static own no_own;
-__thread thread flatpq_thread __attribute__((tls_model("initial-exec"))) = { &no_own, { 0, 0, 0, 0, 0 }, NULL };
+__thread thread flatpq_thread __attribute__((tls_model("initial-exec"))) = { &no_own, NULL };
 
 /*
  * The records of a queue, under the lock.

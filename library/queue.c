@@ -36,14 +36,14 @@ pq_code pq_open(const pq_options *options, pq_queue **queue) {
     if (code != PQ_OK) {
         return code;
     }
-    if (members > most_members || asked->keeping > PQ_FILLS || asked->unused != 0) {
+    if (members > most_members || asked->keeping > PQ_FILLS || asked->tickets > 1) {
         return PQ_BAD_OPTION;
     }
     if ((made = aligned_alloc(_Alignof(pq_queue), sizeof *made)) == NULL) {
         return PQ_NO_MEMORY;
     }
     memset(made, 0, sizeof *made);
-    code = LEAVE_OUT(pq_core_open(members, asked->keeping, entries, &made->proved));
+    code = LEAVE_OUT(pq_core_open(members, asked->keeping, entries, asked->tickets, &made->proved));
     if (code != PQ_OK) {
         free(made);
         return code;
@@ -51,8 +51,10 @@ pq_code pq_open(const pq_options *options, pq_queue **queue) {
     made->time_zero = asked->time_zero;
     made->time_unit = asked->time_unit != 0 ? asked->time_unit : 1;
     made->most_items = asked->most_items;
+    made->earliest = PQ_FOREVER;
     made->own.queue = made;
     made->own.is_shared = 1;
+    made->own.has_tickets = asked->tickets != 0;
     pthread_mutex_init(&made->waiting, NULL);
     *queue = made;
     return PQ_OK;
@@ -113,6 +115,8 @@ static pq_member *new_member(pq_queue *queue) {
     }
     memset(made, 0, sizeof *made);
     made->queue = queue;
+    made->is_bounded = queue->most_items != 0;
+    made->has_tickets = queue->own.has_tickets;
     return made;
 }
 

@@ -13,6 +13,7 @@ typedef struct reader {
     int file;
     core replay;
     uint64_t lines;    /* read so far, the one that is refused among them */
+    int is_long;       /* a piece is left out that is longer than a line */
     size_t begin, end; /* where in `text` what is not replayed yet stands */
     char text[64 * PQ_TEXT_ROOM];
 } reader;
@@ -35,20 +36,22 @@ static pq_code replay_line(reader *it, size_t length) {
     const uint8_t *line = (const uint8_t *)it->text + it->begin;
     pq_code code = PQ_NOT_LAWFUL;
     it->lines++;
-    if (length < PQ_TEXT_ROOM) {
+    if (length < PQ_TEXT_ROOM && !it->is_long) {
         code = LEAVE_OUT(pq_core_replay_line(&it->replay, line, length));
     }
     it->begin += length + 1;
     return code;
 }
 
-/* Replays the whole lines that are there, and refuses a piece that is longer than a line. */
+/* Replays the whole lines that are there. A piece that is longer than a line is left out: it is refused once its line feed comes. */
 static pq_code replay_lines(reader *it) {
     pq_code code = PQ_OK;
     while (code == PQ_OK) {
         const char *begin = it->text + it->begin, *feed = memchr(begin, '\n', it->end - it->begin);
         if (feed == NULL) {
-            return it->end - it->begin < PQ_TEXT_ROOM ? PQ_OK : replay_line(it, PQ_TEXT_ROOM);
+            it->is_long |= it->end - it->begin >= PQ_TEXT_ROOM;
+            it->begin = it->is_long ? it->end : it->begin;
+            return PQ_OK;
         }
         code = replay_line(it, (size_t)(feed - begin));
     }
@@ -67,7 +70,7 @@ static pq_code replay_file(reader *it) {
     if (count < 0) {
         return PQ_NOT_READ;
     }
-    return it->begin < it->end ? PQ_TORN : PQ_OK;
+    return it->is_long || it->begin < it->end ? PQ_TORN : PQ_OK;
 }
 
 /* Replays the file, and ends that also where it was refused. */
@@ -90,6 +93,7 @@ pq_code pq_journal_read(int file, pq_journal **journal, uint64_t *line) {
     it.file = file;
     it.replay = NULL;
     it.lines = it.begin = it.end = 0;
+    it.is_long = 0;
     if (code == PQ_OK) {
         made = flatpq_new_journal();
         code = made != NULL ? read_all(&it, &ended) : PQ_NO_MEMORY;

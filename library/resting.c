@@ -15,6 +15,8 @@ enum { TRIES = 1000, SPINS = 10000, APART = 400 };
 /* How long a nap is: at least, and for each member in use, so that fewer threads wake at a time. */
 enum { NAP = 50000, NAP_OF_EACH = 8000 };
 
+__thread pace flatpq_pace __attribute__((tls_model("initial-exec")));
+
 /* How far apart the thread's calls are: those since it last waited, and those before, which count less. */
 static uint64_t apart(pace *it, uint64_t now) {
     const uint64_t most = 2000, full = 8;
@@ -27,7 +29,7 @@ static uint64_t apart(pace *it, uint64_t now) {
 }
 
 rest flatpq_rest_of(const pq_queue *queue, uint64_t until) {
-    pace *calls = &flatpq_thread.pace;
+    pace *calls = &flatpq_pace;
     rest made = { queue, until, 0, 0, 0, 1 };
     if (!flatpq_may_spin || until == PQ_NOW) {
         return made;
@@ -53,7 +55,7 @@ int flatpq_spins(rest *it) {
     }
     it->now = pq_now();
     if (it->now >= it->ends) {
-        pace *calls = &flatpq_thread.pace;
+        pace *calls = &flatpq_pace;
         it->ends = 0;
         calls->fails += calls->fails < most_fails;
         calls->skips = (1u << calls->fails) - 1;
@@ -87,7 +89,7 @@ int flatpq_rests(rest *it) {
 
 void flatpq_rested(const rest *it) {
     if (flatpq_may_spin) {
-        pace *calls = &flatpq_thread.pace;
+        pace *calls = &flatpq_pace;
         calls->fails = it->ends != 0 ? 0 : calls->fails;
         calls->calls = 0;
         calls->waited = pq_now();

@@ -172,7 +172,7 @@ static pq_code take(wait *it) {
  * has slept, and ends its wait, wakes another, which looks and then watches.
  */
 
-static uint64_t due_time(const pq_queue *queue, uint64_t priority) {
+uint64_t flatpq_due_time(const pq_queue *queue, uint64_t priority) {
     uint64_t time = 0;
     if (priority > queue->time_zero && __builtin_mul_overflow(priority - queue->time_zero, queue->time_unit, &time)) {
         return PQ_FOREVER;
@@ -180,8 +180,7 @@ static uint64_t due_time(const pq_queue *queue, uint64_t priority) {
     return time;
 }
 
-/* The greatest priority that is due. */
-static uint64_t due_now(const pq_queue *queue) {
+uint64_t flatpq_due_now(const pq_queue *queue) {
     uint64_t priority;
     return __builtin_add_overflow(queue->time_zero, pq_now() / queue->time_unit, &priority) ? UINT64_MAX : priority;
 }
@@ -197,7 +196,7 @@ static int is_watched(pq_queue *queue) {
 /* Sleeps until the first item is due, or where another thread watches for that until this one is woken. */
 static void watch(wait *it) {
     pq_queue *queue = it->member->queue;
-    uint64_t due = due_time(queue, it->answer->item.priority);
+    uint64_t due = flatpq_due_time(queue, it->answer->item.priority);
     int watches;
     flatpq_lock_lists(queue);
     watches = queue->watched == 0 || due < queue->watched;
@@ -220,7 +219,7 @@ static pq_code look_or_watch(wait *it) {
         sleep_until(it, PQ_FOREVER);
         return PQ_NOT_DUE;
     }
-    code = look(it, due_now(it->member->queue));
+    code = look(it, flatpq_due_now(it->member->queue));
     if (goes_on(it, code)) {
         if (code == PQ_NOT_DUE) {
             watch(it);
@@ -236,9 +235,9 @@ static pq_code look_last_or_sleep(wait *it) {
     pq_queue *queue = it->member->queue;
     pq_code code;
     __atomic_fetch_add(&queue->concerned, DRAIN, SEQ);
-    code = look_last(it, due_now(queue));
+    code = look_last(it, flatpq_due_now(queue));
     if (goes_on(it, code)) {
-        sleep_until(it, due_time(queue, it->answer->item.priority));
+        sleep_until(it, flatpq_due_time(queue, it->answer->item.priority));
     }
     __atomic_fetch_sub(&queue->concerned, DRAIN, SEQ);
     return code;
@@ -250,7 +249,7 @@ static pq_code due_or_sleep(wait *it) {
     if (begun == PQ_SHUT) {
         code = look_last_or_sleep(it);
     } else if (begun == LOCK_HELD) {
-        code = look_later(it, due_now(it->member->queue));
+        code = look_later(it, flatpq_due_now(it->member->queue));
     } else if (begun == PQ_OK) {
         code = look_or_watch(it);
     }
@@ -259,7 +258,7 @@ static pq_code due_or_sleep(wait *it) {
 }
 
 static pq_code take_due(wait *it) {
-    pq_code code = look(it, due_now(it->member->queue));
+    pq_code code = look(it, flatpq_due_now(it->member->queue));
     if (!goes_on(it, code)) {
         return code;
     }
@@ -274,7 +273,7 @@ static pq_code take_due(wait *it) {
     return code;
 }
 
-static pq_code wait_by(pq_code (*takes)(wait *), pq_member *member, pq_item *item, uint64_t until, uint64_t *number) {
+INLINE pq_code wait_by(pq_code (*takes)(wait *), pq_member *member, pq_item *item, uint64_t until, uint64_t *number) {
     core_answer answer;
     wait it = { NULL, until, &answer, 0, 0, 0, 0 };
     own *mine;

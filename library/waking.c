@@ -73,6 +73,22 @@ static waiter *producer_before(pq_queue *queue, waiter *others) {
     return found_before(queue->producers.first, others);
 }
 
+/* Takes out the alarms whose timers are set for later than an item may be due. */
+static waiter *alarms_before(pq_queue *queue, waiter *others) {
+    waiter *it = queue->alarms.first;
+    uint64_t earliest;
+    if (__atomic_load_n(&queue->earliest, SEQ) == PQ_FOREVER) {
+        return others;
+    }
+    earliest = __atomic_exchange_n(&queue->earliest, PQ_FOREVER, SEQ);
+    while (it != NULL) {
+        waiter *next = it->next;
+        others = it->armed > earliest ? found_before(it, others) : others;
+        it = next;
+    }
+    return others;
+}
+
 /* Takes out the members that are to be woken now: a thread, and where that takes what is due, or none sleeps, a member that listens. */
 static waiter *to_wake(pq_queue *queue) {
     waiter *found = NULL;
@@ -89,7 +105,8 @@ static waiter *to_wake(pq_queue *queue) {
             queue->owed = listener != NULL ? queue->owed - 1 : 0;
         }
     }
-    return producer_before(queue, found);
+    /* `earliest` is read after `incoming`: a thread that adds to that has said it before. */
+    return alarms_before(queue, producer_before(queue, found));
 }
 
 /*
@@ -154,12 +171,51 @@ static void say_room(pq_queue *queue) {
     }
 }
 
-COLD void flatpq_wake_owed(pq_member *member) {
+/* How many wakes are owed. No other call owes them from now on. */
+static uint32_t claim(pq_member *member) {
     uint32_t count = 0;
     uint64_t *unused;
-    if (pq_core_wakes_owed(&member->proved, &count, &unused) == PQ_OK) {
-        flatpq_owe(member->queue, count);
+    return pq_core_wakes_owed(&member->proved, &count, &unused) == PQ_OK ? count : 0;
+}
+
+/* Looks when the first item is due: 0 where that is not seen, or there is none. The look carries out what is posted, and may so owe wakes. */
+static uint64_t first_time(pq_member *member, uint32_t *owes_wake) {
+    const int tries = 32;
+    core_answer first;
+    pq_code code = LOCK_HELD;
+    for (int tried = 0; code == LOCK_HELD && tried < tries; tried++) {
+        if (tried > 0) {
+            __builtin_ia32_pause();
+        }
+        code = LEAVE_OUT(pq_core_try_pop_or_look(&member->proved, 0, 0, &first));
     }
+    *owes_wake = code == PQ_OK ? first.owes_wake : 0;
+    return code == PQ_OK && first.kind == KIND_FIRST ? flatpq_due_time(member->queue, first.item.priority) : 0;
+}
+
+/* Says when the first item is due, after pushes whose wakes were claimed: how many more it claimed. Where pushes go on it says 0. */
+static uint32_t say_first(pq_member *member) {
+    const int looks = 4;
+    uint64_t *earliest = &member->queue->earliest, time = 0, before = __atomic_load_n(earliest, SEQ);
+    uint32_t more = 0, last = 1;
+    for (int looked = 0; last > 0 && looked < looks; looked++) {
+        uint32_t owes_wake;
+        time = first_time(member, &owes_wake);
+        last = owes_wake ? claim(member) : 0;
+        more += last;
+    }
+    time = last > 0 ? 0 : time;
+    while (time < before && !__atomic_compare_exchange_n(earliest, &before, time, 0, SEQ, SEQ)) {
+    }
+    return more;
+}
+
+COLD void flatpq_wake_owed(pq_member *member) {
+    uint32_t count = claim(member);
+    if (count > 0 && __atomic_load_n(&member->queue->alarm_count, SEQ) > 0) {
+        count += say_first(member);
+    }
+    flatpq_owe(member->queue, count);
 }
 
 /* The first item has this priority, which a member that was woken can't take: notifies one that listens, and can. */
@@ -180,7 +236,8 @@ void flatpq_wake_all(pq_queue *queue, waiter *but) {
     if (stays) {
         flatpq_take_out(but);
     }
-    found = all_of(&queue->takers, all_of(&queue->timers, all_of(&queue->listeners, all_of(&queue->producers, NULL))));
+    found = all_of(&queue->listeners, all_of(&queue->alarms, all_of(&queue->producers, NULL)));
+    found = all_of(&queue->takers, all_of(&queue->timers, found));
     if (stays) {
         flatpq_put(but);
     }

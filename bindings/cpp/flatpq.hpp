@@ -8,6 +8,10 @@
 // times, or a type of the program (flatpq_keys.hpp). The item with the smallest key comes out first; items of equal keys come out in the
 // order in which they were pushed. flatpq.h says what each call does and what it asks of the program; this file adds types and ownership.
 //
+// A queue also has batches (push_many, pop_due_many, drain), an exact size(), a bound on its items (options::most_items), and listeners for event
+// loops. A program that writes archives to a file survives a crash: wait_archived waits until a push is on disk, and journal<Key>::read_from
+// reads the file back.
+//
 // Any number of threads may call a queue itself. A thread calls through a member of its own, which it gets at its first call; where all
 // members are in use it waits for one. A thread that waits for an item, or for room, keeps its member meanwhile. A program that moves members
 // between threads joins them (queue::join). The last argument of a call is the time until which it may wait (flatpq::deadline).
@@ -32,6 +36,7 @@
 #include <memory>
 #include <optional>
 #include <sys/eventfd.h>
+#include <sys/timerfd.h>
 #include <type_traits>
 #include <unistd.h>
 #include <utility>
@@ -42,23 +47,26 @@ namespace flatpq {
 /// What happens to the journal's older entries, as enum pq_keeping says.
 enum class keeping : std::uint32_t { forgets = PQ_FORGETS, refuses = PQ_REFUSES, fills = PQ_FILLS };
 
-/// How a queue is opened, as pq_options says: for how many members at once, 1 to 64; how its journal keeps how many entries; and how many
-/// items it may have, where 0 is no bound.
+/// How a queue is opened, as pq_options says: for how many members at once, 1 to 64; how its journal keeps how many entries; how many items
+/// it may have, where 0 is no bound; and whether items can be removed by ticket.
 struct options {
     std::uint32_t members = 64;
     flatpq::keeping keeping = flatpq::keeping::forgets;
     std::uint32_t entries = 0;
     std::uint64_t most_items = 0;
+    bool tickets = false;
 };
 
-/// What push_many did: how many items it put in, and why not the next one.
+/// What push_many did: how many items it put in, why not the next one, and the number of the first one's journal entry; 0 where it put none in.
 struct [[nodiscard]] pushed_many {
     std::size_t count;
     code error;
+    std::uint64_t number;
     [[nodiscard]] explicit operator bool() const noexcept { return error == code::ok; }
 };
 
 template <class Items> class basic_listener;
+template <class Items> class basic_due_listener;
 
 namespace detail {
 
@@ -75,8 +83,8 @@ public:
     using found = flatpq::found<item, first>;
     using journal = basic_journal<Items>;
 
-    /// Puts a key and a value, or a payload, in: the number of the journal entry. Where the call is refused the payload is where it was. At a
-    /// queue with a bound it waits for room: code::full, where there was none until then.
+    /// Puts a key and a value, or a payload, in: the number of the journal entry, which is the item's ticket. Where the call is refused the
+    /// payload is where it was. At a queue with a bound it waits for room: code::full, where there was none until then.
     result<std::uint64_t> push(const key &priority, payload &&value, deadline until = {}) noexcept {
         pq_item in = {key_order<key>::number(priority), 0};
         if (!Items::put(value, in.value)) {
@@ -95,7 +103,7 @@ public:
     }
 
     /// Take the first item out, or show it: of payloads its key. They don't wait for an item.
-    found pop(deadline until = {}) noexcept { return got(pq_pop, until); }
+    found pop(deadline until = {}) noexcept { return got<pq_pop>(until); }
     flatpq::found<first, first> peek(deadline until = {}) noexcept {
         using shown = flatpq::found<first, first>;
         pq_item raw = {};
@@ -107,18 +115,24 @@ public:
     /// Takes the first item out if its key is at most this one. code::not_due: found::first() stays.
     found pop_due(const key &bound, deadline until = {}) noexcept { return due(key_order<key>::number(bound), until); }
 
+    /// Takes the item out that has this ticket, wherever it waits: the number that its push returned. code::gone: it was taken out before, or no
+    /// push returned this number; code::no_tickets.
+    found remove(std::uint64_t ticket, deadline until = {}) noexcept {
+        return got([=](auto *by, auto *out, auto at, auto *number) { return pq_remove(by, ticket, out, at, number); }, until);
+    }
+
     /// Waits for an item, and takes the first one out. code::empty: none came until then; code::timed_out: other threads had the lock.
-    found take(deadline until = {}) noexcept { return got(pq_take, until); }
+    found take(deadline until = {}) noexcept { return got<pq_take>(until); }
 
     /// Waits until the first item is due, and takes it out. Keys are times. code::not_due: found::first() stays; code::empty.
     found take_due(deadline until = {}) noexcept {
         static_assert(are_times<key>, "keys are times of std::chrono::steady_clock");
-        return got(pq_take_due, until);
+        return got<pq_take_due>(until);
     }
 
     /// Puts a range of items in, and moves their payloads, up to the first that is refused.
     template <class Range> pushed_many push_many(Range &&items, deadline until = {}) noexcept {
-        pushed_many all = {0, code::ok};
+        pushed_many all = {0, code::ok, 0};
         const auto end = std::end(items);
         for (auto at = std::begin(items); all && at != end;) {
             pq_item raw[batch_room];
@@ -126,7 +140,8 @@ public:
             for (auto it = at; it != end && count < batch_room && Items::put(Items::of(*it), raw[count].value); ++it) {
                 raw[count++].priority = key_order<key>::number((*it).priority);
             }
-            all.error = count > 0 ? static_cast<code>(pq_push_many(member_, raw, count, until.at(), &done)) : code::no_memory;
+            std::uint64_t *const number = all.count == 0 ? &all.number : nullptr;
+            all.error = count > 0 ? static_cast<code>(pq_push_many(member_, raw, count, until.at(), &done, number)) : code::no_memory;
             all.count += done;
             for (std::size_t i = 0; i < count; ++i, ++at) {
                 if (i >= done) {
@@ -137,22 +152,25 @@ public:
         return all;
     }
 
-    /// Takes up to `room` items out whose keys are at most this one. It asks for the memory of as many first.
+    /// Takes up to `room` items out whose keys are at most this one: found::number() is that of the first one's journal entry. It asks for the
+    /// memory of as many items first.
     flatpq::found<std::vector<item>, first> pop_due_many(const key &bound, std::size_t room, deadline until = {}) {
         using many = flatpq::found<std::vector<item>, first>;
         std::vector<item> items;
         items.reserve(room);
         pq_item raw[batch_room] = {};
         auto why = code::ok;
+        std::uint64_t number = 0;
         for (std::size_t done = batch_room; why == code::ok && done == batch_room && items.size() < room;) {
             const std::size_t most = std::min(batch_room, room - items.size());
+            std::uint64_t *const first_number = items.empty() ? &number : nullptr;
             done = 0;
-            why = static_cast<code>(pq_pop_due_many(member_, key_order<key>::number(bound), raw, most, until.at(), &done));
+            why = static_cast<code>(pq_pop_due_many(member_, key_order<key>::number(bound), raw, most, until.at(), &done, first_number));
             for (const pq_item *it = raw; it != raw + done; ++it) {
                 Items::take(it->value, [&](payload &&value) { items.emplace_back(key_order<key>::key(it->priority), std::move(value)); });
             }
         }
-        return !items.empty() || why == code::ok ? many(std::in_place, 0, std::move(items)) : many(why, 0, stays(why, raw[0]));
+        return !items.empty() || why == code::ok ? many(std::in_place, number, std::move(items)) : many(why, 0, stays(why, raw[0]));
     }
 
     /// How many items the queue has, exactly, at one moment of the call.
@@ -196,10 +214,17 @@ public:
     template <class Notify> found take_or_listen(const key &bound, Notify &notify) noexcept {
         return listened(key_order<key>::number(bound), notify);
     }
+    /// Takes the first item out if it is due; else the member listens by a timer, as pq_take_due_or_listen says: code::empty, or code::not_due
+    /// with found::first(), which stays. Keys are times.
+    found take_due_or_listen(int timer) noexcept {
+        static_assert(are_times<key>, "keys are times of std::chrono::steady_clock");
+        return got([=](auto *by, auto *out, auto, auto *number) { return pq_take_due_or_listen(by, timer, out, number); }, {});
+    }
     /// Ends the listening: whether the member listened, and was not notified.
     bool unlisten() noexcept { return member_ != nullptr && pq_unlisten(member_) != 0; }
 
-    /// Copies the journal entries after the first `archived`, and counts those first ones as archived from now on.
+    /// Copies the journal entries after the first `archived`, and counts those first ones as archived from now on. Entries of a task_queue have
+    /// keys, and no payloads.
     result<journal> archive(std::uint64_t archived, deadline until = {}) noexcept {
         pq_journal *copied = nullptr;
         const auto why = static_cast<code>(pq_archive(member_, archived, until.at(), &copied));
@@ -242,6 +267,10 @@ private:
         });
     }
 
+    template <pq_code (*Call)(pq_member *, pq_item *, std::uint64_t, std::uint64_t *)> found got(deadline until) noexcept {
+        return got([](auto... with) { return Call(with...); }, until);
+    }
+
     found due(std::uint64_t bound, deadline until) noexcept {
         return got([=](auto *by, auto *out, auto at, auto *number) { return pq_pop_due(by, bound, out, at, number); }, until);
     }
@@ -274,28 +303,44 @@ public:
     void give_back() noexcept { pq_give_back(std::exchange(this->member_, nullptr)); }
 };
 
-/// A member with a descriptor, for poll, epoll and their like.
-template <class Items> class basic_listener {
+namespace detail {
+
+/// A member with a descriptor, which is closed once the member was given back.
+template <class Items> class with_descriptor {
 public:
     using key = typename Items::key;
-    using found = typename detail::calls<Items>::found;
+    using found = typename calls<Items>::found;
 
-    basic_listener(basic_listener &&other) noexcept : member_(std::move(other.member_)), fd_(std::exchange(other.fd_, -1)) {}
-    basic_listener &operator=(basic_listener &&other) noexcept {
-        basic_listener moved(std::move(other));
+    /// The descriptor: readable from the first, and whenever an item may be there, or be due, or the queue is shut.
+    [[nodiscard]] int fd() const noexcept { return fd_; }
+
+protected:
+    with_descriptor(int fd, basic_member<Items> member) noexcept : member_(std::move(member)), fd_(fd) {}
+    with_descriptor(with_descriptor &&other) noexcept : member_(std::move(other.member_)), fd_(std::exchange(other.fd_, -1)) {}
+    with_descriptor &operator=(with_descriptor &&other) noexcept {
+        with_descriptor moved(std::move(other));
         std::swap(member_, moved.member_);
         std::swap(fd_, moved.fd_);
         return *this;
     }
-    ~basic_listener() {
+    ~with_descriptor() {
         member_.give_back();
         if (fd_ >= 0) {
             ::close(fd_);
         }
     }
 
-    /// The descriptor: readable from the first, and whenever an item may be there or the queue is shut.
-    [[nodiscard]] int fd() const noexcept { return fd_; }
+    basic_member<Items> member_;
+    int fd_;
+};
+
+} // namespace detail
+
+/// A member with a descriptor, for poll, epoll and their like.
+template <class Items> class basic_listener : public detail::with_descriptor<Items> {
+public:
+    using key = typename Items::key;
+    using found = typename detail::calls<Items>::found;
 
     /// Takes the first item out, or the first one whose key is at most this one. Call it when the descriptor is readable, until it returns
     /// code::empty, or code::not_due with found::first(), which stays: then the descriptor is readable no more, until somebody pushes. It
@@ -306,25 +351,37 @@ public:
 
 private:
     template <class> friend class basic_queue;
-    basic_listener(int fd, basic_member<Items> member) noexcept : member_(std::move(member)), fd_(fd) {}
+    using detail::with_descriptor<Items>::with_descriptor;
 
     found taken(std::uint64_t bound) noexcept {
-        auto first = member_.due(bound, now);
-        if (first || fd_ < 0) {
+        auto first = this->member_.due(bound, now);
+        if (first || this->fd_ < 0) {
             return first;
         }
         eventfd_t count = 0;
-        eventfd_read(fd_, &count);
-        void *const context = reinterpret_cast<void *>(static_cast<std::intptr_t>(fd_));
-        auto later = member_.listened_by(bound, pq_notify_fd, context);
+        eventfd_read(this->fd_, &count);
+        void *const context = reinterpret_cast<void *>(static_cast<std::intptr_t>(this->fd_));
+        auto later = this->member_.listened_by(bound, pq_notify_fd, context);
         if (later.error() != code::empty && later.error() != code::not_due) {
             pq_notify_fd(context);
         }
         return later;
     }
+};
 
-    basic_member<Items> member_;
-    int fd_;
+/// A member with a timer: a descriptor that is readable once the first item is due. Keys are times.
+template <class Items> class basic_due_listener : public detail::with_descriptor<Items> {
+public:
+    using found = typename detail::calls<Items>::found;
+
+    /// Takes the first item out if it is due. Call it when the descriptor is readable, until it returns code::empty, or code::not_due with
+    /// found::first(), which stays: then the descriptor is readable no more, until the first item is due, an earlier one is pushed, or the queue
+    /// is shut. It never waits. Where it returns code::shut or a refusal the descriptor stays as it was. The program does not read it.
+    found take_or_listen() noexcept { return this->member_.take_due_or_listen(this->fd_); }
+
+private:
+    template <class> friend class basic_queue;
+    using detail::with_descriptor<Items>::with_descriptor;
 };
 
 /// A priority queue that threads share.
@@ -333,12 +390,13 @@ public:
     using key = typename Items::key;
     using member = basic_member<Items>;
     using listener = basic_listener<Items>;
+    using due_listener = basic_due_listener<Items>;
     using journal = basic_journal<Items>;
 
     /// Opens a queue. Where open() returns code::bad_option, no_memory, forked or processor, the constructor throws it.
     explicit basic_queue(options asked = {}) : basic_queue(open(asked).value()) {}
     [[nodiscard]] static result<basic_queue> open(options asked = {}) noexcept {
-        pq_options raw = {asked.members, static_cast<std::uint32_t>(asked.keeping), asked.entries, 0, 0, 0, asked.most_items};
+        pq_options raw = {asked.members, static_cast<std::uint32_t>(asked.keeping), asked.entries, asked.tickets, 0, 0, asked.most_items};
         if constexpr (detail::are_times<key>) {
             raw.time_zero = key_order<key>::time_zero;
             raw.time_unit = key_order<key>::time_unit;
@@ -365,14 +423,16 @@ public:
         return why == code::ok ? result<member>(member(joined)) : why;
     }
 
-    /// Joins so, for an event loop. code::no_memory also where the system has no descriptor.
+    /// Join so, for an event loop that waits for any item, or for what is due. code::no_memory also where the system has no descriptor.
     result<listener> listen(deadline until = {}) noexcept {
-        auto joined = join(until);
-        const int fd = joined ? eventfd(1, EFD_CLOEXEC | EFD_NONBLOCK) : -1;
-        if (fd < 0) {
-            return joined ? code::no_memory : joined.error();
-        }
-        return listener(fd, *std::move(joined));
+        return joined_as<listener>(until, [] { return eventfd(1, EFD_CLOEXEC | EFD_NONBLOCK); });
+    }
+    result<due_listener> listen_due(deadline until = {}) noexcept {
+        return joined_as<due_listener>(until, [] {
+            const int fd = timerfd_create(CLOCK_MONOTONIC, TFD_CLOEXEC | TFD_NONBLOCK);
+            const itimerspec at_once = {{0, 0}, {0, 1}};
+            return fd >= 0 && timerfd_settime(fd, 0, &at_once, nullptr) != 0 ? -1 : fd;
+        });
     }
 
     /// Gives the calling thread's own member back now, if it has one.
@@ -400,6 +460,15 @@ public:
 private:
     basic_queue(pq_queue *opened, pq_member *own) noexcept : detail::calls<Items>(own), queue_(opened) {}
 
+    template <class Listener, class Open> result<Listener> joined_as(deadline until, Open open) noexcept {
+        auto joined = join(until);
+        const int fd = joined ? open() : -1;
+        if (fd < 0) {
+            return joined ? code::no_memory : joined.error();
+        }
+        return Listener(fd, *std::move(joined));
+    }
+
     pq_queue *queue_;
 };
 
@@ -407,6 +476,7 @@ private:
 template <class Key = std::uint64_t> using queue = basic_queue<detail::values<Key>>;
 template <class Key = std::uint64_t> using member = basic_member<detail::values<Key>>;
 template <class Key = std::uint64_t> using listener = basic_listener<detail::values<Key>>;
+template <class Key = std::uint64_t> using due_listener = basic_due_listener<detail::values<Key>>;
 template <class Key = std::uint64_t> using journal = basic_journal<detail::values<Key>>;
 
 } // namespace flatpq

@@ -18,7 +18,7 @@
 namespace flatpq {
 
 /// What a member asks of the queue.
-enum class request : std::uint32_t { push = PQ_PUSH, pop = PQ_POP, peek = PQ_PEEK };
+enum class request : std::uint32_t { push = PQ_PUSH, pop = PQ_POP, peek = PQ_PEEK, remove = PQ_REMOVE };
 
 /// An item: a key, and a value, which the queue never reads.
 template <class Key = std::uint64_t> struct item {
@@ -41,13 +41,15 @@ private:
 };
 
 /// A journal entry: its number, from 1; how many requests its member had made, this one included; the member's place; the request; the reply,
-/// code::ok or code::empty; and the item of a push, or the one that a pop or a peek found. Of a payload it has the key.
+/// code::ok or code::empty; the item of a push, or the one that a pop, a peek or a removal found; and the ticket of a removal. Of a payload it
+/// has the key.
 template <class First> struct entry {
     std::uint64_t number, serial;
     std::uint32_t place;
     flatpq::request request;
     code reply;
     std::optional<First> item;
+    std::uint64_t ticket;
 };
 
 namespace detail {
@@ -104,6 +106,8 @@ public:
     [[nodiscard]] iterator end() noexcept { return iterator(nullptr); }
     /// Why the loop ended: code::empty, code::not_due, or a refusal.
     [[nodiscard]] code error() const noexcept { return last_ ? last_->error() : code::ok; }
+    /// Of a queue's drain: the number of the journal entry of the item that the loop is at; 0 where it is at none.
+    [[nodiscard]] std::uint64_t number() const noexcept { return last_ ? last_->number() : 0; }
 
 private:
     Next next_;
@@ -140,7 +144,7 @@ public:
             return std::nullopt;
         }
         const auto reply = static_cast<code>(raw.reply);
-        entry made{raw.number, raw.serial, raw.place, static_cast<flatpq::request>(raw.request), reply, {}};
+        entry made{raw.number, raw.serial, raw.place, static_cast<flatpq::request>(raw.request), reply, {}, raw.ticket};
         if (reply == code::ok) {
             made.item = Items::shown(raw.item);
         }

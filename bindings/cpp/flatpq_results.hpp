@@ -23,6 +23,7 @@ enum class code : std::uint32_t {
     pending = PQ_PENDING, not_pending = PQ_NOT_PENDING, bad_request = PQ_BAD_REQUEST,
     journal_full = PQ_JOURNAL_FULL, unarchived = PQ_UNARCHIVED, forgotten = PQ_FORGOTTEN, no_entry = PQ_NO_ENTRY, not_written = PQ_NOT_WRITTEN,
     not_lawful = PQ_NOT_LAWFUL, torn = PQ_TORN, not_read = PQ_NOT_READ,
+    no_timer = PQ_NO_TIMER, gone = PQ_GONE, no_tickets = PQ_NO_TICKETS,
 };
 
 /// The text of a code.
@@ -94,7 +95,7 @@ public:
     found(code why, std::uint64_t number = 0, std::optional<First> first = {}) noexcept
         : result<Item>(why), number_(number), first_(std::move(first)) {}
 
-    /// The number of the call's journal entry; 0 where it has none. A pop and a peek of an empty queue have one.
+    /// The number of the call's journal entry, or of the first one of a batch; 0 where it has none. A pop and a peek of an empty queue have one.
     [[nodiscard]] std::uint64_t number() const noexcept { return number_; }
     /// Of code::not_due the first item, which stays; of payloads its key.
     [[nodiscard]] const std::optional<First> &first() const noexcept { return first_; }

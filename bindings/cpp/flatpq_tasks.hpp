@@ -9,7 +9,9 @@
 // and a pop moves it out; a refused push moves it back. Payloads that nobody takes are dropped by clear(), with the journal of a closed queue,
 // or with the last of a queue and its members. A payload that may throw while it is moved or dropped doesn't compile.
 //
-// Entries of journals show keys, and as text keys and payloads by numbers.
+// A journal has no payloads. Its entries show keys; as text they have for each payload a token: an address, which is used again, or the payload's
+// own bytes. So an archive of payloads is a record of what happened, and no payload is read back from it (read_from doesn't compile). A
+// program that has to survive a restart stores its payloads by ids of its own, and pushes the ids into a flatpq::queue.
 #ifndef FLATPQ_TASKS_HPP
 #define FLATPQ_TASKS_HPP
 
@@ -110,6 +112,7 @@ public:
 template <class T, class Key = std::uint64_t> using task_queue = basic_queue<detail::payloads<T, Key>>;
 template <class T, class Key = std::uint64_t> using task_member = basic_member<detail::payloads<T, Key>>;
 template <class T, class Key = std::uint64_t> using task_listener = basic_listener<detail::payloads<T, Key>>;
+template <class T, class Key = std::uint64_t> using task_due_listener = basic_due_listener<detail::payloads<T, Key>>;
 template <class T, class Key = std::uint64_t> using task_journal = basic_journal<detail::payloads<T, Key>>;
 
 } // namespace flatpq

@@ -16,17 +16,27 @@ struct After {
     left: Vec<Dropped>,
 }
 
+/// What most calls have nothing of.
+type IfAny = Option<Box<After>>;
+
 thread_local! {
     // It has no destructor, so it is there while a thread ends, too.
-    static AFTER: Cell<*mut After> = const { Cell::new(ptr::null_mut()) };
+    static AFTER: Cell<*mut IfAny> = const { Cell::new(ptr::null_mut()) };
 }
 
 /// Makes a call that returns soon, and then runs what comes of it.
 pub fn calling<R>(call: impl FnOnce() -> R) -> R {
-    let mut after = After::default();
+    let mut after: IfAny = None;
     let result = during(&mut after, call);
-    wake_all(after.wakers);
+    if let Some(after) = after {
+        run(*after);
+    }
     result
+}
+
+#[cold]
+fn run(after: After) {
+    wake_all(after.wakers);
 }
 
 /// Makes a call that may wait for long: wakers run in another thread meanwhile.
@@ -34,10 +44,11 @@ pub fn waiting<R>(call: impl FnOnce() -> R) -> R {
     during(ptr::null_mut(), call)
 }
 
-fn during<R>(after: *mut After, call: impl FnOnce() -> R) -> R {
+fn during<R>(after: *mut IfAny, call: impl FnOnce() -> R) -> R {
     /// What was set before, which is set again.
-    struct Before(*mut After);
+    struct Before(*mut IfAny);
     impl Drop for Before {
+        #[inline]
         fn drop(&mut self) {
             AFTER.with(|it| it.set(self.0));
         }
@@ -53,7 +64,8 @@ pub fn wake(waker: Waker) {
         return hand_over(waker);
     }
     // SAFETY: it is on this thread's stack until the call has returned, and nobody else uses it meanwhile.
-    unsafe { (*after).wakers.push(waker) }
+    let after = unsafe { &mut *after };
+    after.get_or_insert_with(Box::default).wakers.push(waker);
 }
 
 /// Wakes all, though one panics.
@@ -118,7 +130,8 @@ impl Dropped {
             let _ = catch_unwind(AssertUnwindSafe(|| drop(self)));
         } else {
             // SAFETY: as above.
-            unsafe { (*after).left.push(self) }
+            let after = unsafe { &mut *after };
+            after.get_or_insert_with(Box::default).left.push(self);
         }
     }
 }

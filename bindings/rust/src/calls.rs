@@ -1,6 +1,6 @@
 //! The calls of a queue and of a member: what waits at most until a deadline, and the same without one.
 use crate::after;
-use crate::error::{Due, Error, NotPushed};
+use crate::error::{Due, Error, NotAllPushed, NotPushed};
 use crate::journal::{Item, Journal};
 use crate::key::Key;
 use crate::payload::{self, payload_of, value_of};
@@ -110,6 +110,16 @@ pub unsafe fn found<T>(code: u32, item: Item) -> Result<Due<T>, Error> {
     }
 }
 
+/// What a batch of pushes put in.
+#[derive(Clone, Copy, Debug, Default, PartialEq, Eq)]
+pub struct Pushed {
+    /// How many payloads.
+    pub count: usize,
+    /// The number of the first one's journal entry; 0 where it put none in. Up to 64 payloads have consecutive entries where the queue has no
+    /// bound.
+    pub number: u64,
+}
+
 /// Items that no queue has. Their payloads are dropped with this.
 struct Batch<T> {
     items: Vec<Item>,
@@ -143,6 +153,15 @@ impl<T> Drop for Batch<T> {
 impl<T: Send, K: Key> Call<'_, T, K> {
     pub fn push(&self, key: K, payload: T) -> Result<u64, NotPushed<T>> {
         let priority = self.shared.times.priority_of(key);
+        match self.shared.is_bounded {
+            true => self.push_within(priority, payload),
+            false => after::calling(|| self.pushed(priority, payload, self.until)),
+        }
+    }
+
+    // Pushes to a queue with a bound.
+    #[inline(never)]
+    fn push_within(&self, priority: u64, payload: T) -> Result<u64, NotPushed<T>> {
         let refused = match after::calling(|| self.pushed(priority, payload, self.at_first())) {
             Err(refused) if self.waits_for_room(refused.error as u32) => refused.payload,
             pushed => return pushed,
@@ -190,6 +209,20 @@ impl<T: Send, K: Key> Call<'_, T, K> {
         Ok(self.keyed(found).got())
     }
 
+    pub fn remove(&self, ticket: u64) -> Result<Option<(K, T)>, Error> {
+        let (member, until) = (self.member, self.until);
+        let removed = after::calling(|| {
+            // SAFETY: as of `waits`.
+            self.taken(|item, number| unsafe {
+                match raw::pq_remove(member, ticket, item, until, number) {
+                    raw::GONE => raw::EMPTY,
+                    code => code,
+                }
+            })
+        })?;
+        Ok(self.keyed(removed).got())
+    }
+
     pub fn peek(&self) -> Result<Option<K>, Error> {
         let first = self.peeked()?;
         Ok(first.map(|it| self.shared.times.key_of(it.priority)))
@@ -213,7 +246,7 @@ impl<T: Send, K: Key> Call<'_, T, K> {
     pub fn push_many(
         &self,
         payloads: impl IntoIterator<Item = (K, T)>,
-    ) -> Result<usize, NotPushed<Vec<(K, T)>>> {
+    ) -> Result<Pushed, NotAllPushed<K, T>> {
         let (mut keys, mut batch, mut refused) = (Vec::new(), Batch::new(), None);
         let mut payloads = payloads.into_iter();
         for (key, payload) in &mut payloads {
@@ -227,28 +260,39 @@ impl<T: Send, K: Key> Call<'_, T, K> {
             }
             keys.push(key);
         }
-        let mut done = 0;
-        let pushed = match &refused {
+        let mut pushed = Pushed::default();
+        let result = match &refused {
             Some(_) => Err(Error::NoMemory),
             None => {
-                let put = |until| self.put_all(&mut batch, until, &mut done);
+                let put = |until| self.put_all(&mut batch, until, &mut pushed);
                 Error::unless_ok(self.puts(put))
             }
         };
-        pushed.map(|()| done).map_err(|error| {
-            let back = keys.drain(done..).zip(batch.back());
-            let payload = back.chain(refused).chain(payloads).collect();
-            NotPushed { payload, error }
+        self.has_number(pushed.number);
+        result.map(|()| pushed).map_err(|error| NotAllPushed {
+            payload: keys
+                .drain(pushed.count..)
+                .zip(batch.back())
+                .chain(refused)
+                .chain(payloads)
+                .collect(),
+            error,
+            pushed,
         })
     }
 
     // Pushes a batch until then: its code.
-    fn put_all(&self, batch: &mut Batch<T>, until: u64, done: &mut usize) -> u32 {
-        let (at, count, mut more) = (batch.items.as_ptr(), batch.items.len(), 0);
+    fn put_all(&self, batch: &mut Batch<T>, until: u64, pushed: &mut Pushed) -> u32 {
+        let (at, count) = (batch.items.as_ptr(), batch.items.len());
+        let (mut done, mut number) = (0, 0);
         // SAFETY: the member is there, and in this call alone; the others are borrowed for it.
-        let code = unsafe { raw::pq_push_many(self.member, at, count, until, &mut more) };
-        batch.items.drain(..more);
-        *done += more;
+        let code =
+            unsafe { raw::pq_push_many(self.member, at, count, until, &mut done, &mut number) };
+        if pushed.count == 0 {
+            pushed.number = number;
+        }
+        batch.items.drain(..done);
+        pushed.count += done;
         code
     }
 
@@ -271,12 +315,14 @@ impl<T: Send, K: Key> Call<'_, T, K> {
         let priority = self.shared.times.priority_of(key);
         let mut items: Vec<Item> = Vec::new();
         items.try_reserve_exact(most).map_err(|_| Error::NoMemory)?;
-        let (at, mut done) = (items.as_mut_ptr(), 0);
+        let (member, at, until) = (self.member, items.as_mut_ptr(), self.until);
+        let (mut done, mut number) = (0, 0);
         let taken: Vec<(u64, T)> = after::calling(|| {
             // SAFETY: the member is there, and in this call alone; the items have the room.
             let code = unsafe {
-                raw::pq_pop_due_many(self.member, priority, at, most, self.until, &mut done)
+                raw::pq_pop_due_many(member, priority, at, most, until, &mut done, &mut number)
             };
+            self.has_number(number);
             // SAFETY: the call has written so many.
             unsafe { items.set_len(done) };
             // SAFETY: the call took them out of a queue of such payloads.
@@ -313,7 +359,7 @@ impl<T: Number, K: Key> Call<'_, T, K> {
 macro_rules! calls {
     (($($life:lifetime)?) $Type:ty, $($mutable:tt)?) => {
         impl<$($life,)? T: Send, K: Key> $Type {
-            /// Puts a payload in: the number of its journal entry. At a queue with a bound
+            /// Puts a payload in: the number of its journal entry, which is the payload's ticket. At a queue with a bound
             /// ([`Options::most_items`](crate::Options::most_items)) it waits for room, until its deadline: then [`Error::Full`].
             ///
             /// # Errors
@@ -333,6 +379,27 @@ macro_rules! calls {
             /// Those of each call.
             pub fn pop(&$($mutable)? self) -> Result<Option<(K, T)>, Error> {
                 self.call().pop()
+            }
+
+            /// Takes the payload out that has this ticket, with its key, wherever it waits: the ticket is what [`Self::push`] returned.
+            /// `None` where it was taken out before, or no push returned this number.
+            ///
+            /// # Errors
+            ///
+            /// Those of each call, and [`Error::NoTickets`] unless the queue was opened for it
+            /// ([`Options::tickets`](crate::Options::tickets)).
+            ///
+            /// ```
+            /// let queue = flatpq::Options::new().tickets(true).open()?;
+            /// let ticket = queue.push(5, "five")?;
+            /// queue.push(6, "six")?;
+            /// assert_eq!(queue.remove(ticket)?, Some((5, "five")));
+            /// assert_eq!(queue.remove(ticket)?, None);
+            /// assert_eq!(queue.pop()?, Some((6, "six")));
+            /// # Ok::<(), flatpq::Error>(())
+            /// ```
+            pub fn remove(&$($mutable)? self, ticket: u64) -> Result<Option<(K, T)>, Error> {
+                self.call().remove(ticket)
             }
 
             /// Returns the first key, if there is one. Its payload stays.
@@ -379,19 +446,28 @@ macro_rules! calls {
                 self.call().pop_due(key)
             }
 
-            /// Puts payloads in, in their order: how many. At a queue with a bound each waits for room.
+            /// Puts payloads in, in their order: how many, and the number of the first one's journal entry. At a queue with a bound each
+            /// waits for room.
             ///
             /// # Errors
             ///
-            /// Those of [`Self::push`], which end the batch. All that were not pushed come back.
+            /// Those of [`Self::push`], which end the batch. All that were not pushed come back, with what was pushed before them.
+            ///
+            /// ```
+            /// let queue = flatpq::TaskQueue::new()?;
+            /// let pushed = queue.push_many([(2, "two"), (1, "one")])?;
+            /// assert_eq!((pushed.count, pushed.number), (2, 1));
+            /// # Ok::<(), flatpq::Error>(())
+            /// ```
             pub fn push_many(
                 &$($mutable)? self,
                 payloads: impl IntoIterator<Item = (K, T)>,
-            ) -> Result<usize, NotPushed<Vec<(K, T)>>> {
+            ) -> Result<Pushed, NotAllPushed<K, T>> {
                 self.call().push_many(payloads)
             }
 
-            /// Takes the first payloads out whose keys are at most this one: so many at most.
+            /// Takes the first payloads out whose keys are at most this one: so many at most. A member's
+            /// [`number`](crate::TaskMember::number) is then that of the first one's journal entry.
             ///
             /// # Errors
             ///
@@ -400,7 +476,8 @@ macro_rules! calls {
                 self.call().pop_due_many(key, most)
             }
 
-            /// Copies the journal entries after the first `archived`, and counts those first ones as archived from now on.
+            /// Copies the journal entries after the first `archived`, and counts those first ones as archived from now on. An entry has a
+            /// token for a payload that is no number ([`Item::value`](crate::Item::value)), so nobody gets that back from an archive.
             ///
             /// # Errors
             ///

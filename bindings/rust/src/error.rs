@@ -1,4 +1,5 @@
 //! What calls come to that don't succeed, and what a pop of what is due finds.
+use crate::calls::Pushed;
 use crate::raw;
 use crate::tasks::TaskQueue;
 use std::{fmt, io};
@@ -15,6 +16,7 @@ macro_rules! errors {
         }
 
         impl Error {
+            #[cold]
             pub(crate) fn of(code: u32) -> Error {
                 match code {
                     $($code => Error::$Name,)+
@@ -56,6 +58,8 @@ errors! {
     NotLawful = 54,
     /// A read failed.
     NotRead = 56,
+    /// The queue was not opened for removals by ticket ([`Options::tickets`](crate::Options::tickets)).
+    NoTickets = 59,
     /// This process is a forked child of one that had opened a queue.
     Forked = 60,
     /// The processor has no SSE4.1.
@@ -67,6 +71,7 @@ errors! {
 }
 
 impl Error {
+    #[inline]
     pub(crate) fn unless_ok(code: u32) -> Result<(), Error> {
         match code {
             raw::OK => Ok(()),
@@ -92,7 +97,7 @@ impl From<Error> for io::Error {
 
 /// Why a payload was not pushed, and the payload. `?` turns it into its [`Error`].
 pub struct NotPushed<T> {
-    /// The payload; of a batch all keys and payloads that were not pushed.
+    /// The payload.
     pub payload: T,
     /// Why it was not pushed.
     pub error: Error,
@@ -121,6 +126,48 @@ impl<T> std::error::Error for NotPushed<T> {
 /// Drops the payload.
 impl<T> From<NotPushed<T>> for Error {
     fn from(refused: NotPushed<T>) -> Error {
+        refused.error
+    }
+}
+
+/// Why a batch ended before all of it was pushed, and what was not. `?` turns it into its [`Error`].
+pub struct NotAllPushed<K, T> {
+    /// All keys and payloads that were not pushed.
+    pub payload: Vec<(K, T)>,
+    /// Why the first of them was not pushed.
+    pub error: Error,
+    /// What was pushed before them.
+    pub pushed: Pushed,
+}
+
+impl<K, T> fmt::Debug for NotAllPushed<K, T> {
+    fn fmt(&self, f: &mut fmt::Formatter<'_>) -> fmt::Result {
+        f.debug_struct("NotAllPushed")
+            .field("error", &self.error)
+            .field("pushed", &self.pushed)
+            .finish_non_exhaustive()
+    }
+}
+
+impl<K, T> fmt::Display for NotAllPushed<K, T> {
+    fn fmt(&self, f: &mut fmt::Formatter<'_>) -> fmt::Result {
+        write!(
+            f,
+            "pushed {} and no more: {}",
+            self.pushed.count, self.error
+        )
+    }
+}
+
+impl<K, T> std::error::Error for NotAllPushed<K, T> {
+    fn source(&self) -> Option<&(dyn std::error::Error + 'static)> {
+        Some(&self.error)
+    }
+}
+
+/// Drops the payloads.
+impl<K, T> From<NotAllPushed<K, T>> for Error {
+    fn from(refused: NotAllPushed<K, T>) -> Error {
         refused.error
     }
 }

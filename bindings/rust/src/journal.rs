@@ -34,6 +34,20 @@ pub enum Request {
     Pop,
     /// To return the first item, which stays.
     Peek,
+    /// To take the item out that has this ticket, the number of the entry of its push.
+    Remove(u64),
+}
+
+impl Request {
+    // Its number, and the ticket where it has one.
+    fn parts(self) -> (u32, u64) {
+        match self {
+            Request::Push => (0, 0),
+            Request::Pop => (1, 0),
+            Request::Peek => (2, 0),
+            Request::Remove(ticket) => (3, ticket),
+        }
+    }
 }
 
 /// An entry of the journal. Its text is that of the library: `7 3 2 push 5 1 pushed`.
@@ -48,7 +62,7 @@ pub struct Entry {
     pub place: u32,
     /// What the member asked.
     pub request: Request,
-    /// The item that was pushed, taken out or returned; none where the queue was empty.
+    /// The item that was pushed, taken out or returned; none where there was none.
     pub item: Option<Item>,
 }
 
@@ -61,21 +75,24 @@ impl Entry {
             request: match raw.request {
                 0 => Request::Push,
                 1 => Request::Pop,
-                _ => Request::Peek,
+                2 => Request::Peek,
+                _ => Request::Remove(raw.ticket),
             },
             item: (raw.reply == raw::OK).then_some(raw.item),
         }
     }
 
     fn raw(&self) -> RawEntry {
+        let (request, ticket) = self.request.parts();
         RawEntry {
             number: self.number,
             serial: self.serial,
             place: self.place,
-            request: self.request as u32,
+            request,
             reply: self.item.map_or(raw::EMPTY, |_| raw::OK),
             unused: 0,
             item: self.item.unwrap_or_default(),
+            ticket,
         }
     }
 
@@ -99,6 +116,10 @@ impl fmt::Display for Entry {
 
 /// Entries of a queue's journal, which [`TaskQueue::close`](crate::TaskQueue::close) or [`TaskQueue::archive`](crate::TaskQueue::archive)
 /// copied. Threads may read it at the same time.
+///
+/// A journal of payloads that are no numbers is a record of what happened: in place of the payloads it has tokens ([`Item::value`]), also as
+/// text. A program that has to survive a restart stores its payloads by ids of its own, and pushes the ids into a
+/// [`Queue`](crate::Queue), whose journal [`TaskJournal::read_from`] reads back.
 ///
 /// ```
 /// let queue = flatpq::TaskQueue::new()?;

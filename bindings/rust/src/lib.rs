@@ -21,13 +21,17 @@
 //! ```
 //!
 //! - Calls: [`push`](TaskQueue::push), [`pop`](TaskQueue::pop) and [`peek`](TaskQueue::peek); [`take`](TaskQueue::take), which waits for a
-//!   payload; [`pop_due`](TaskQueue::pop_due) and [`take_due`](TaskQueue::take_due), where keys are times; and
-//!   [batches](TaskQueue::push_many).
+//!   payload; [`pop_due`](TaskQueue::pop_due) and [`take_due`](TaskQueue::take_due), where keys are times.
+//! - Batches, up to 64 requests under one lock: [`push_many`](TaskQueue::push_many) and [`pop_due_many`](TaskQueue::pop_due_many).
+//! - [`len`](TaskQueue::len) is exact. A queue may have a bound, at which pushes wait for room ([`Options::most_items`]).
 //! - They wait for other threads as long as it takes. [`until`](TaskQueue::until) limits that: `queue.until(deadline).take()`.
 //! - A [`TaskMember`] moves between threads; a thread that calls the queue itself has one of its own.
-//! - A task of an executor awaits [`take_async`](TaskQueue::take_async), and an event loop has a [`Listener`].
+//! - A task of an executor awaits [`take_async`](TaskQueue::take_async), and an event loop has a [`Listener`], or a [`DueListener`] for what is
+//!   due.
 //! - Each request that takes effect has an entry in the queue's [`Journal`]. Memory keeps the last ones, which
 //!   [`archive`](TaskQueue::archive) copies, and [`close`](TaskQueue::close).
+//! - A program that writes archives to a file survives a crash: [`wait_archived`](TaskQueue::wait_archived) waits until a push is on disk, and
+//!   [`read_from`](TaskJournal::read_from) reads the file back. A journal has payloads as numbers, so that is for numbers alone.
 //! - A [`Queue`] is one of integers.
 //!
 //! All that a thread does before it pushes a payload happens before whatever a thread does after a call that returned this payload.
@@ -52,13 +56,13 @@ mod payload;
 mod raw;
 mod tasks;
 
-pub use calls::{Limited, Number};
+pub use calls::{Limited, Number, Pushed};
 pub use clock::Until;
-pub use error::{Due, Error, NotClosed, NotPushed, NotReadBack};
+pub use error::{Due, Error, NotAllPushed, NotClosed, NotPushed, NotReadBack};
 pub use futures::{Take, TakeDue};
 pub use journal::{Entries, Entry, Item, Journal, ReadBack, Request, TaskJournal};
 pub use key::Key;
-pub use listener::Listener;
+pub use listener::{DueListener, Listener};
 pub use options::{Keeping, Options};
 pub use tasks::{Member, Queue, TaskMember, TaskQueue};
 

@@ -1,4 +1,4 @@
-//! Takes that wait in an event loop: by a file descriptor.
+//! Takes that wait in an event loop: by a file descriptor, of an event or of a timer.
 use crate::error::{Due, Error};
 use crate::key::Key;
 use crate::raw;
@@ -11,9 +11,20 @@ use std::os::unix::io::{AsFd, AsRawFd, BorrowedFd, FromRawFd, RawFd};
 
 extern "C" {
     fn eventfd(count: u32, flags: c_int) -> c_int;
+    fn timerfd_create(clock: c_int, flags: c_int) -> c_int;
 }
 
 const CLOSE_ON_EXEC_AND_NONBLOCKING: c_int = 0o2_004_000;
+const CLOCK_MONOTONIC: c_int = 1;
+
+/// The file of a descriptor that a call has just made, if it made one.
+fn file_of(descriptor: c_int) -> io::Result<File> {
+    if descriptor < 0 {
+        return Err(io::Error::last_os_error());
+    }
+    // SAFETY: nobody else has it.
+    Ok(unsafe { File::from_raw_fd(descriptor) })
+}
 
 /// A member with a file descriptor that is readable once there may be a payload, for event loops: poll(2), mio, `tokio::io::unix::AsyncFd`.
 ///
@@ -48,13 +59,21 @@ impl<T: Send, K: Key> TaskQueue<T, K> {
     pub fn listener(&self) -> io::Result<Listener<T, K>> {
         let member = self.join()?;
         // SAFETY: the call makes a descriptor.
-        let event = unsafe { eventfd(0, CLOSE_ON_EXEC_AND_NONBLOCKING) };
-        if event < 0 {
-            return Err(io::Error::last_os_error());
-        }
-        // SAFETY: nobody else has it.
-        let event = unsafe { File::from_raw_fd(event) };
+        let event = file_of(unsafe { eventfd(0, CLOSE_ON_EXEC_AND_NONBLOCKING) })?;
         Ok(Listener { member, event })
+    }
+
+    /// Joins the queue for an event loop that waits for what is due. Keys are times, as of [`TaskQueue::take_due`].
+    ///
+    /// # Errors
+    ///
+    /// Those of [`TaskQueue::listener`].
+    pub fn due_listener(&self) -> io::Result<DueListener<T, K>> {
+        let member = self.join()?;
+        // SAFETY: the call makes a descriptor.
+        let timer =
+            file_of(unsafe { timerfd_create(CLOCK_MONOTONIC, CLOSE_ON_EXEC_AND_NONBLOCKING) })?;
+        Ok(DueListener { member, timer })
     }
 }
 
@@ -110,6 +129,72 @@ impl<T, K> fmt::Debug for Listener<T, K> {
         f.debug_struct("Listener")
             .field("member", &self.member)
             .field("event", &self.event)
+            .finish()
+    }
+}
+
+/// A member with a file descriptor that is readable once the first payload is due, for event loops: poll(2), mio,
+/// `tokio::io::unix::AsyncFd`. So the loop needs no timer of its own.
+///
+/// Where the descriptor is readable the event loop takes payloads until none is due. It also does so once before it first waits. It never
+/// reads the descriptor.
+///
+/// ```
+/// use flatpq::{Due, TaskQueue};
+/// use std::os::unix::io::AsRawFd;
+/// use std::time::{Duration, Instant};
+///
+/// let queue = TaskQueue::new()?;
+/// let mut listener = queue.due_listener()?;
+/// assert!(listener.as_raw_fd() >= 0);
+/// assert_eq!(listener.take_due()?, Due::Empty);
+/// let later = Instant::now() + Duration::from_secs(3600);
+/// queue.push(later, "in an hour")?;
+/// // Now the descriptor is readable, and the call sets the timer.
+/// assert!(matches!(listener.take_due()?, Due::Later(_)));
+/// queue.push(Instant::now(), "now")?;
+/// // Now it is readable again.
+/// while let Due::Got(_, text) = listener.take_due()? {
+///     assert_eq!(text, "now");
+/// }
+/// # Ok::<(), Box<dyn std::error::Error>>(())
+/// ```
+pub struct DueListener<T, K = u64> {
+    // The member ends first: then nothing sets the timer.
+    member: TaskMember<T, K>,
+    timer: File,
+}
+
+impl<T: Send, K: Key> DueListener<T, K> {
+    /// Takes the first payload out, with its key, if it is due. Else the descriptor becomes readable once the first payload is due, an
+    /// earlier one is pushed, or the queue is shut, or sometimes for nothing. The call never waits.
+    ///
+    /// # Errors
+    ///
+    /// Those of [`TaskMember::take_due`].
+    pub fn take_due(&mut self) -> Result<Due<T, K>, Error> {
+        let found = self.member.taken_due_or_listens(self.timer.as_fd())?;
+        Ok(self.member.shared.keyed(found))
+    }
+}
+
+impl<T, K> AsFd for DueListener<T, K> {
+    fn as_fd(&self) -> BorrowedFd<'_> {
+        self.timer.as_fd()
+    }
+}
+
+impl<T, K> AsRawFd for DueListener<T, K> {
+    fn as_raw_fd(&self) -> RawFd {
+        self.timer.as_raw_fd()
+    }
+}
+
+impl<T, K> fmt::Debug for DueListener<T, K> {
+    fn fmt(&self, f: &mut fmt::Formatter<'_>) -> fmt::Result {
+        f.debug_struct("DueListener")
+            .field("member", &self.member)
+            .field("timer", &self.timer)
             .finish()
     }
 }

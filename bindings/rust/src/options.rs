@@ -36,6 +36,7 @@ pub struct Options {
     entries: u32,
     times: Option<(Instant, Duration)>,
     most_items: u64,
+    tickets: bool,
 }
 
 impl Options {
@@ -99,6 +100,11 @@ impl Options {
         Options { most_items, ..self }
     }
 
+    /// Whether payloads can be removed by ticket ([`TaskQueue::remove`]). Pushes and pops take a little longer then.
+    pub fn tickets(self, tickets: bool) -> Options {
+        Options { tickets, ..self }
+    }
+
     /// Opens a queue.
     ///
     /// # Errors
@@ -118,7 +124,7 @@ impl Options {
             members: self.members,
             keeping: self.keeping,
             entries: self.entries,
-            unused: 0,
+            tickets: u32::from(self.tickets),
             time_zero: times.zero,
             time_unit: times.unit,
             most_items: self.most_items,

@@ -25,7 +25,7 @@ pub struct RawOptions {
     pub members: u32,
     pub keeping: u32,
     pub entries: u32,
-    pub unused: u32,
+    pub tickets: u32,
     pub time_zero: u64,
     pub time_unit: u64,
     pub most_items: u64,
@@ -41,6 +41,7 @@ pub struct RawEntry {
     pub reply: u32,
     pub unused: u32,
     pub item: Item,
+    pub ticket: u64,
 }
 
 /// Room for the text of an entry.
@@ -51,6 +52,7 @@ pub const EMPTY: u32 = 48;
 pub const NOT_DUE: u32 = 50;
 pub const FULL: u32 = 53;
 pub const TORN: u32 = 55;
+pub const GONE: u32 = 58;
 pub const TIMED_OUT: u32 = 62;
 
 #[rustfmt::skip]
@@ -74,8 +76,11 @@ extern "C" {
     pub fn pq_pop_due(member: *mut MemberInside, priority: u64, item: *mut Item, until: u64, number: *mut u64) -> u32;
     pub fn pq_take(member: *mut MemberInside, item: *mut Item, until: u64, number: *mut u64) -> u32;
     pub fn pq_take_due(member: *mut MemberInside, item: *mut Item, until: u64, number: *mut u64) -> u32;
-    pub fn pq_push_many(member: *mut MemberInside, items: *const Item, count: usize, until: u64, done: *mut usize) -> u32;
-    pub fn pq_pop_due_many(member: *mut MemberInside, priority: u64, items: *mut Item, room: usize, until: u64, done: *mut usize) -> u32;
+    pub fn pq_push_many(member: *mut MemberInside, items: *const Item, count: usize, until: u64, done: *mut usize, number: *mut u64) -> u32;
+    pub fn pq_pop_due_many(
+        member: *mut MemberInside, priority: u64, items: *mut Item, room: usize, until: u64, done: *mut usize, number: *mut u64,
+    ) -> u32;
+    pub fn pq_remove(member: *mut MemberInside, ticket: u64, item: *mut Item, until: u64, number: *mut u64) -> u32;
     pub fn pq_size(member: *mut MemberInside, until: u64, size: *mut u64) -> u32;
     pub fn pq_post(member: *mut MemberInside, request: u32, item: Item) -> u32;
     pub fn pq_poll(member: *mut MemberInside, item: *mut Item, number: *mut u64) -> u32;
@@ -83,6 +88,7 @@ extern "C" {
     pub fn pq_take_or_listen(
         member: *mut MemberInside, priority: u64, item: *mut Item, number: *mut u64, notify: Notify, context: *mut c_void,
     ) -> u32;
+    pub fn pq_take_due_or_listen(member: *mut MemberInside, timer: c_int, item: *mut Item, number: *mut u64) -> u32;
     pub fn pq_unlisten(member: *mut MemberInside) -> c_int;
     pub fn pq_notify_fd(context: *mut c_void);
     pub fn pq_archive(member: *mut MemberInside, archived: u64, until: u64, journal: *mut *mut JournalInside) -> u32;

@@ -1,8 +1,8 @@
 //! A queue of payloads, and its members.
 use crate::after;
-use crate::calls::{calls, found, takes, Call, Limited, Number};
+use crate::calls::{calls, found, takes, Call, Limited, Number, Pushed};
 use crate::clock::{Times, Until};
-use crate::error::{Due, Error, NotClosed, NotPushed};
+use crate::error::{Due, Error, NotAllPushed, NotClosed, NotPushed};
 use crate::futures::Slot;
 use crate::journal::{Item, Journal, TaskJournal};
 use crate::key::Key;
@@ -12,6 +12,7 @@ use crate::raw::{self, RawMember, RawOptions, RawQueue};
 use std::cell::Cell;
 use std::marker::PhantomData;
 use std::os::raw::c_void;
+use std::os::unix::io::{AsRawFd, BorrowedFd};
 use std::sync::{Arc, Mutex};
 use std::{fmt, iter};
 
@@ -292,7 +293,8 @@ impl<T: Send, K: Key> TaskMember<T, K> {
         })
     }
 
-    /// The number of the journal entry of the member's last call for a payload, or of its last answer; 0 where that has none.
+    /// The number of the journal entry of the member's last call for a payload, or of its last answer; of a batch that of its first entry; 0
+    /// where that has none.
     ///
     /// ```
     /// let queue = flatpq::TaskQueue::new()?;
@@ -319,6 +321,19 @@ impl<T: Send, K: Key> TaskMember<T, K> {
             let code = unsafe {
                 raw::pq_take_or_listen(member, priority, &mut item, &mut number, notify, context)
             };
+            self.number.set(number);
+            // SAFETY: the call took it out of a queue of such payloads.
+            unsafe { found(code, item) }
+        })
+    }
+
+    // Takes the first payload out if it is due; else the member listens by this timer.
+    pub(crate) fn taken_due_or_listens(&mut self, timer: BorrowedFd<'_>) -> Result<Due<T>, Error> {
+        let (member, timer) = (self.raw.inside(), timer.as_raw_fd());
+        let (mut item, mut number) = (Item::default(), 0);
+        after::calling(|| {
+            // SAFETY: the member is there, and in this call alone; the others are borrowed for it.
+            let code = unsafe { raw::pq_take_due_or_listen(member, timer, &mut item, &mut number) };
             self.number.set(number);
             // SAFETY: the call took it out of a queue of such payloads.
             unsafe { found(code, item) }

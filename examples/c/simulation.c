@@ -42,7 +42,7 @@ int main(void) {
         must(pq_push(own, event, PQ_FOREVER, NULL));
     }
     while (pq_peek(own, events, PQ_FOREVER, NULL) == PQ_OK) {
-        must(pq_pop_due_many(own, events[0].priority, events, AT_ONCE, PQ_FOREVER, &done));
+        must(pq_pop_due_many(own, events[0].priority, events, AT_ONCE, PQ_FOREVER, &done, NULL));
         for (size_t i = 0; i < done; i++) {
             happens(own, events[i], &free_at);
         }

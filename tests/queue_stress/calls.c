@@ -157,22 +157,25 @@ static void by_bound(caller *own) {
     }
 }
 
-/* Pushes or pops several at once. Such calls tell no numbers. */
+/* Pushes or pops several at once. Their entries are consecutive. */
 static void by_batch(caller *own) {
     pq_item items[AT_ONCE];
     size_t done = 0;
+    uint64_t number = 0;
     uint32_t request = below(&own->drawn, 2) == 0 ? PQ_PUSH : PQ_POP;
     uint64_t until = drawn_until(own);
     pq_code code = PQ_OK;
     for (uint32_t i = 0; i < AT_ONCE; i++) {
         items[i] = drawn_item(own);
     }
-    code = request == PQ_PUSH ? pq_push_many(own->member, items, AT_ONCE, until, &done)
-                              : pq_pop_due_many(own->member, UINT64_MAX, items, AT_ONCE, until, &done);
+    code = request == PQ_PUSH ? pq_push_many(own->member, items, AT_ONCE, until, &done, &number)
+                              : pq_pop_due_many(own->member, UINT64_MAX, items, AT_ONCE, until, &done, &number);
     for (size_t i = 0; i < done; i++) {
-        add(&own->outcome, 0, request, PQ_OK, items[i]);
+        add(&own->outcome, number + i, request, PQ_OK, items[i]);
     }
-    if (code == PQ_JOURNAL_FULL) {
+    if ((number > 0) != (done > 0)) {
+        own->outcome.wrong = "a batch returned no number, or one without an entry";
+    } else if (code == PQ_JOURNAL_FULL) {
         own->outcome.full++;
     } else if (code != PQ_OK && !is_late(own, code) && (request == PQ_PUSH || code != PQ_EMPTY || done > 0)) {
         own->outcome.wrong = pq_code_text(code);

@@ -1,8 +1,10 @@
-/* Rounds of threads that wait for items: takers that sleep, with deadlines or without, until items are due, or that listen; pushers of
-   several ways; and one that shuts the queue, at the end or in their midst. All of them end, or the round hangs; and each item that was
-   pushed was taken once, or is left. */
+/* Rounds of threads that wait for items: takers that sleep, with deadlines or without, until items are due, or that listen, by timers where
+   items are to be due; pushers of several ways; and one that shuts the queue, at the end or in their midst. All of them end, or the round
+   hangs; and each item that was pushed was taken once, or is left. */
 #include "stress.h"
 
+#include <poll.h>
+#include <sys/timerfd.h>
 #include <unistd.h>
 
 enum { MOST_PUSHES = 60, LONGEST_SECONDS = 20 };
@@ -32,7 +34,7 @@ typedef struct waiter {
     pthread_t thread;
     pthread_mutex_t lock;
     pthread_cond_t changed;
-    int is_notified;
+    int is_notified, timer;
 } waiter;
 
 /* How many items were taken. */
@@ -76,10 +78,29 @@ static pq_code by_listening(waiter *own, int gives_up, pq_item *item, uint64_t *
     return code;
 }
 
+/* Takes an item once it is due, by a timer, or gives that up after some tries. */
+static pq_code by_timer(waiter *own, int gives_up, pq_item *item, uint64_t *number) {
+    uint32_t tries = gives_up ? below(&own->drawn, 3) + 1 : UINT32_MAX;
+    pq_code code = PQ_EMPTY;
+    while (tries-- > 0) {
+        struct pollfd timer = { own->timer, POLLIN, 0 };
+        code = pq_take_due_or_listen(own->member, own->timer, item, number);
+        if (code != PQ_EMPTY && code != PQ_NOT_DUE) {
+            return code;
+        }
+        (void)poll(&timer, 1, gives_up ? (int)below(&own->drawn, 3) : -1);
+    }
+    (void)pq_unlisten(own->member);
+    return code;
+}
+
 /* Takes an item, or waits for one so long that it takes none. */
 static pq_code takes(waiter *own, pq_item *item, uint64_t *number) {
     way how = own->round->ways[below(&own->drawn, 4)];
     uint64_t until = how == SLEEPS ? PQ_FOREVER : pq_after(below(&own->drawn, 1500000));
+    if (own->round->is_due && (how == LISTENS || how == GIVES_UP)) {
+        return by_timer(own, how == GIVES_UP, item, number);
+    }
     if (own->round->is_due) {
         return pq_take_due(own->member, item, until, number);
     }
@@ -183,11 +204,13 @@ static void starts(waiter *own, const plan *round, uint32_t number, numbers *dra
     own->drawn = numbers_of(any(drawn), number);
     own->outcome.has_joined = !round->is_own;
     own->member = pq_own(round->queue);
+    own->timer = timerfd_create(CLOCK_MONOTONIC, 0);
     own->share = UINT32_MAX;
     if (round->each > 0) {
         uint32_t all = round->pushers * round->each;
         own->share = all / round->takers + (number < all % round->takers);
     }
+    need(own->timer >= 0, "no timer");
     need(pthread_mutex_init(&own->lock, NULL) == 0 && pthread_cond_init(&own->changed, NULL) == 0, "no lock");
     need(round->is_own || pq_join(round->queue, PQ_NOW, &own->member) == PQ_OK, "a thread did not join");
     need(pthread_create(&own->thread, NULL, work, own) == 0, "no thread");
@@ -229,6 +252,7 @@ static int all_run(plan *round, waiter *waiters, numbers *drawn) {
     }
     for (uint32_t i = 0; i < threads; i++) {
         pq_give_back(waiters[i].outcome.has_joined ? waiters[i].member : NULL);
+        close(waiters[i].timer);
         pthread_cond_destroy(&waiters[i].changed);
         pthread_mutex_destroy(&waiters[i].lock);
     }

@@ -18,18 +18,18 @@ static void is_refused_at_its_deadline(void) {
     uint64_t begun = pq_now(), number = 9;
     pq_item item, items[4];
     size_t done = 9;
-    CHECK(pq_push_many(member, many, 0, PQ_FOREVER, &done) == PQ_OK && done == 0);
-    CHECK(pq_push_many(member, many, 4, PQ_NOW, &done) == PQ_FULL && done == 2 && size_of(queue) == 2);
+    CHECK(pq_push_many(member, many, 0, PQ_FOREVER, &done, &number) == PQ_OK && done == 0 && number == 9);
+    CHECK(pq_push_many(member, many, 4, PQ_NOW, &done, &number) == PQ_FULL && done == 2 && number == 1 && size_of(queue) == 2);
     is_full(queue, member, PQ_NOW);
     is_full(queue, member, begun);
     is_full(queue, member, in_ms(20));
-    CHECK(pq_push_many(member, many, 4, in_ms(20), &done) == PQ_FULL && done == 0);
-    CHECK(pq_push_many(member, many, 1, PQ_NOW, &done) == PQ_FULL && done == 0 && pq_now() < begun + 20000000000);
+    CHECK(pq_push_many(member, many, 4, in_ms(20), &done, &number) == PQ_FULL && done == 0 && number == 1);
+    CHECK(pq_push_many(member, many, 1, PQ_NOW, &done, NULL) == PQ_FULL && done == 0 && pq_now() < begun + 20000000000);
     CHECK(pq_pop(member, &item, PQ_FOREVER, NULL) == PQ_OK && pq_push(member, many[2], PQ_NOW, &number) == PQ_OK && number == 4);
     is_full(queue, member, PQ_NOW);
-    CHECK(pq_pop_due_many(member, 5, items, 4, PQ_FOREVER, &done) == PQ_OK && done == 2 && is_item(items[1], 5, 3));
-    CHECK(pq_push_many(member, many, 2, PQ_FOREVER, &done) == PQ_OK && done == 2 && pq_shut(queue) == PQ_OK);
-    CHECK(pq_push(member, item, PQ_FOREVER, NULL) == PQ_SHUT && pq_push_many(member, many, 2, PQ_NOW, &done) == PQ_SHUT && done == 0);
+    CHECK(pq_pop_due_many(member, 5, items, 4, PQ_FOREVER, &done, NULL) == PQ_OK && done == 2 && is_item(items[1], 5, 3));
+    CHECK(pq_push_many(member, many, 2, PQ_FOREVER, &done, &number) == PQ_OK && done == 2 && number == 7 && pq_shut(queue) == PQ_OK);
+    CHECK(pq_push(member, item, PQ_FOREVER, NULL) == PQ_SHUT && pq_push_many(member, many, 2, PQ_NOW, &done, NULL) == PQ_SHUT && done == 0);
     pq_give_back(member);
     pq_journal *journal = closed(queue);
     CHECK(pq_count(journal, NULL) == 8);
@@ -119,7 +119,7 @@ static void notify(void *context) {
     (void)context;
 }
 
-enum { CALLS = 11, POSTED = 6 };
+enum { CALLS = 12, POSTED = 7 };
 
 /* Takes the first item out, by one of the calls that do, or that carry out a posted pop. */
 static void take_by(pq_queue *queue, pq_member *member, int call) {
@@ -136,12 +136,13 @@ static void take_by(pq_queue *queue, pq_member *member, int call) {
     case 1: code = pq_take(own, &item, PQ_FOREVER, NULL); break;
     case 2: code = pq_take_due(member, &item, PQ_NOW, NULL); break;
     case 3: code = pq_pop_due(own, UINT64_MAX, &item, in_ms(FAR), NULL); break;
-    case 4: code = pq_pop_due_many(member, UINT64_MAX, &item, 1, PQ_FOREVER, &done); break;
+    case 4: code = pq_pop_due_many(member, UINT64_MAX, &item, 1, PQ_FOREVER, &done, NULL); break;
     case 5: code = pq_take_or_listen(own, UINT64_MAX, &item, NULL, notify, NULL); break;
-    case 6: CHECK(pq_combine(own) == PQ_OK); break;
-    case 7: CHECK(pq_combine(member) == PQ_OK); break;
-    case 8: CHECK(pq_peek(own, &first, PQ_FOREVER, NULL) == PQ_OK); break;
-    case 9: CHECK(pq_size(own, PQ_FOREVER, &size) == PQ_OK); break;
+    case 6: code = pq_take_due_or_listen(own, -1, &item, NULL); break;
+    case 7: CHECK(pq_combine(own) == PQ_OK); break;
+    case 8: CHECK(pq_combine(member) == PQ_OK); break;
+    case 9: CHECK(pq_peek(own, &first, PQ_FOREVER, NULL) == PQ_OK); break;
+    case 10: CHECK(pq_size(own, PQ_FOREVER, &size) == PQ_OK); break;
     default: CHECK(pq_pop_due(own, 0, &first, PQ_NOW, NULL) == PQ_NOT_DUE); break;
     }
     CHECK(code == PQ_OK && done == 1 && (call >= POSTED || is_item(item, 0, 7)));
@@ -210,7 +211,7 @@ static void as_many_are_woken_as_go_out(void) {
     pq_item items[MANY];
     size_t done;
     fill(&it, MANY, MANY);
-    CHECK(pq_pop_due_many(pq_own(it.queue), UINT64_MAX, items, MANY, PQ_FOREVER, &done) == PQ_OK && done == MANY);
+    CHECK(pq_pop_due_many(pq_own(it.queue), UINT64_MAX, items, MANY, PQ_FOREVER, &done, NULL) == PQ_OK && done == MANY);
     all_return(&it, PQ_OK);
     CHECK(size_of(it.queue) == MANY);
     close_and_free(it.queue);
@@ -311,7 +312,7 @@ static void *take_each(void *own) {
         pq_item items[3];
         size_t done = 0;
         if (tries % 8 == 0) {
-            code = pq_pop_due_many(pq_own(shared), UINT64_MAX, items, 3, until_of(tries), &done);
+            code = pq_pop_due_many(pq_own(shared), UINT64_MAX, items, 3, until_of(tries), &done, NULL);
         } else {
             code = pq_take(pq_own(shared), items, until_of(tries), NULL);
             done = code == PQ_OK;

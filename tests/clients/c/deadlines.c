@@ -29,9 +29,9 @@ static void all_time_out(pq_member *member, uint64_t until) {
     TIMES_OUT(pq_pop_due(member, 9, &item, until, &number));
     TIMES_OUT(pq_take(member, &item, until, &number));
     TIMES_OUT(pq_take_due(member, &item, until, &number));
-    TIMES_OUT(pq_push_many(member, items, 2, until, &done));
+    TIMES_OUT(pq_push_many(member, items, 2, until, &done, NULL));
     CHECK(done == 0);
-    TIMES_OUT(pq_pop_due_many(member, 9, items, 2, until, &done));
+    TIMES_OUT(pq_pop_due_many(member, 9, items, 2, until, &done, NULL));
     CHECK(done == 0);
     TIMES_OUT(pq_archive(member, 0, until, &journal));
     CHECK(journal == NULL && pq_combine(member) == PQ_TIMED_OUT);

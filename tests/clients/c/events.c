@@ -168,7 +168,7 @@ static void two_pushes_notify_two(void) {
     for (int batch = 0; batch < 2; batch++) {
         CHECK(take(&loops[0]) == PQ_EMPTY && take(&loops[1]) == PQ_EMPTY);
         CHECK(batch || (pq_post(posting[0], PQ_PUSH, items[0]) == PQ_OK && pq_post(posting[1], PQ_PUSH, items[1]) == PQ_OK));
-        CHECK(batch ? pq_push_many(third, items, 2, PQ_FOREVER, &done) == PQ_OK && done == 2 : pq_combine(third) == PQ_OK);
+        CHECK(batch ? pq_push_many(third, items, 2, PQ_FOREVER, &done, NULL) == PQ_OK && done == 2 : pq_combine(third) == PQ_OK);
         for (int i = 0; i < 2; i++) {
             CHECK(notified(&loops[i]) == 1 && take(&loops[i]) == PQ_OK && (batch || pq_poll(posting[i], &item, NULL) == PQ_OK));
         }

@@ -16,6 +16,7 @@ static void stays_full(uint32_t entries, int has_item) {
     for (int i = 0; i < 3; i++) {
         refuses_requests(i % 2 == 0 ? member : other, PQ_JOURNAL_FULL, i == 2 ? PQ_NOW : PQ_FOREVER);
         CHECK(pq_take_or_listen(member, 0, &item, NULL, notes_nothing, NULL) == PQ_JOURNAL_FULL && pq_unlisten(member) == 0);
+        CHECK(pq_take_due_or_listen(member, -1, &item, NULL) == PQ_JOURNAL_FULL && pq_unlisten(member) == 0);
     }
     CHECK(pq_post(member, PQ_PUSH, item) == PQ_OK && pq_combine(other) == PQ_OK && pq_poll(member, &item, NULL) == PQ_JOURNAL_FULL);
     CHECK(pq_post(member, PQ_POP, item) == PQ_OK && pq_combine(member) == PQ_OK && pq_poll(member, &item, NULL) == PQ_JOURNAL_FULL);

@@ -1,8 +1,9 @@
 /* Threads that wait for an item, for what is due and for a member, and members that listen, use no processor: those that wait for items sleep
-   without a look in between. Once there are items each gets one. */
+   without a look in between, and so does one that waits by a timer. Once there are items each gets one. */
 #include "../check.h"
 
 #include <sys/resource.h>
+#include <sys/timerfd.h>
 
 enum { THREADS = 6, IDLE = 400 /* milliseconds */ };
 /* A queue without an item, and one with an item that is due in an hour. */
@@ -22,6 +23,19 @@ static void *wait_for_a_member(void *unused) {
     (void)unused;
     CHECK(pq_join(queue, PQ_FOREVER, &member) == PQ_OK);
     pq_give_back(member);
+    return NULL;
+}
+
+static void *wait_by_timer(void *unused) {
+    struct pollfd timer = { 0, POLLIN, 0 };
+    pq_item item;
+    pq_code code;
+    (void)unused;
+    timer.fd = timerfd_create(CLOCK_MONOTONIC, 0);
+    while ((code = pq_take_due_or_listen(pq_own(timers), timer.fd, &item, NULL)) != PQ_OK) {
+        CHECK(code == PQ_NOT_DUE && poll(&timer, 1, -1) == 1);
+    }
+    CHECK(item.priority == 0 && close(timer.fd) == 0);
     return NULL;
 }
 
@@ -58,7 +72,7 @@ static void is_idle(int waits_for_member) {
 }
 
 int main(void) {
-    pthread_t threads[THREADS], joining;
+    pthread_t threads[THREADS], joining, by_timer;
     pq_member *member, *other, *listening;
     pq_item item;
     queue = opened(THREADS);
@@ -71,18 +85,20 @@ int main(void) {
     for (intptr_t i = 0; i < THREADS; i++) {
         threads[i] = started(wait_for_an_item, (void *)i);
     }
+    by_timer = started(wait_by_timer, NULL);
     sleep_ms(50);
     is_idle(0);
     /* Two thirds of the threads have members of the queue, and two members were joined. */
     joining = started(wait_for_a_member, NULL);
     sleep_ms(10);
     is_idle(1);
-    for (int i = 0; i < THREADS; i++) {
-        CHECK(pq_push(i < THREADS / 3 ? pq_own(timers) : member, item_of(0, 1), PQ_FOREVER, NULL) == PQ_OK);
+    for (int i = 0; i <= THREADS; i++) {
+        CHECK(pq_push(i <= THREADS / 3 ? pq_own(timers) : member, item_of(0, 1), PQ_FOREVER, NULL) == PQ_OK);
     }
     for (int i = 0; i < THREADS; i++) {
         ended(threads[i]);
     }
+    ended(by_timer);
     ended(joining);
     pq_give_back(member);
     pq_give_back(other);

@@ -1,15 +1,16 @@
 /* Many events: threads that push, sleep for an item and wait by epoll take each item once, until the queue is shut; and a member that listens
-   is notified also after more events than 16 bits count. */
+   is notified also after more events than 16 bits count. The loops wait for any item, or for what is due: by a deadline of epoll, or by timers. */
 #include "../check.h"
 
 #include <string.h>
 #include <sys/epoll.h>
 #include <sys/eventfd.h>
+#include <sys/timerfd.h>
 #include <unistd.h>
 
 enum { LOOPS = 2, SLEEPERS = 2, PUSHERS = 2, MOST = 5000 };
 static pq_queue *queue;
-static int items, due_only, got[PUSHERS * MOST];
+static int items, due_only, by_timers, got[PUSHERS * MOST];
 
 static void take(pq_item item) {
     CHECK(!due_only || item.priority <= pq_now());
@@ -47,16 +48,22 @@ struct loop {
     int is_over;
 };
 
+static pq_code take_or_listen(const struct loop *it, pq_item *item) {
+    if (by_timers) {
+        return pq_take_due_or_listen(it->member, it->fd, item, NULL);
+    }
+    return pq_take_or_listen(it->member, due_only ? pq_now() : UINT64_MAX, item, NULL, pq_notify_fd, (void *)(intptr_t)it->fd);
+}
+
 /* Takes all that there is. */
 static void take_those_there(struct loop *it) {
-    void *context = (void *)(intptr_t)it->fd;
     pq_item item;
     pq_code code;
-    while ((code = pq_take_or_listen(it->member, due_only ? pq_now() : UINT64_MAX, &item, NULL, pq_notify_fd, context)) == PQ_OK) {
+    while ((code = take_or_listen(it, &item)) == PQ_OK) {
         take(item);
     }
     CHECK(code == PQ_EMPTY || code == PQ_SHUT || (due_only && code == PQ_NOT_DUE));
-    it->next = code == PQ_NOT_DUE ? item.priority : PQ_FOREVER;
+    it->next = code == PQ_NOT_DUE && !by_timers ? item.priority : PQ_FOREVER;
     it->is_over = code == PQ_SHUT;
 }
 
@@ -71,18 +78,21 @@ static void *loop_for_all(void *unused) {
     const int all = epoll_create1(0);
     (void)unused;
     for (uint64_t i = 0; i < LOOPS; i++) {
-        const struct loop it = { joined(queue), eventfd(1, EFD_NONBLOCK), PQ_FOREVER, 0 };
+        const struct loop it = { joined(queue), by_timers ? timerfd_create(CLOCK_MONOTONIC, 0) : eventfd(1, EFD_NONBLOCK), PQ_FOREVER, 0 };
         struct epoll_event wanted = { EPOLLIN, { NULL } };
         wanted.data.u64 = i;
         loops[i] = it;
         CHECK(epoll_ctl(all, EPOLL_CTL_ADD, it.fd, &wanted) == 0);
+        if (by_timers) {
+            take_those_there(&loops[i]);
+        }
     }
     while (!loops[0].is_over || !loops[1].is_over) {
         struct epoll_event one;
         uint64_t next = loops[0].next < loops[1].next ? loops[0].next : loops[1].next, count;
         int found = epoll_wait(all, &one, 1, milliseconds_to(next));
         CHECK(found == 1 || next != PQ_FOREVER);
-        CHECK(found == 0 || read(loops[one.data.u64].fd, &count, sizeof count) == sizeof count);
+        CHECK(found == 0 || by_timers || read(loops[one.data.u64].fd, &count, sizeof count) == sizeof count);
         for (uint64_t i = 0; i < LOOPS; i++) {
             if (!loops[i].is_over && ((found == 1 && one.data.u64 == i) || loops[i].next <= pq_now())) {
                 take_those_there(&loops[i]);
@@ -151,6 +161,9 @@ int main(void) {
     it_is_notified_after_many();
     each_item_comes_out_once(0, 0);
     each_item_comes_out_once(SLEEPERS, 0);
+    each_item_comes_out_once(0, 1);
+    each_item_comes_out_once(SLEEPERS, 1);
+    by_timers = 1;
     each_item_comes_out_once(0, 1);
     each_item_comes_out_once(SLEEPERS, 1);
     return 0;

@@ -104,7 +104,7 @@ static int pushed_at_last(pq_member *member, pq_item item, uint64_t number) {
         refuse_after(-1);
         return 0;
     }
-    CHECK(code == PQ_NO_MEMORY && refused == 1 && pq_push_many(member, &item, 1, PQ_FOREVER, &done) == PQ_NO_MEMORY && done == 0);
+    CHECK(code == PQ_NO_MEMORY && refused == 1 && pq_push_many(member, &item, 1, PQ_FOREVER, &done, NULL) == PQ_NO_MEMORY && done == 0);
     refuse_after(-1);
     CHECK(pq_push(member, item, PQ_FOREVER, &got) == PQ_OK && got == number);
     return 1;
@@ -125,14 +125,17 @@ static size_t pushed_while_granted(const pq_options *options, const pq_item *ite
     const long had = out;
     pq_queue *queue = NULL;
     size_t done = count + 1, others = count;
+    uint64_t number = 9;
     CHECK(pq_open(options, &queue) == PQ_OK);
     pq_member *member = joined(queue);
     refuse_after(asked);
-    pq_code code = pq_push_many(member, items, count, PQ_FOREVER, &done);
+    pq_code code = pq_push_many(member, items, count, PQ_FOREVER, &done, &number);
+    CHECK(number == (done > 0 ? 1 : 9));
     CHECK(code == PQ_OK ? done == count && refused == 0 : code == PQ_NO_MEMORY && done < count && refused == 1);
     refuse_after(-1);
     if (asked % 2 == 0) {
-        CHECK(pq_push_many(member, items + done, count - done, PQ_FOREVER, &others) == PQ_OK && others == count - done);
+        CHECK(pq_push_many(member, items + done, count - done, PQ_FOREVER, &others, &number) == PQ_OK && others == count - done);
+        CHECK(number == (count > done ? done + 1 : 1));
         are_left(member, items, count);
     } else {
         are_left(member, items, done);
@@ -185,7 +188,7 @@ static void asks_for_no_memory(pq_member *member, pq_member *other, uint64_t ent
     CHECK(pq_pop(other, &item, PQ_FOREVER, &number) == PQ_OK && number == entries + 2 && item.value == entries);
     CHECK(pq_pop_due(other, 0, &item, PQ_FOREVER, NULL) == PQ_NOT_DUE && item.value == entries - 1);
     CHECK(pq_take(other, &item, PQ_FOREVER, NULL) == PQ_OK && pq_take_due(other, &item, PQ_FOREVER, NULL) == PQ_OK);
-    CHECK(pq_pop_due_many(member, 4, items, 2, PQ_FOREVER, &done) == PQ_OK && done == 2 && is_item(items[1], 4, entries - 4));
+    CHECK(pq_pop_due_many(member, 4, items, 2, PQ_FOREVER, &done, NULL) == PQ_OK && done == 2 && is_item(items[1], 4, entries - 4));
     CHECK(pq_post(member, PQ_POP, item) == PQ_OK && pq_combine(other) == PQ_OK && pq_poll(member, &item, NULL) == PQ_OK);
     CHECK(pq_place(member) < 2080 && is_item(item, 5, entries - 5) && refused == 0);
     refuse_after(-1);

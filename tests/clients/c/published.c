@@ -37,7 +37,7 @@ static void hand_on(pq_member *member, unsigned hop, pq_item item) {
     size_t done = 0;
     CHECK((hop % 3 == 0   ? post(member, PQ_PUSH, &item)
            : hop % 3 == 1 ? pq_push(member, item, PQ_FOREVER, NULL)
-                          : pq_push_many(member, &item, 1, PQ_FOREVER, &done)) == PQ_OK);
+                          : pq_push_many(member, &item, 1, PQ_FOREVER, &done, NULL)) == PQ_OK);
 }
 
 static void ignores(void *context) {
@@ -45,7 +45,7 @@ static void ignores(void *context) {
 }
 
 /* The first four calls use no mutex, by which ThreadSanitizer would think that threads are in order. */
-enum { AT_ONCE = 4, ALL = 7 };
+enum { AT_ONCE = 4, ALL = 8 };
 
 static pq_code get(pq_member *member, unsigned way, pq_item *item) {
     size_t done = 0;
@@ -56,13 +56,16 @@ static pq_code get(pq_member *member, unsigned way, pq_item *item) {
     case 1:
         return pq_pop_due(member, UINT64_MAX, item, PQ_FOREVER, NULL);
     case 2:
-        return pq_pop_due_many(member, UINT64_MAX, item, 1, PQ_FOREVER, &done);
+        return pq_pop_due_many(member, UINT64_MAX, item, 1, PQ_FOREVER, &done, NULL);
     case 3:
         return post(member, PQ_POP, item);
     case 4:
         return pq_take(member, item, in_ms(1), NULL);
     case 5:
         return pq_take_due(member, item, in_ms(1), NULL);
+    case 6:
+        code = pq_take_due_or_listen(member, -1, item, NULL);
+        return code == PQ_NO_TIMER ? PQ_EMPTY : code;
     default:
         code = pq_take_or_listen(member, UINT64_MAX, item, NULL, ignores, NULL);
         pq_unlisten(member);

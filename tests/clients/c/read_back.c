@@ -107,16 +107,28 @@ static void refuses_what_may_not_come_next(void) {
         "3 3 5 pop got 6 2\n", "3 3 5 pop empty\n", "3 3 5 least least 5 2\n", "garbage\n", "\n", "3 3 5 pop got 5 1 \n",
         "3 3 5 pop got 5 1\r\n", "3 3 5 pop\n", "3 70000 1 pop got 5 1\n", "3,3,5,pop,5,1\n", "{\"number\": 3}\n",
         "3 3 5 push 18446744073709551616 1 pushed\n" };
-    char longest[400];
     for (size_t i = 0; i < sizeof unlawful / sizeof *unlawful; i++) {
         is_refused(unlawful[i], 3);
     }
-    memset(longest, '3', sizeof longest);
-    longest[sizeof longest - 1] = 0;
-    is_refused(longest, 3);
-    longest[sizeof longest - 2] = '\n';
-    is_refused(longest, 3);
     is_refused("3 3 5 pop got 5 1\n3 3 6 pop got 6 2\n", 4);
+}
+
+/* A last line of any length is left out, as a crash may leave blocks of zeros there; one that has a line feed is refused. */
+static void leaves_a_long_one_out(void) {
+    const size_t lengths[] = { 159, 160, 161, 10239, 10240, 10241, 50000 };
+    static char text[60000] = PUSHED;
+    const size_t begin = strlen(PUSHED);
+    for (size_t i = 0; i < 2 * sizeof lengths / sizeof *lengths; i++) {
+        const size_t length = begin + lengths[i / 2];
+        pq_journal *journal;
+        uint64_t line;
+        memset(text + begin, i % 2 ? '3' : 0, sizeof text - begin);
+        CHECK(reads(text, length, &journal, &line) == PQ_TORN && line == 2 && pq_count(journal, NULL) == 2);
+        pq_journal_free(journal);
+        text[length] = '\n';
+        CHECK(reads(text, length + 1, &journal, &line) == PQ_NOT_LAWFUL && line == 3);
+        CHECK(reads(text, length + 20, &journal, &line) == PQ_NOT_LAWFUL && line == 3);
+    }
 }
 
 static void leaves_a_torn_line_out(void) {
@@ -163,6 +175,7 @@ int main(void) {
     keeps_the_last();
     refuses_what_may_not_come_next();
     leaves_a_torn_line_out();
+    leaves_a_long_one_out();
     a_read_fails();
     a_read_fails_midway();
     return 0;

@@ -6,14 +6,14 @@
 #include <string.h>
 
 /* An opening that this code ends, and one with the same that it doesn't. */
-static pq_code opening(uint32_t members, uint32_t keeping, uint32_t entries, uint32_t unused) {
+static pq_code opening(uint32_t members, uint32_t keeping, uint32_t entries, uint32_t tickets) {
     pq_options options = { 0, 0, 0, 0, 5, 6, 0 };
     pq_queue *queue = (pq_queue *)&options;
     pq_code code;
     options.members = members;
     options.keeping = keeping;
     options.entries = entries;
-    options.unused = unused;
+    options.tickets = tickets;
     code = pq_open(&options, &queue);
     CHECK((code == PQ_OK) == (queue != NULL));
     pq_free(queue, NULL, NULL);
@@ -29,7 +29,7 @@ static void refuses_openings(void) {
     CHECK(opening(64, PQ_FILLS, 1048576, 0) == PQ_OK);
     CHECK(opening(65, PQ_FORGETS, 0, 0) == PQ_BAD_OPTION && opening(UINT32_MAX, PQ_FILLS, 10, 0) == PQ_BAD_OPTION);
     CHECK(opening(1, 3, 0, 0) == PQ_BAD_OPTION && opening(1, UINT32_MAX, 65536, 0) == PQ_BAD_OPTION);
-    CHECK(opening(1, PQ_FORGETS, 0, 1) == PQ_BAD_OPTION);
+    CHECK(opening(1, PQ_FORGETS, 0, 1) == PQ_OK && opening(1, PQ_FORGETS, 0, 2) == PQ_BAD_OPTION);
     for (uint32_t keeping = PQ_FORGETS; keeping <= PQ_REFUSES; keeping++) {
         CHECK(opening(1, keeping, 1, 0) == PQ_BAD_OPTION && opening(1, keeping, 65535, 0) == PQ_BAD_OPTION);
         CHECK(opening(1, keeping, 16777217, 0) == PQ_BAD_OPTION && opening(1, keeping, UINT32_MAX, 0) == PQ_BAD_OPTION);
@@ -93,7 +93,7 @@ static void refuses_pushes_once_shut(void) {
     size_t done = 9;
     CHECK(pq_push(member, item_of(5, 6), PQ_FOREVER, NULL) == PQ_OK && pq_shut(queue) == PQ_OK && pq_shut(queue) == PQ_OK);
     CHECK(pq_push(member, items[0], PQ_FOREVER, &number) == PQ_SHUT && pq_push(member, items[0], PQ_NOW, NULL) == PQ_SHUT && number == 9);
-    CHECK(pq_push_many(member, items, 2, PQ_FOREVER, &done) == PQ_SHUT && done == 0 && pq_post(member, PQ_PUSH, items[0]) == PQ_SHUT);
+    CHECK(pq_push_many(member, items, 2, PQ_FOREVER, &done, NULL) == PQ_SHUT && done == 0 && pq_post(member, PQ_PUSH, items[0]) == PQ_SHUT);
     CHECK(pq_peek(member, &item, PQ_FOREVER, &number) == PQ_OK && is_item(item, 5, 6) && number == 2);
     CHECK(pq_take_or_listen(member, 4, &item, NULL, notes_nothing, NULL) == PQ_NOT_DUE && pq_unlisten(member) == 1);
     CHECK(pq_take(member, &item, PQ_FOREVER, &number) == PQ_OK && number == 3);

@@ -18,18 +18,19 @@ static inline void refuses_requests(pq_member *member, pq_code code, uint64_t un
     CHECK(pq_pop(member, &item, until, &number) == code && pq_pop(member, &item, until, NULL) == code);
     CHECK(pq_peek(member, &item, until, &number) == code && pq_pop_due(member, 9, &item, until, &number) == code);
     CHECK(pq_take(member, &item, until, &number) == code && pq_take_due(member, &item, until, &number) == code);
-    CHECK(pq_push_many(member, pushed, 2, until, &done) == code && done == 0);
+    CHECK(pq_push_many(member, pushed, 2, until, &done, NULL) == code && done == 0);
     done = 9;
-    CHECK(pq_pop_due_many(member, 9, items, 2, until, &done) == code && done == 0);
+    CHECK(pq_pop_due_many(member, 9, items, 2, until, &done, NULL) == code && done == 0);
     CHECK(is_item(item, 7, 8) && is_item(items[0], 7, 8) && is_item(items[1], 7, 8) && number == 9);
 }
 
-/* So are calls that post a request, and one that listens. */
+/* So are calls that post a request, and those that listen. */
 static inline void refuses_posts(pq_member *member, pq_code code) {
     pq_item item = item_of(7, 8);
     uint64_t number = 9;
     CHECK(pq_post(member, PQ_PUSH, item) == code && pq_post(member, PQ_POP, item) == code && pq_post(member, PQ_PEEK, item) == code);
     CHECK(pq_take_or_listen(member, 9, &item, &number, notes_nothing, NULL) == code && pq_unlisten(member) == 0);
+    CHECK(pq_take_due_or_listen(member, -1, &item, &number) == code && pq_unlisten(member) == 0);
     CHECK(is_item(item, 7, 8) && number == 9);
 }
 

@@ -25,13 +25,15 @@ static void has_requests(void) {
     HAS(pq_code, pq_pop_due, (pq_member *, uint64_t, pq_item *, uint64_t, uint64_t *));
     HAS(pq_code, pq_take, (pq_member *, pq_item *, uint64_t, uint64_t *));
     HAS(pq_code, pq_take_due, (pq_member *, pq_item *, uint64_t, uint64_t *));
-    HAS(pq_code, pq_push_many, (pq_member *, const pq_item *, size_t, uint64_t, size_t *));
-    HAS(pq_code, pq_pop_due_many, (pq_member *, uint64_t, pq_item *, size_t, uint64_t, size_t *));
+    HAS(pq_code, pq_push_many, (pq_member *, const pq_item *, size_t, uint64_t, size_t *, uint64_t *));
+    HAS(pq_code, pq_pop_due_many, (pq_member *, uint64_t, pq_item *, size_t, uint64_t, size_t *, uint64_t *));
+    HAS(pq_code, pq_remove, (pq_member *, uint64_t, pq_item *, uint64_t, uint64_t *));
     HAS(pq_code, pq_size, (pq_member *, uint64_t, uint64_t *));
     HAS(pq_code, pq_post, (pq_member *, uint32_t, pq_item));
     HAS(pq_code, pq_poll, (pq_member *, pq_item *, uint64_t *));
     HAS(pq_code, pq_combine, (pq_member *));
     HAS(pq_code, pq_take_or_listen, (pq_member *, uint64_t, pq_item *, uint64_t *, notify *, void *));
+    HAS(pq_code, pq_take_due_or_listen, (pq_member *, int, pq_item *, uint64_t *));
     HAS(int, pq_unlisten, (pq_member *));
     HAS(void, pq_notify_fd, (void *));
 }
@@ -63,12 +65,13 @@ static void has_other_calls(void) {
 
 static void has_constants(void) {
     const pq_options options = { 1, PQ_FORGETS, 2, 0, UINT64_MAX, UINT64_MAX - 1, UINT64_MAX - 2 };
-    const pq_entry entry = { UINT64_MAX, UINT64_MAX - 1, 3, 4, 5, 0, { UINT64_MAX - 2, UINT64_MAX - 3 } };
-    CHECK(sizeof options == 40 && options.members == 1 && options.keeping == 0 && options.entries == 2 && options.unused == 0);
+    const pq_entry entry = { UINT64_MAX, UINT64_MAX - 1, 3, 4, 5, 0, { UINT64_MAX - 2, UINT64_MAX - 3 }, 6 };
+    CHECK(sizeof options == 40 && options.members == 1 && options.keeping == 0 && options.entries == 2 && options.tickets == 0);
     CHECK(options.time_zero == UINT64_MAX && options.time_unit == UINT64_MAX - 1 && options.most_items == UINT64_MAX - 2);
-    CHECK(sizeof entry == 48 && entry.number == UINT64_MAX && entry.serial == UINT64_MAX - 1 && entry.place == 3 && entry.request == 4);
+    CHECK(sizeof entry == 56 && entry.ticket == 6 && entry.number == UINT64_MAX && entry.serial == UINT64_MAX - 1);
+    CHECK(entry.place == 3 && entry.request == 4);
     CHECK(entry.reply == 5 && entry.unused == 0 && sizeof entry.item == 16 && is_item(entry.item, UINT64_MAX - 2, UINT64_MAX - 3));
-    CHECK(PQ_FORGETS == 0 && PQ_REFUSES == 1 && PQ_FILLS == 2 && PQ_PUSH == 0 && PQ_POP == 1 && PQ_PEEK == 2);
+    CHECK(PQ_FORGETS == 0 && PQ_REFUSES == 1 && PQ_FILLS == 2 && PQ_PUSH == 0 && PQ_POP == 1 && PQ_PEEK == 2 && PQ_REMOVE == 3);
     CHECK(PQ_NOW == 0 && PQ_FOREVER == UINT64_MAX && PQ_TEXT_ROOM == 160);
     CHECK(PQ_VERSION == 10000 * PQ_VERSION_MAJOR + 100 * PQ_VERSION_MINOR + PQ_VERSION_PATCH && pq_version() == PQ_VERSION);
 }
@@ -77,8 +80,9 @@ static void has_constants(void) {
 static void has_codes(void) {
     const pq_code codes[] = { PQ_OK, PQ_BAD_OPTION, PQ_NO_MEMORY, PQ_JOURNAL_FULL, PQ_EXHAUSTED, PQ_NOT_WRITTEN, PQ_MEMBERS_LEFT,
         PQ_ALL_JOINED, PQ_NO_MEMBER, PQ_PENDING, PQ_NOT_PENDING, PQ_BAD_REQUEST, PQ_NO_ENTRY, PQ_EMPTY, PQ_FORGOTTEN, PQ_NOT_DUE,
-        PQ_SHUT, PQ_UNARCHIVED, PQ_FULL, PQ_NOT_LAWFUL, PQ_TORN, PQ_NOT_READ, PQ_FORKED, PQ_PROCESSOR, PQ_TIMED_OUT, PQ_CLOSED };
-    const int numbers[] = { 0, 5, 6, 10, 11, 31, 40, 41, 42, 43, 44, 45, 46, 48, 49, 50, 51, 52, 53, 54, 55, 56, 60, 61, 62, 63 };
+        PQ_SHUT, PQ_UNARCHIVED, PQ_FULL, PQ_NOT_LAWFUL, PQ_TORN, PQ_NOT_READ, PQ_NO_TIMER, PQ_GONE, PQ_NO_TICKETS, PQ_FORKED, PQ_PROCESSOR,
+        PQ_TIMED_OUT, PQ_CLOSED };
+    const int numbers[] = { 0, 5, 6, 10, 11, 31, 40, 41, 42, 43, 44, 45, 46, 48, 49, 50, 51, 52, 53, 54, 55, 56, 57, 58, 59, 60, 61, 62, 63 };
     const size_t count = sizeof codes / sizeof *codes;
     const char *unknown = pq_code_text(64);
     CHECK(count == sizeof numbers / sizeof *numbers && unknown != NULL && strcmp(unknown, pq_code_text(UINT32_MAX)) == 0);
@@ -128,7 +132,7 @@ static void has_times(void) {
 int main(void) {
     has_requests();
     has_other_calls();
-    CHECK(calls == 37);
+    CHECK(calls == 39);
     has_constants();
     has_codes();
     has_times();

@@ -15,7 +15,7 @@ static void pushes_are_refused(void) {
     CHECK(pq_shut(queue) == PQ_OK && pq_shut(queue) == PQ_OK);
     CHECK(pq_push(member, item, PQ_FOREVER, &number) == PQ_SHUT && pq_push(member, item, PQ_NOW, &number) == PQ_SHUT && number == 9);
     CHECK(pq_push(pq_own(queue), item, in_ms(1000), &number) == PQ_SHUT && number == 9);
-    CHECK(pq_push_many(member, &item, 1, PQ_FOREVER, &done) == PQ_SHUT && done == 0);
+    CHECK(pq_push_many(member, &item, 1, PQ_FOREVER, &done, NULL) == PQ_SHUT && done == 0);
     CHECK(pq_post(member, PQ_PUSH, item) == PQ_SHUT && pq_poll(member, &item, NULL) == PQ_NOT_PENDING);
     /* What was posted before is carried out, and other requests are. */
     CHECK(pq_combine(member) == PQ_OK && pq_poll(other, &item, &number) == PQ_OK && number == 2);

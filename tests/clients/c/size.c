@@ -20,13 +20,13 @@ static void follows_each_call(void) {
     is_of(queue, member, 0);
     CHECK(pq_push(member, item_of(9, 9), PQ_FOREVER, NULL) == PQ_OK && pq_push(pq_own(queue), item_of(1, 1), PQ_NOW, NULL) == PQ_OK);
     is_of(queue, member, 2);
-    CHECK(pq_push_many(member, many, 3, PQ_FOREVER, &done) == PQ_OK && done == 3);
+    CHECK(pq_push_many(member, many, 3, PQ_FOREVER, &done, NULL) == PQ_OK && done == 3);
     is_of(queue, member, 5);
     CHECK(pq_peek(member, &item, PQ_FOREVER, NULL) == PQ_OK && pq_pop_due(member, 0, &item, PQ_FOREVER, NULL) == PQ_NOT_DUE);
     is_of(queue, member, 5);
     CHECK(pq_pop(member, &item, PQ_FOREVER, NULL) == PQ_OK && pq_take(member, &item, PQ_FOREVER, NULL) == PQ_OK && is_item(item, 3, 3));
     is_of(queue, member, 3);
-    CHECK(pq_pop_due_many(member, 5, items, 3, PQ_FOREVER, &done) == PQ_OK && done == 2);
+    CHECK(pq_pop_due_many(member, 5, items, 3, PQ_FOREVER, &done, NULL) == PQ_OK && done == 2);
     is_of(queue, member, 1);
     /* The count carries out what was posted. */
     CHECK(pq_post(poster, PQ_PUSH, item_of(2, 2)) == PQ_OK);

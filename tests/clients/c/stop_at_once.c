@@ -32,7 +32,7 @@ static void take(pq_queue *queue, pq_member *member, int call) {
     switch (call) {
     case 0: code = pq_pop(member, &item, PQ_FOREVER, NULL); break;
     case 1: code = pq_pop_due(member, UINT64_MAX, &item, PQ_FOREVER, NULL); break;
-    case 2: code = pq_pop_due_many(member, UINT64_MAX, &item, 1, PQ_FOREVER, &done); break;
+    case 2: code = pq_pop_due_many(member, UINT64_MAX, &item, 1, PQ_FOREVER, &done, NULL); break;
     case 3: code = pq_take(member, &item, in_ms(60000), NULL); break;
     case 4: code = pq_take_or_listen(member, UINT64_MAX, &item, NULL, notify, NULL); break;
     case 5: CHECK(pq_post(member, PQ_POP, item) == PQ_OK && pq_combine(member) == PQ_OK); code = pq_poll(member, &item, NULL); break;

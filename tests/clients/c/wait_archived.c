@@ -2,6 +2,10 @@
    What the archiver did before happens before what the thread does after. */
 #include "../check.h"
 
+#include <sched.h>
+#include <signal.h>
+#include <string.h>
+
 enum { THREADS = 4 };
 
 static void archives(pq_queue *queue, uint64_t archived) {
@@ -128,6 +132,55 @@ static void end_with_the_queue(int is_closed) {
     }
 }
 
+/* Whether a handler has stopped the thread, and whether that may go on. */
+static int is_stopped, goes_on, polled;
+
+static void stop(int number) {
+    (void)number;
+    set(&is_stopped, 1);
+    while (!is_set(&goes_on)) {
+        sched_yield();
+    }
+}
+
+static void *polls(void *at) {
+    waiting *own = (waiting *)at;
+    while ((own->code = pq_wait_archived(own->queue, own->number, PQ_NOW)) == PQ_TIMED_OUT) {
+        set(&polled, polled + 1);
+    }
+    return NULL;
+}
+
+/* The entry is archived, and then the queue is closed, while a thread stands still at some moment of its call. */
+static void what_is_archived_before_a_close_is_so(void) {
+    const uint32_t times = requests(200);
+    struct sigaction handles;
+    memset(&handles, 0, sizeof handles);
+    handles.sa_handler = stop;
+    CHECK(sigaction(SIGUSR1, &handles, NULL) == 0);
+    for (uint32_t i = 0; i < times; i++) {
+        pq_queue *queue = opened_as(1, PQ_FILLS, 4);
+        waiting one = { 0, NULL, 1, PQ_OK, 0 };
+        one.queue = queue;
+        pushes(queue, 1);
+        polled = is_stopped = goes_on = 0;
+        one.thread = started(polls, &one);
+        while (is_set(&polled) < 20) {
+            sched_yield();
+        }
+        CHECK(pthread_kill(one.thread, SIGUSR1) == 0);
+        while (!is_set(&is_stopped)) {
+            sched_yield();
+        }
+        archives(queue, 1);
+        CHECK(pq_close(queue, NULL) == PQ_OK);
+        set(&goes_on, 1);
+        ended(one.thread);
+        CHECK(one.code == PQ_OK);
+        pq_free(queue, NULL, NULL);
+    }
+}
+
 int main(void) {
     returns_in_time();
     counts_what_it_is_passed();
@@ -136,5 +189,6 @@ int main(void) {
     one_archive_wakes_all();
     end_with_the_queue(1);
     end_with_the_queue(0);
+    what_is_archived_before_a_close_is_so();
     return 0;
 }

@@ -10,6 +10,7 @@
 #include <stdarg.h>
 #include <string.h>
 #include <sys/syscall.h>
+#include <sys/timerfd.h>
 #include <unistd.h>
 
 void *__real_malloc(size_t size);
@@ -292,6 +293,32 @@ static void listen(void) {
     CHECK(code == expected && notified <= 1);
 }
 
+/* The same by a timer, which is readable once something has come; or sooner, where a push is being posted to a queue that is shut. */
+static void listen_by_timer(void) {
+    struct pollfd timer = { 0, POLLIN, 0 };
+    pq_item item;
+    pq_code code = PQ_EMPTY;
+    timer.fd = timerfd_create(CLOCK_MONOTONIC, 0);
+    while ((code = pq_take_due_or_listen(taker, timer.fd, &item, NULL)) == PQ_EMPTY || code == PQ_NOT_DUE) {
+        if (!has_come) {
+            come();
+        }
+        CHECK(poll(&timer, 1, 60000) == 1);
+    }
+    CHECK(code == expected && pq_unlisten(taker) == 0 && close(timer.fd) == 0);
+}
+
+/* One that is set for an item that is due in an hour. */
+static void listen_for_later(void) {
+    pq_item item;
+    is_watched = 0;
+    CHECK(pq_push(other, item_of(in_ms(3600000), 5), PQ_FOREVER, NULL) == PQ_OK);
+    is_watched = 1;
+    listen_by_timer();
+    is_watched = 0;
+    CHECK(pq_pop(other, &item, PQ_FOREVER, NULL) == PQ_OK && item.value == 5);
+}
+
 static void watch(void (*call)(void)) {
     moment = has_come = is_late = notified = 0;
     is_watched = 1;
@@ -455,13 +482,13 @@ static void a_batch_asks_for_one_wake(void) {
     }
     wakes = 0;
     add(&is_gated, 1);
-    CHECK(pq_push_many(other, items, 10, PQ_FOREVER, &done) == PQ_OK && done == 10 && count_of(&wakes) == 1);
+    CHECK(pq_push_many(other, items, 10, PQ_FOREVER, &done, NULL) == PQ_OK && done == 10 && count_of(&wakes) == 1);
     add(&is_gated, -1);
     for (int i = 0; i < SLEEPERS; i++) {
         one_returns(i, PQ_OK);
     }
     CHECK(count_of(&wakes) == SLEEPERS);
-    CHECK(pq_pop_due_many(other, 0, items, 10, PQ_FOREVER, &done) == PQ_OK && done == 10 - SLEEPERS);
+    CHECK(pq_pop_due_many(other, 0, items, 10, PQ_FOREVER, &done, NULL) == PQ_OK && done == 10 - SLEEPERS);
     end();
 }
 
@@ -474,7 +501,7 @@ static void a_batch_wakes_as_many_as_it_has_items(void) {
         one_sleeps(i);
     }
     wakes = 0;
-    CHECK(pq_push_many(other, items, 2, PQ_FOREVER, &done) == PQ_OK && done == 2);
+    CHECK(pq_push_many(other, items, 2, PQ_FOREVER, &done, NULL) == PQ_OK && done == 2);
     one_returns(0, PQ_OK);
     one_returns(1, PQ_OK);
     is_empty();
@@ -541,7 +568,7 @@ static void who_carries_out_a_push_wakes(void) {
 }
 
 int main(void) {
-    void (*const calls[])(void) = { take, take_by_own, take_due, listen };
+    void (*const calls[])(void) = { take, take_by_own, take_due, listen, listen_by_timer };
     alarm(200);
     for (size_t i = 0; i < sizeof calls / sizeof *calls; i++) {
         at_each_moment(calls[i], push, PQ_OK);
@@ -549,6 +576,8 @@ int main(void) {
         at_each_moment(calls[i], push_and_shut, PQ_OK);
         at_each_moment(calls[i], post_and_shut, PQ_OK);
     }
+    at_each_moment(listen_for_later, push, PQ_OK);
+    at_each_moment(listen_for_later, push_and_shut, PQ_OK);
     what_is_there_is_taken_at_once();
     waits = pq_take;
     who_goes_at_its_deadline_hands_on();

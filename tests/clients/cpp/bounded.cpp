@@ -43,7 +43,8 @@ static void a_full_queue_refuses() {
     many.emplace_back(8u, "eight");
     CHECK(*queue.size() == 1 && queue.take()->payload == "five");
     const auto pushed = queue.push_many(many, 20ms);
-    CHECK(!pushed && pushed.count == 1 && pushed.error == code::full && many[1].payload == "eight" && *queue.size() == 1);
+    CHECK(!pushed && pushed.count == 1 && pushed.number == 3 && pushed.error == code::full);
+    CHECK(many[1].payload == "eight" && *queue.size() == 1);
 }
 
 static void no_push_is_posted() {

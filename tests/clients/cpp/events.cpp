@@ -1,5 +1,5 @@
 // Event loops: a listener's descriptor is readable from the first, no longer once no item was there, and again where somebody has pushed or the
-// queue is shut. A member that listens by a callback is notified once.
+// queue is shut; that of a listener for what is due, once the first item is due. A member that listens by a callback is notified once.
 #include "../check.h"
 #include "flatpq_tasks.hpp"
 
@@ -83,6 +83,30 @@ static void payloads_come_so() {
     CHECK(got == "onetwo");
 }
 
+static void a_timer_is_readable_when_the_first_is_due() {
+    auto queue = *flatpq::task_queue<std::string, clock_of::time_point>::open();
+    flatpq::task_due_listener<std::string, clock_of::time_point> listener = *queue.listen_due();
+    const auto first = clock_of::now() + (requests(2) == 1 ? 1500ms : 200ms), last = first + 1h;
+    CHECK(is_readable(listener.fd(), 60000) && listener.take_or_listen().error() == code::empty && !is_readable(listener.fd()));
+    CHECK(queue.push(last, "last") && is_readable(listener.fd(), 60000));
+    CHECK(*listener.take_or_listen().first() == last && queue.push(last, "same") && !is_readable(listener.fd(), 10));
+    CHECK(queue.push(first, "first") && is_readable(listener.fd(), 60000) && *listener.take_or_listen().first() == first);
+    // It goes with the listener, and waits for that time.
+    auto moved = std::move(listener);
+    CHECK(listener.fd() == -1 && listener.take_or_listen().error() == code::no_member);
+    CHECK(is_readable(moved.fd(), 60000) && clock_of::now() >= first && moved.take_or_listen()->payload == "first");
+    CHECK(moved.take_or_listen().error() == code::not_due && !is_readable(moved.fd()));
+    // A member with a timer of the program.
+    auto member = *queue.join();
+    CHECK(member.take_due_or_listen(-1).error() == code::no_timer && !member.unlisten());
+    const int timer = timerfd_create(CLOCK_MONOTONIC, 0);
+    CHECK(*member.take_due_or_listen(timer).first() == last && !is_readable(timer) && queue.shut() == code::ok);
+    CHECK(is_readable(timer, 60000) && is_readable(moved.fd(), 60000) && queue.pop()->payload == "last" && queue.pop()->payload == "same");
+    CHECK(member.take_due_or_listen(timer).error() == code::shut && moved.take_or_listen().error() == code::shut);
+    moved = *flatpq::task_queue<std::string, clock_of::time_point>::open()->listen_due();
+    CHECK(is_readable(moved.fd(), 60000) && ::close(timer) == 0);
+}
+
 static void a_callback_is_called_once() {
     auto queue = *flatpq::task_queue<int>::open();
     auto member = *queue.join();
@@ -102,6 +126,7 @@ int main() {
     a_descriptor_is_readable_where_an_item_may_be();
     one_that_ends_wakes_another();
     payloads_come_so();
+    a_timer_is_readable_when_the_first_is_due();
     a_callback_is_called_once();
     return 0;
 }

@@ -194,9 +194,9 @@ static bool a_wait_ends_with_a_push() {
 
 static bool nothing_comes_before_it_is_due() {
     auto queue = *moments::open();
-    const auto due = clock_of::now() + 30ms;
+    const auto due = clock_of::now() + 300ms;
     CHECK(queue.push(due, 1));
-    const auto early = queue.pop_due(due - 1ns), timed = queue.take_due(due - 20ms);
+    const auto early = queue.pop_due(due - 1ns), timed = queue.take_due(due - 290ms);
     CHECK(early.error() == code::not_due && early.first() == due && timed.first() == due && *queue.peek() == due);
     return queue.take_due()->payload == 1 && clock_of::now() >= due;
 }

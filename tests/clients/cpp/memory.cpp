@@ -58,7 +58,7 @@ int main() {
     left_to_give = 70;
     const auto done = owners.push_many(batch);
     left_to_give = SIZE_MAX;
-    CHECK(done.error == code::no_memory && done.count == 70 && !batch[69].payload && *batch[70].payload == 70 && *batch[99].payload == 99);
+    CHECK(done.error == code::no_memory && done.count == 70 && done.number != 0 && !batch[69].payload && *batch[70].payload == 70 && *batch[99].payload == 99);
     CHECK(*owners.clear() == 70);
     auto numbers = *flatpq::task_queue<double>::open();
     left_to_give = 0;

@@ -36,7 +36,7 @@ template <class By> static void calls_are_refused(By &it, code why) {
     CHECK(it.take().error() == why && it.clear().error() == why && it.pop_due_many(1u, 5).error() == why && it.archive(0).error() == why);
     item<> items[] = {{1, 2}};
     const auto batch = it.push_many(items);
-    CHECK(batch.error == why && batch.count == 0 && it.post(flatpq::request::pop) == why && it.poll().error() == why);
+    CHECK(batch.error == why && batch.count == 0 && batch.number == 0 && it.post(flatpq::request::pop) == why && it.poll().error() == why);
     CHECK(it.combine() == why && it.take_or_listen(bell).error() == why && !it.unlisten() && it.place() == UINT32_MAX);
 }
 

@@ -72,11 +72,12 @@ static void a_batch_moves_each_once_in_and_once_out() {
         batch.emplace_back(key, counted(key));
     }
     moves = 0;
-    CHECK(queue.push_many(batch).count == count && moves == count && live == count);
+    const auto pushed = queue.push_many(batch);
+    CHECK(pushed.count == count && pushed.number == 1 && moves == count && live == count);
     const auto few = queue.pop_due_many(9, count);
-    CHECK(few->size() == 10 && moves == count + 10 && live == count);
+    CHECK(few->size() == 10 && few.number() == count + 1 && moves == count + 10 && live == count);
     const auto others = queue.pop_due_many(count, 2 * count);
-    CHECK(others->size() == count - 10 && moves == 2 * count && live == count);
+    CHECK(others->size() == count - 10 && others.number() == count + 11 && moves == 2 * count && live == count);
     for (int key = 0; key < count; ++key) {
         const auto &it = key < 10 ? (*few)[static_cast<std::size_t>(key)] : (*others)[static_cast<std::size_t>(key - 10)];
         CHECK(it.payload.number() == key && batch[static_cast<std::size_t>(key)].payload.number() == -1);
@@ -181,7 +182,9 @@ static void batches_keep_what_is_refused() {
         batch.emplace_back(key, key);
     }
     const auto done = queue.push_many(batch);
-    CHECK(!done && done.error == code::journal_full && done.count == room);
+    CHECK(!done && done.error == code::journal_full && done.count == room && done.number == 1);
+    const auto none = queue.push_many(batch);
+    CHECK(!none && none.error == code::journal_full && none.count == 0 && none.number == 0);
     for (int key = 0; key < count; ++key) {
         CHECK(batch[static_cast<std::size_t>(key)].payload.number() == (key < room ? -1 : key));
     }
@@ -195,20 +198,25 @@ static void batches_come_out_in_order() {
     CHECK(*queue.clear() == 4 && live == 0);
     push_keys(queue, 0, 200);
     const auto none = queue.pop_due_many(-1, 10);
-    CHECK(none.error() == code::not_due && none.first() == 0 && queue.pop_due_many(9, 0)->empty());
+    CHECK(none.error() == code::not_due && none.first() == 0 && none.number() == 0);
+    const auto nothing = queue.pop_due_many(9, 0);
+    CHECK(nothing->empty() && nothing.number() == 0);
     const auto batch = queue.pop_due_many(149, 1000, 1h);
     CHECK(batch && batch->size() == 150 && live == 200);
     for (int key = 0; key < 150; ++key) {
         CHECK((*batch)[static_cast<std::size_t>(key)].payload.number() == key);
     }
-    CHECK(queue.pop_due_many(1000, 5)->size() == 5);
+    const auto five = queue.pop_due_many(1000, 5);
+    CHECK(five->size() == 5 && batch.number() + 150 == five.number());
     int next = 155;
+    const std::uint64_t before = five.number() + 5;
     auto due = queue.drain(169);
+    CHECK(due.number() == 0);
     for (auto &it : due) {
-        CHECK(it.priority == next && it.payload.number() == next);
+        CHECK(it.priority == next && it.payload.number() == next && due.number() == before + static_cast<std::uint64_t>(next - 155));
         ++next;
     }
-    CHECK(next == 170 && due.error() == code::not_due);
+    CHECK(next == 170 && due.error() == code::not_due && due.number() == 0);
     auto all = queue.drain();
     for (auto at = all.begin(); at != all.end(); at++) {
         CHECK(at->priority == next++);

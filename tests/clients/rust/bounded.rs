@@ -44,8 +44,9 @@ fn a_full_queue_refuses() {
     assert_eq!(
         queue
             .push_many([(1, "one"), (2, "two")])
+            .map(|it| (it.count, it.number))
             .map_err(|it| it.error),
-        Ok(2)
+        Ok((2, 1))
     );
     let refused = queue.until(Until::NOW).push(3, "three").unwrap_err();
     assert_eq!((refused.error, refused.payload), (Error::Full, "three"));
@@ -56,6 +57,7 @@ fn a_full_queue_refuses() {
     assert_eq!(queue.pop(), Ok(Some((1, "one"))));
     let until = queue.until(Duration::from_millis(20));
     let refused = until.push_many([(3, "three"), (4, "four")]).unwrap_err();
+    assert_eq!((refused.pushed.count, refused.pushed.number), (1, 4));
     assert_eq!(
         (refused.error, refused.payload),
         (Error::Full, vec![(4, "four")])
@@ -84,7 +86,8 @@ fn a_push_waits_for_room() {
         let many = scope.spawn(|| queue.push_many((7..9).map(|key| (key, key.to_string()))));
         assert_eq!(queue.take().unwrap().0, 6);
         assert_eq!(queue.take().unwrap().0, 7);
-        assert_eq!(many.join().unwrap().map_err(|it| it.error), Ok(2));
+        let pushed = many.join().unwrap().map_err(|it| it.error);
+        assert_eq!(pushed.map(|it| it.count), Ok(2));
         let shut = scope.spawn(|| queue.push(9, String::from("nine")));
         thread::sleep(Duration::from_millis(20));
         queue.shut().unwrap();

@@ -17,7 +17,8 @@ fn elsewhere<T: Send>(run: impl FnOnce() -> T + Send) -> T {
 macro_rules! calls {
     ($caller:expr) => {
         assert_eq!($caller.push(3, 30).unwrap(), 1);
-        assert_eq!($caller.push_many([(2, 20), (1, 10), (4, 40)]).unwrap(), 3);
+        let pushed = $caller.push_many([(2, 20), (1, 10), (4, 40)]).unwrap();
+        assert_eq!((pushed.count, pushed.number), (3, 2));
         assert_eq!($caller.peek(), Ok(Some(1)));
         assert_eq!($caller.peek_item(), Ok(Some((1, 10))));
         assert_eq!($caller.pop_due(0), Ok(Due::Later(1)));

@@ -1,6 +1,6 @@
 //! Each refusal comes where the documents say, changes nothing, and is passed on by `?`. All that is public has a text for the message of a
 //! panic.
-use flatpq::{Error, Keeping, Options, Queue, TaskQueue, Until};
+use flatpq::{Error, Keeping, Options, Pushed, Queue, TaskQueue, Until};
 use std::error::Error as _;
 use std::fmt::Debug;
 use std::io;
@@ -40,10 +40,40 @@ fn a_full_journal_stays_full() {
     assert_eq!(queue.take(), Err(Error::JournalFull));
     let refused = queue.push_many([(3, 4), (5, 6)]).unwrap_err();
     assert_eq!(refused.payload, [(3, 4), (5, 6)]);
+    assert_eq!(
+        (refused.error, refused.pushed),
+        (Error::JournalFull, Pushed::default())
+    );
+    assert!(refused.to_string().contains("pushed 0 and no more"));
     assert_eq!(queue.pop_due_many(9, 2), Err(Error::JournalFull));
     assert_eq!(queue.drain().count(), 1);
     let mut journal = queue.close().unwrap();
     assert!(journal.left().eq([(1, 2), (2, 1)]) && journal.len() == 2);
+}
+
+#[test]
+fn a_batch_has_the_number_of_its_first_entry() {
+    let queue = opened(Options::new().keeping(Keeping::Fills(9))).unwrap();
+    let mut member = queue.join().unwrap();
+    queue.push(9, 9).unwrap();
+    let pushed = member.push_many([(2, 1), (1, 2)]).unwrap();
+    assert_eq!((pushed.count, pushed.number, member.number()), (2, 2, 2));
+    assert_eq!(member.pop_due_many(5, 9), Ok(vec![(1, 2), (2, 1)]));
+    assert_eq!(member.number(), 4);
+    assert_eq!(
+        (member.pop_due_many(5, 9), member.number()),
+        (Ok(vec![]), 0)
+    );
+    assert_eq!(member.push_many([]).unwrap(), Pushed::default());
+    let refused = member.push_many((1..8).map(|it| (it, it))).unwrap_err();
+    assert_eq!(
+        (refused.error, refused.payload.len()),
+        (Error::JournalFull, 3)
+    );
+    assert_eq!(
+        (refused.pushed.count, refused.pushed.number, member.number()),
+        (4, 6, 6)
+    );
 }
 
 #[test]

@@ -33,7 +33,7 @@ fn are_in_order<K: Key + Debug>(keys: &[K]) {
     }
     assert!(matches!(queue.peek(), Ok(None)));
     let pairs = keys.iter().rev().map(|key| (*key, 3));
-    assert_eq!(queue.push_many(pairs).unwrap(), keys.len());
+    assert_eq!(queue.push_many(pairs).unwrap().count, keys.len());
     let mut journal = queue.close().unwrap();
     let left: Vec<u64> = journal.left().map(|(key, _)| key.number()).collect();
     assert_eq!(left, numbers);

@@ -1,9 +1,9 @@
-//! An event loop waits by a descriptor: it is readable once there may be a payload, or the queue is shut.
-use flatpq::{Due, Error, Listener, TaskQueue};
+//! An event loop waits by a descriptor: it is readable once there may be a payload, or one is due, or the queue is shut.
+use flatpq::{Due, Error, TaskQueue};
 use std::os::raw::{c_int, c_short, c_ulong};
 use std::os::unix::io::{AsFd, AsRawFd};
 use std::thread;
-use std::time::Duration;
+use std::time::{Duration, Instant};
 
 #[repr(C)]
 struct Polled {
@@ -17,7 +17,7 @@ extern "C" {
 }
 
 /// Whether the descriptor is readable in this time.
-fn is_readable(listener: &Listener<u64>, milliseconds: c_int) -> bool {
+fn is_readable(listener: &impl AsFd, milliseconds: c_int) -> bool {
     const IN: c_short = 1;
     let mut polled = Polled {
         descriptor: listener.as_fd().as_raw_fd(),
@@ -48,6 +48,70 @@ fn a_push_and_a_shut_make_it_readable() {
     assert!(is_readable(&listener, 0));
     assert_eq!(listener.take(), Err(Error::Shut));
     assert_eq!(queue.close().unwrap_err().error, Error::MembersLeft);
+}
+
+#[test]
+fn a_timer_is_readable_once_the_first_is_due() {
+    let queue = TaskQueue::new().unwrap();
+    let mut listener = queue.due_listener().unwrap();
+    let first = Instant::now() + Duration::from_millis(1500);
+    let last = first + Duration::from_secs(3600);
+    assert!(listener.take_due() == Ok(Due::Empty) && !is_readable(&listener, 0));
+    queue.push(last, String::from("last")).unwrap();
+    assert!(is_readable(&listener, 60_000));
+    assert_eq!(listener.take_due(), Ok(Due::Later(last)));
+    queue.push(last, String::from("same")).unwrap();
+    assert!(!is_readable(&listener, 10));
+    queue.push(first, String::from("first")).unwrap();
+    assert!(is_readable(&listener, 60_000));
+    assert_eq!(listener.take_due(), Ok(Due::Later(first)));
+    assert!(is_readable(&listener, 60_000) && Instant::now() >= first);
+    assert_eq!(listener.take_due(), Ok(Due::Got(first, "first".into())));
+    assert!(listener.take_due() == Ok(Due::Later(last)) && !is_readable(&listener, 10));
+    queue.shut().unwrap();
+    assert!(is_readable(&listener, 60_000));
+    assert!(listener.take_due() == Ok(Due::Later(last)) && !is_readable(&listener, 10));
+    assert_eq!(queue.clear(), Ok(2));
+    assert!(is_readable(&listener, 60_000));
+    assert_eq!(listener.take_due(), Err(Error::Shut));
+}
+
+#[test]
+fn timers_and_threads_get_all() {
+    const EACH: u64 = 1000;
+    let queue = TaskQueue::new().unwrap();
+    let listens = || {
+        let mut listener = queue.due_listener().unwrap();
+        let mut sum = 0;
+        loop {
+            match listener.take_due() {
+                Ok(Due::Got(moment, number)) => {
+                    assert!(moment <= Instant::now());
+                    sum += number;
+                }
+                Ok(_) => assert!(is_readable(&listener, 60_000)),
+                Err(error) => {
+                    assert_eq!(error, Error::Shut);
+                    return sum;
+                }
+            }
+        }
+    };
+    let takes = || -> u64 { std::iter::from_fn(|| queue.take_due().ok().map(|it| it.1)).sum() };
+    let sum: u64 = thread::scope(|scope| {
+        let loops = [(); 2].map(|()| scope.spawn(listens));
+        let taking = scope.spawn(takes);
+        for number in 0..EACH {
+            let later = Duration::from_micros(number * 7919 % 3000);
+            queue.push(Instant::now() + later, number).unwrap();
+            if number % 100 == 0 {
+                thread::sleep(Duration::from_micros(200));
+            }
+        }
+        queue.shut().unwrap();
+        loops.map(|it| it.join().unwrap()).iter().sum::<u64>() + taking.join().unwrap()
+    });
+    assert_eq!(sum, EACH * (EACH - 1) / 2);
 }
 
 #[test]

@@ -126,7 +126,7 @@ fn a_waker_runs_its_task() {
         queue.push(5, 6).unwrap();
         assert_eq!(slot.lock().unwrap().1, [(5, 6)]);
         waits(&mut slot.lock().unwrap().0, &waker);
-        assert_eq!(queue.push_many([(7, 8)]).unwrap(), 1);
+        assert_eq!(queue.push_many([(7, 8)]).unwrap().count, 1);
         assert_eq!(slot.lock().unwrap().1, [(5, 6), (7, 8)]);
     });
 }

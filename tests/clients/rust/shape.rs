@@ -1,7 +1,7 @@
 //! What goes to other threads, and what they share: that it does so is seen where this compiles.
 use flatpq::{
-    Due, Entries, Entry, Error, Item, Journal, Limited, Listener, Member, NotClosed, NotPushed,
-    Options, Queue, Take, TaskJournal, TaskMember, TaskQueue, Until,
+    Due, DueListener, Entries, Entry, Error, Item, Journal, Limited, Listener, Member, NotClosed,
+    NotPushed, Options, Queue, Take, TaskJournal, TaskMember, TaskQueue, Until,
 };
 use std::cell::Cell;
 use std::mem::size_of;
@@ -36,6 +36,7 @@ is_not!(Journal: Clone);
 is_not!(Limited<'static, u64>: Send);
 is_not!(Limited<'static, u64>: Sync);
 is_not!(Listener<u64>: Sync);
+is_not!(DueListener<u64>: Sync);
 is_not!(Take<'static, u64>: Sync);
 is_not!(NotPushed<Payload>: Sync);
 is_not!(TaskQueue<std::rc::Rc<u32>>: Send);
@@ -49,6 +50,7 @@ fn what_goes_to_other_threads() {
     is_send::<(TaskQueue<Payload>, TaskQueue<Payload, Instant>)>();
     is_sync::<(TaskQueue<Payload>, TaskQueue<Payload, Instant>)>();
     is_send::<(Queue, Member, TaskMember<Payload>, Listener<Payload>)>();
+    is_send::<(DueListener<Payload>, DueListener<Payload, Instant>)>();
     is_send::<(Take<'_, Payload>, TaskJournal<Payload>)>();
     is_sync::<(TaskJournal<Payload>, Journal, Entries<'_>)>();
     is_send::<(Journal, Entries<'_>)>();

@@ -13,6 +13,8 @@ hold    one thread that pops the first item of so many and pushes one later, ove
         push took while the queue grew
 batches     threads that take so many items out under one lock, and put as many in: nanoseconds an item, beside a call for each item, and
         a std::mutex that is locked once for as many
+services    a pipeline whose number of items is bounded, beside condition variables and a channel of crossbeam-channel
+        (librust-crossbeam-channel-dev); sizes, a journal that is read back, and pushes that are on disk when they end
 programs    a simulation in time steps, a scheduler most of whose timers are cancelled, and Dijkstra's and A*'s searches of a grid, over
         the queue and over a std::mutex around std::priority_queue: how long each takes
 
@@ -23,8 +25,9 @@ journal and without; rust-book and rust-heap, a Mutex round BinaryHeap likewise;
 java, PriorityBlockingQueue. Of queues of functions, each of which is called once it is popped: cpp-tasks and rust-tasks, those of the
 library; cpp-functions, a std::mutex round std::priority_queue, and rust-closures, a Mutex round BinaryHeap. Of light: c-queue and c-own;
 rust-crate, the same queue by the crate for Rust; std-mutex and adaptive-mutex, such mutexes around std::priority_queue and the last
-65,536 lines; rust-mutex, the same in Rust; tbb. Of hold: c-queue, and a std::mutex and such lines around std-heap, std::priority_queue,
-four-heap, a 4-ary heap, and hole-heap, a binary one with holes. What isn't there is told, and has no rows.
+65,536 lines; rust-mutex, the same in Rust, and rust-parking-lot, that by a mutex of parking_lot (librust-parking-lot-dev); tbb. Of hold:
+c-queue, and a std::mutex and such lines around std-heap, std::priority_queue, four-heap, a 4-ary heap, and hole-heap, a binary one with
+holes. What isn't there is told, and has no rows.
 
 Above each table stands how many processors other processes took while it was measured: where that is more than one, the figures are
 not called quiet. The programs are built over the archive FILE, or out/libflatpq.a, which is built first where it has to be.
@@ -39,6 +42,7 @@ from dataclasses import dataclass
 import bench_batches
 import bench_hold
 import bench_light
+import bench_services
 import bench_uses
 import stores
 from bench_programs import build
@@ -64,7 +68,7 @@ PROGRAM_OF = {
 }
 KINDS = [*(it for it in stores.KINDS if it != TALLIED), *PROGRAM_OF]
 # The tables that have modules of their own.
-APART = (bench_light, bench_hold, bench_uses, bench_batches)
+APART = (bench_light, bench_hold, bench_uses, bench_batches, bench_services)
 TABLES = ["means", *(it for module in APART for it in module.TABLES)]
 # The kinds that may be asked for.
 ASKED = list(dict.fromkeys([*KINDS, *(it for module in APART for it in module.KINDS)]))
@@ -176,6 +180,8 @@ def quiet_tables(bench):
         yield bench_uses.uses(bench)
     if "batches" in asked:
         yield bench_batches.batches(bench)
+    if "services" in asked:
+        yield bench_services.services(bench)
     if "means" in asked:
         yield from means(bench)
 

@@ -10,6 +10,7 @@ KINDS = {
     "std-mutex": "light",
     "adaptive-mutex": "light",
     "rust-mutex": "light_rust",
+    "rust-parking-lot": "light_parked",
     "tbb": "light_tbb",
 }
 THREADS = [1, 2, 4, 16, 64]

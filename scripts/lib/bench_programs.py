@@ -1,4 +1,5 @@
 """The programs that scripts/trials bench runs, and how they are built: queue_bench, and those of scripts/peers."""
+import glob
 import os
 import re
 import shutil
@@ -16,7 +17,8 @@ PEERS = f"{TOP}/scripts/peers"
 @dataclass(frozen=True)
 class Program:
     """A program in another language: what builds it, behind which come its file and its sources; its sources; what it links; a
-    header that has to be there, with the package that has it; whether it links the crate for Rust; and its part in Rust."""
+    header that has to be there, with the package that has it; whether it links the crate for Rust; its part in Rust; and the crate
+    of Debian's registry by which this part is built."""
 
     builds: tuple
     sources: tuple
@@ -25,12 +27,15 @@ class Program:
     package: str = ""
     has_crate: bool = False
     rust_part: str = ""
+    registered: str = ""
 
 
 ARCHIVE = "libflatpq.a"
 CPP = ("c++", "-std=c++17", "-O2", "-pthread", f"-I{TOP}/include", f"-I{TOP}/bindings/cpp", "-o")
 # (in one unit: else a loop in a module of its own and the calls that it makes may not come together)
 RUST = ("rustc", "-O", "-C", "codegen-units=1", "--edition", "2021")
+# Where Debian's packages keep the sources of crates.
+REGISTRY = "/usr/share/cargo/registry"
 TBB = ("-ltbb",), "oneapi/tbb/concurrent_priority_queue.h", "oneTBB (libtbb-dev)"
 PROGRAMS = {
     "c_queue": Program(("cc", "-std=c99", "-O2", "-pthread", f"-I{TOP}/include", "-o"), ("c_queue.c", ARCHIVE)),
@@ -42,9 +47,13 @@ PROGRAMS = {
     "JavaQueue": Program(("javac", "-d"), ("JavaQueue.java",)),
     "light": Program(CPP, ("light.cpp", ARCHIVE)),
     "light_rust": Program(CPP, ("light_rust.cpp",), rust_part="light_rust.rs"),
+    "light_parked": Program(CPP, ("light_rust.cpp",), rust_part="light_rust.rs", registered="parking_lot"),
     "light_tbb": Program(CPP, ("light_tbb.cpp",), *TBB),
     "hold": Program(CPP, ("hold.cpp", ARCHIVE)),
     "batches": Program(CPP, ("batches.cpp", ARCHIVE)),
+    "pipeline": Program(CPP, ("pipeline.cpp", ARCHIVE)),
+    "pipeline_channel": Program((*RUST, "-o"), ("pipeline.rs",), registered="crossbeam-channel"),
+    "services": Program(CPP, ("services.cpp", ARCHIVE)),
     "simulation": Program(CPP, ("simulation.cpp", ARCHIVE)),
     "timers": Program(CPP, ("timers.cpp", ARCHIVE)),
     "dijkstra": Program(CPP, ("dijkstra.cpp", ARCHIVE)),
@@ -71,6 +80,8 @@ def lacking(program):
     for it in (program.builds[0], *(RUST[:1] if program.rust_part else [])):
         if not shutil.which(it):
             return it
+    if program.registered and not (shutil.which("cargo") and glob.glob(f"{REGISTRY}/{program.registered}-*")):
+        return f"{program.registered} (librust-{program.registered.replace('_', '-')}-dev)"
     if not program.header:
         return ""
     reads = [program.builds[0], "-std=c++17", "-E", "-x", "c++", "-"]
@@ -94,10 +105,31 @@ def built_crate(folder, library):
     return ["--extern", f"flatpq={to}"]
 
 
-def built_part(folder, name, library):
-    """Builds a part in Rust of a program in C++, with the crate: the archive of both."""
-    to, source = f"{folder}/lib{name[:-3]}.a", f"{PEERS}/{name}"
-    built(source, [*RUST, "--crate-type", "staticlib", *built_crate(folder, library), "-o", to, source])
+def built_registered(folder, name):
+    """Builds a crate of Debian's registry and what it needs: the words by which rustc links it, and chooses it."""
+    room, crate = f"{folder}/{name}", name.replace("-", "_")
+    os.makedirs(f"{room}/src", exist_ok=True)
+    texts = {
+        "Cargo.toml": f'[package]\nname = "registered"\nversion = "0.0.0"\n[dependencies]\n{name} = "*"\n[workspace]\n',
+        "config.toml": f'[source.crates-io]\nreplace-with = "debian"\n[source.debian]\ndirectory = "{REGISTRY}"\n',
+        "src/lib.rs": "",
+    }
+    for file, text in texts.items():
+        with open(f"{room}/{file}", "w", encoding="utf-8") as it:
+            it.write(text)
+    words = ["--release", "--offline", "--manifest-path", f"{room}/Cargo.toml", "--config", f"{room}/config.toml"]
+    built(name, ["cargo", "build", "--quiet", *words, "--target-dir", f"{room}/target"])
+    below = f"{room}/target/release/deps"
+    [library] = glob.glob(f"{below}/lib{crate}-*.rlib")
+    return ["--cfg", f"with_{crate}", "-L", f"dependency={below}", "--extern", f"{crate}={library}"]
+
+
+def built_part(folder, program, library):
+    """Builds the part in Rust of a program in C++, with the crate: the archive of both."""
+    name = program.rust_part
+    to, source = f"{folder}/lib{name[:-3]}_{program.registered or 'std'}.a", f"{PEERS}/{name}"
+    others = built_registered(folder, program.registered) if program.registered else []
+    built(source, [*RUST, "--crate-type", "staticlib", *others, *built_crate(folder, library), "-o", to, source])
     return to
 
 
@@ -111,7 +143,10 @@ def built_other(folder, name, asked):
     is_java = program.builds[0] == "javac"
     to = folder if is_java else f"{folder}/{name}"
     links = [*program.links, *(built_crate(folder, asked.library or archive()) if program.has_crate else [])]
-    links += [built_part(folder, program.rust_part, asked.library or archive())] if program.rust_part else []
+    if program.rust_part:
+        links.append(built_part(folder, program, asked.library or archive()))
+    elif program.registered:
+        links += built_registered(folder, program.registered)
     built(files[0], [*program.builds, to, *files, *links])
     return ["java", "-cp", folder, name] if is_java else [to]
 

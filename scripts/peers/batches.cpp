@@ -20,13 +20,13 @@ public:
     void push_many(std::uint32_t worker, const std::vector<item> &pushed) {
         std::size_t done = 0;
         copies_of(pushed);
-        need(pq_push_many(member(worker), room().data(), pushed.size(), PQ_FOREVER, &done) == PQ_OK, "a push was refused");
+        need(pq_push_many(member(worker), room().data(), pushed.size(), PQ_FOREVER, &done, nullptr) == PQ_OK, "a push was refused");
     }
 
     void pop_many(std::uint32_t worker, std::size_t most, std::vector<item> &popped) {
         std::size_t done = 0;
         room().resize(most);
-        const pq_code code = pq_pop_due_many(member(worker), UINT64_MAX, room().data(), most, PQ_FOREVER, &done);
+        const pq_code code = pq_pop_due_many(member(worker), UINT64_MAX, room().data(), most, PQ_FOREVER, &done, nullptr);
         need(code == PQ_OK || code == PQ_EMPTY, "a pop was refused");
         popped.clear();
         for (std::size_t i = 0; i < done; ++i) {

@@ -32,13 +32,13 @@ public:
         for (std::size_t i = 0; i < pushed.size(); ++i) {
             items[i] = {pushed[i].first, pushed[i].second};
         }
-        need(pq_push_many(shared_.member(worker), items.data(), pushed.size(), PQ_FOREVER, &done) == PQ_OK, "a push was refused");
+        need(pq_push_many(shared_.member(worker), items.data(), pushed.size(), PQ_FOREVER, &done, nullptr) == PQ_OK, "a push was refused");
     }
 
     void pop_due(std::uint32_t worker, std::uint64_t when, std::vector<event> &due) {
         std::array<pq_item, most_at_once> items;
         std::size_t done = 0;
-        const pq_code code = pq_pop_due_many(shared_.member(worker), when, items.data(), items.size(), PQ_FOREVER, &done);
+        const pq_code code = pq_pop_due_many(shared_.member(worker), when, items.data(), items.size(), PQ_FOREVER, &done, nullptr);
         need(code == PQ_OK || code == PQ_NOT_DUE || code == PQ_EMPTY, "a pop was refused");
         for (std::size_t i = 0; i < done; ++i) {
             due.emplace_back(items[i].priority, items[i].value);

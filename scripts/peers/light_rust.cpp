@@ -1,6 +1,6 @@
-// Light load in Rust, by light_rust.rs: the queue by its crate, and, not verified, a Mutex of the standard library around
-// BinaryHeap and a ring of lines. `light_rust rust-crate|rust-mutex THREADS THINK MILLISECONDS` makes the run that light.hpp
-// describes.
+// Light load in Rust, by light_rust.rs: the queue by its crate, and, not verified, a Mutex around BinaryHeap and a ring of lines.
+// `light_rust rust-crate|rust-mutex|rust-parking-lot THREADS THINK MILLISECONDS` makes the run that light.hpp describes. Which of the two
+// mutexes there is was chosen when light_rust.rs was built.
 #include "light.hpp"
 
 #include <cstdint>
@@ -47,8 +47,9 @@ private:
 int main(int argc, char **argv) {
     light_load of = {};
     const std::string kind = argc < 2 ? "" : argv[1];
-    if (argc != 5 || (kind != "rust-crate" && kind != "rust-mutex") || !read_light_load(argv + 2, of)) {
-        std::fputs("usage: light_rust rust-crate|rust-mutex THREADS THINK MILLISECONDS\n", stderr);
+    const bool is_known = kind == "rust-crate" || kind == "rust-mutex" || kind == "rust-parking-lot";
+    if (argc != 5 || !is_known || !read_light_load(argv + 2, of)) {
+        std::fputs("usage: light_rust rust-crate|rust-mutex|rust-parking-lot THREADS THINK MILLISECONDS\n", stderr);
         return 2;
     }
     rust_queue shared(kind == "rust-crate", static_cast<std::uint32_t>(of.threads));

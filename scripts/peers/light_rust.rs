@@ -1,15 +1,30 @@
-//! What `light_rust.cpp` measures: the queue by its crate for Rust, and, unverified, a mutex of the standard library around its
-//! binary heap and a ring of lines.
+//! What `light_rust.cpp` measures: the queue by its crate for Rust, and, unverified, a mutex around the standard library's binary
+//! heap and a ring of lines. The mutex is the standard library's, or that of `parking_lot` where the cfg `with_parking_lot` is set.
 mod heap;
 
 use flatpq::{Member, Queue};
 use heap::{Heap, Item, NONE};
+use std::ops::DerefMut;
+
+#[cfg(with_parking_lot)]
+use parking_lot::Mutex;
+#[cfg(not(with_parking_lot))]
 use std::sync::Mutex;
 
 /// What the workers share.
 pub enum Shared {
     Crate(Queue),
     Locked(&'static Mutex<Heap>),
+}
+
+#[cfg(with_parking_lot)]
+fn locked(heap: &Mutex<Heap>) -> impl DerefMut<Target = Heap> + '_ {
+    heap.lock()
+}
+
+#[cfg(not(with_parking_lot))]
+fn locked(heap: &Mutex<Heap>) -> impl DerefMut<Target = Heap> + '_ {
+    heap.lock().expect("nobody panics")
 }
 
 /// What a worker calls by, in cache lines of its own.
@@ -57,7 +72,7 @@ pub unsafe extern "C" fn worker_push(worker: *mut Worker, item: Item) {
                 .push(item.priority, item.value)
                 .expect("the queue takes all"),
         ),
-        By::Lock(heap) => heap.lock().expect("nobody panics").push(*place, item),
+        By::Lock(heap) => locked(heap).push(*place, item),
     }
 }
 
@@ -74,7 +89,7 @@ pub unsafe extern "C" fn worker_pop(worker: *mut Worker, first: &mut Item) -> bo
             let first = member.pop().expect("the queue refuses no pop");
             first.map(|(priority, value)| Item { priority, value })
         }
-        By::Lock(heap) => heap.lock().expect("nobody panics").pop(*place),
+        By::Lock(heap) => locked(heap).pop(*place),
     };
     *first = found.unwrap_or(NONE);
     found.is_some()
@@ -102,6 +117,6 @@ pub unsafe extern "C" fn shared_close(shared: *mut Shared) -> u64 {
             };
             journal.before() + journal.len() as u64
         }
-        Shared::Locked(heap) => heap.lock().expect("nobody panics").calls,
+        Shared::Locked(heap) => locked(heap).calls,
     }
 }

@@ -26,7 +26,7 @@ public:
     open_nodes &operator=(const open_nodes &) = delete;
     void push(const pq_item *items, std::size_t count) {
         std::size_t done = 0;
-        if (count > 0 && pq_push_many(pq_own(queue_), items, count, PQ_FOREVER, &done) != PQ_OK) {
+        if (count > 0 && pq_push_many(pq_own(queue_), items, count, PQ_FOREVER, &done, nullptr) != PQ_OK) {
             std::abort();
         }
     }

@@ -188,9 +188,9 @@ const char *judged(pq_queue *queue, const outcome *all, uint32_t threads, uint64
 
 /* A journal of two pushes and a pop, as two threads have made them, is lawful, and no longer where one thing is another. */
 int finds_faults(void) {
-    const pq_entry lawful[3] = { { 1, 1, 0, PQ_PUSH, PQ_OK, 0, { 5, 1 } },
-                                 { 2, 1, 1, PQ_PUSH, PQ_OK, 0, { 3, 2 } },
-                                 { 3, 2, 0, PQ_POP, PQ_OK, 0, { 3, 2 } } };
+    const pq_entry lawful[3] = { { 1, 1, 0, PQ_PUSH, PQ_OK, 0, { 5, 1 }, 0 },
+                                 { 2, 1, 1, PQ_PUSH, PQ_OK, 0, { 3, 2 }, 0 },
+                                 { 3, 2, 0, PQ_POP, PQ_OK, 0, { 3, 2 }, 0 } };
     const answer of_first[2] = { { 1, PQ_PUSH, PQ_OK, { 5, 1 } }, { 3, PQ_POP, PQ_OK, { 3, 2 } } };
     const answer of_second = { 0, PQ_PUSH, PQ_OK, { 3, 2 } };
     const pq_item left = { 5, 1 };

@@ -1,20 +1,20 @@
 -- What one more line does to a journal.
 use Rattle.std.proofs.Common.{Bool, ◌≡◌, ℕ, ◌+◌, ◌<◌, ◌≤◌, true, false, List, [], ◌∷◌, ◌++◌, length, map, refl, sym, ◌∙◌, ap, subst, arith}
-use Rattle.std.specs.Prelude.{max, ◌==◌, if◌then◌else◌, ◌↔◌, Some}
+use Rattle.std.specs.Prelude.{max, ◌==◌, if◌then◌else◌, ◌↔◌, Option, Some, None}
 use Rattle.std.specs.List.{AllByRecursion}
 use Rattle.std.proofs.lemmas.Bool.Decides.{nat_tests}
 use Rattle.pq_types.specs.Asked.{Request}
 use Rattle.pq_types.specs.declared.request.Request.TheVariants.{Push, Pop, Least}
 use Rattle.pq_types.specs.Asked.{Line}
 use Rattle.pq_types.specs.Item.{Item}
-use Rattle.pq_types.specs.Item.{IsItemOf, not_above}
+use Rattle.pq_types.specs.Item.{item, bound_of, IsItemOf, not_above}
 use Rattle.pq_types.specs.Asked.{Operation}
-use Rattle.pq_types.specs.Operation.{Asked, ByTicket, Remove}
+use Rattle.pq_types.specs.Operation.{Asked, ByTicket, Remove, Move, ticket_of}
 use Rattle.pq_types.specs.Queue.{AreItemsOf, IsAscending, IsProperRequestOf, IsProperReplyOf, content_after, reply_to, with_item}
 use Rattle.pq_types.specs.Queue.{replies_from, content_after_all}
-use Rattle.pq_types.specs.Entry.{Entry, entry, item_of, entry_not_above, with_entry, without, entries_after, reply_by, item_at, taken, IsProperOperationOf}
+use Rattle.pq_types.specs.Entry.{Entry, entry, item_of, entry_not_above, with_entry, without, with_moved, entries_after, reply_by, item_at, taken, IsProperOperationOf}
 use Rattle.pq_types.specs.History.{left, entries_from, entries_of, IsLegal, IsLegalFrom, SerialsRise, last_serial}
-use Rattle.pq_types.specs.History.{HasNoRemovals, IsAsked, asked_before, requests_of, replies_of}
+use Rattle.pq_types.specs.History.{AreAllAsked, IsAsked, asked_before, requests_of, replies_of}
 
 -- what holds of each item, and of one more
 pub all_more : {A : Type 0} (P : A → Type 0) (xs : List A) (x : A) → AllByRecursion P xs → P x → AllByRecursion P (xs ++ x ∷ [])
@@ -60,15 +60,15 @@ legal_from_more es n (m ∷ ls) l h e = (h.0, legal_from_more (entries_after es 
 pub legal_more : (ls : List Line) (l : Line) → IsLegal ls → l.reply ≡ reply_by (entries_of ls) l.operation → IsLegal (ls ++ l ∷ [])
 legal_more ls l h e = legal_from_more [] 1 ls l h e
 
--- a journal without removals leaves what its requests do
-left_asked : (es : List Entry) (n : ℕ) (ls : List Line) → HasNoRemovals ls
+-- a journal of requests alone leaves what they do
+left_asked : (es : List Entry) (n : ℕ) (ls : List Line) → AreAllAsked ls
     → map item_of (entries_from es n ls) ≡ content_after_all (map item_of es) (requests_of ls)
 left_asked es n [] h = refl
 left_asked es n (l ∷ ls) h = step l.operation h.0 (λ xs. left_asked xs (n + 1) ls h.1) where
   step : (d : Operation) → IsAsked d → ((xs : List Entry) → map item_of (entries_from xs (n + 1) ls) ≡ content_after_all (map item_of xs) (requests_of ls))
       → map item_of (entries_from (entries_after es n d) (n + 1) ls) ≡ content_after_all (map item_of es) (asked_before d (requests_of ls))
   step (Asked q) a rest = rest (entries_after es n (Asked q)) ∙ ap (λ ys. content_after_all ys (requests_of ls)) (map-asked es n q)
-  step (ByTicket (Remove i)) a rest = absurd a
+  step (ByTicket t) a rest = absurd a
 
 both : {A : Type 0} {x y : A} {xs ys : List A} → x ≡ y → xs ≡ ys → x ∷ xs ≡ y ∷ ys
 both {A} {x} {y} {xs} {ys} e es = ap (λ z. z ∷ xs) e ∙ ap (λ zs. y ∷ zs) es
@@ -86,26 +86,26 @@ tails {A} {x} {y} {xs} {ys} e = ap rest e where
   rest (z ∷ zs) = zs
 
 -- and is legal where its replies are those to its requests
-replied : (es : List Entry) (n : ℕ) (ls : List Line) → HasNoRemovals ls → IsLegalFrom es n ls → replies_of ls ≡ replies_from (map item_of es) (requests_of ls)
+replied : (es : List Entry) (n : ℕ) (ls : List Line) → AreAllAsked ls → IsLegalFrom es n ls → replies_of ls ≡ replies_from (map item_of es) (requests_of ls)
 replied es n [] h legal = refl
 replied es n (l ∷ ls) h legal = step l.operation h.0 legal.0 (replied (entries_after es n l.operation) (n + 1) ls h.1 legal.1) where
   step : (d : Operation) → IsAsked d → l.reply ≡ reply_by es d → replies_of ls ≡ replies_from (map item_of (entries_after es n d)) (requests_of ls)
       → l.reply ∷ replies_of ls ≡ replies_from (map item_of es) (asked_before d (requests_of ls))
   step (Asked q) a e rest = both e (rest ∙ ap (λ ys. replies_from ys (requests_of ls)) (map-asked es n q))
-  step (ByTicket (Remove i)) a e rest = absurd a
+  step (ByTicket t) a e rest = absurd a
 
-legal_by : (es : List Entry) (n : ℕ) (ls : List Line) → HasNoRemovals ls → replies_of ls ≡ replies_from (map item_of es) (requests_of ls) → IsLegalFrom es n ls
+legal_by : (es : List Entry) (n : ℕ) (ls : List Line) → AreAllAsked ls → replies_of ls ≡ replies_from (map item_of es) (requests_of ls) → IsLegalFrom es n ls
 legal_by es n [] h e = tt
 legal_by es n (l ∷ ls) h e = step l.operation h.0 e (λ r. legal_by (entries_after es n l.operation) (n + 1) ls h.1 r) where
   step : (d : Operation) → IsAsked d → l.reply ∷ replies_of ls ≡ replies_from (map item_of es) (asked_before d (requests_of ls))
       → (replies_of ls ≡ replies_from (map item_of (entries_after es n d)) (requests_of ls) → IsLegalFrom (entries_after es n d) (n + 1) ls)
       → (l.reply ≡ reply_by es d) × IsLegalFrom (entries_after es n d) (n + 1) ls
   step (Asked q) a e rest = (heads e, rest (tails e ∙ sym (ap (λ ys. replies_from ys (requests_of ls)) (map-asked es n q))))
-  step (ByTicket (Remove i)) a e rest = absurd a
+  step (ByTicket t) a e rest = absurd a
 
-pub without_removals : (ls : List Line) → HasNoRemovals ls
+pub without_tickets : (ls : List Line) → AreAllAsked ls
     → (left ls ≡ content_after_all [] (requests_of ls)) × (IsLegal ls ↔ (replies_of ls ≡ replies_from [] (requests_of ls)))
-without_removals ls h = (left_asked [] 1 ls h, (replied [] 1 ls h, legal_by [] 1 ls h))
+without_tickets ls h = (left_asked [] 1 ls h, (replied [] 1 ls h, legal_by [] 1 ls h))
 
 pub rise_more : (ls : List Line) (l : Line) → SerialsRise ls → AllByRecursion (λ m. l.place ≡ m.place → m.serial < l.serial) ls
     → SerialsRise (ls ++ l ∷ [])
@@ -139,11 +139,30 @@ all_without P i [] h = tt
 all_without P i (e ∷ es) h =
     elim (e.line == i) as (λ b. AllByRecursion P (map item_of (if b then es else e ∷ without i es))) [ true ↦ h.1 | false ↦ (h.0, all_without P i es h.1) ]
 
+-- what holds of each item holds of the one at a ticket, where there is one
+abbrev OfAny : (Item → Type 0) → Option Item → Type 0
+OfAny P None = Unit {0}
+OfAny P (Some x) = P x
+
+of_item_at : (P : Item → Type 0) (i : ℕ) (es : List Entry) → AllByRecursion P (map item_of es) → OfAny P (item_at i es)
+of_item_at P i [] h = tt
+of_item_at P i (e ∷ es) h =
+    elim (e.line == i) as (λ b. OfAny P (if b then Some (item_of e) else item_at i es)) [ true ↦ h.0 | false ↦ of_item_at P i es h.1 ]
+
+moved_items : (wide : Bool) (n p : ℕ) (x : Option Item) (es : List Entry) → p < bound_of wide → OfAny (IsItemOf wide) x → AreItemsOf wide (map item_of es)
+    → AreItemsOf wide (map item_of (with_moved n p x es))
+moved_items wide n p None es low found h = h
+moved_items wide n p (Some x) es low found h =
+    let e = entry n (item p x.value) in
+    subst (AreItemsOf wide) (sym (map-put e es)) (with_item_items wide (item p x.value) (map item_of es) (low, found.1) h)
+
 -- what is done by a ticket keeps them too
 pub entries_items : (wide : Bool) (es : List Entry) (n : ℕ) (o : Operation) → IsProperOperationOf wide o → AreItemsOf wide (map item_of es)
     → AreItemsOf wide (map item_of (entries_after es n o))
 entries_items wide es n (Asked q) i h = subst (AreItemsOf wide) (sym (map-asked es n q)) (content_items wide (map item_of es) q i h)
 entries_items wide es n (ByTicket (Remove i)) u h = all_without (IsItemOf wide) i es h
+entries_items wide es n (ByTicket (Move i p)) low h =
+    moved_items wide n p (item_at i es) (without i es) low (of_item_at (IsItemOf wide) i es h) (all_without (IsItemOf wide) i es h)
 
 taken_proper : (wide : Bool) (i : ℕ) (es : List Entry) → AreItemsOf wide (map item_of es) → IsProperReplyOf wide (taken (item_at i es))
 taken_proper wide i [] h = tt
@@ -152,7 +171,7 @@ taken_proper wide i (e ∷ es) h =
 
 pub reply_by_proper : (wide : Bool) (es : List Entry) (o : Operation) → AreItemsOf wide (map item_of es) → IsProperReplyOf wide (reply_by es o)
 reply_by_proper wide es (Asked q) h = reply_proper wide (map item_of es) q h
-reply_by_proper wide es (ByTicket (Remove i)) h = taken_proper wide i es h
+reply_by_proper wide es (ByTicket t) h = taken_proper wide (ticket_of t) es h
 
 length-with_entry : (e : Entry) (es : List Entry) → length (with_entry e es) ≡ length es + 1
 length-with_entry e [] = refl
@@ -166,12 +185,17 @@ length-without i (e ∷ es) =
     elim (e.line == i) as (λ b. length (if b then es else e ∷ without i es)
     ≤ length (e ∷ es)) [ true ↦ omega arith | false ↦ omega (arith, length-without i es) ]
 
+length-moved : (n p : ℕ) (x : Option Item) (es : List Entry) → length (with_moved n p x es) ≤ length es + 1
+length-moved n p None es = omega arith
+length-moved n p (Some x) es = omega (arith, length-with_entry (entry n (item p x.value)) es)
+
 entries_longer : (es : List Entry) (n : ℕ) (d : Operation) → length (entries_after es n d) ≤ length es + 1
 entries_longer es n (Asked (Push x)) = omega (arith, length-with_entry (entry n x) es)
 entries_longer [] n (Asked Pop) = omega arith
 entries_longer (e ∷ es) n (Asked Pop) = omega arith
 entries_longer es n (Asked Least) = omega arith
 entries_longer es n (ByTicket (Remove i)) = omega (arith, length-without i es)
+entries_longer es n (ByTicket (Move i p)) = omega (arith, length-moved n p (item_at i es) (without i es), length-without i es)
 
 length-entries_from : (es : List Entry) (n : ℕ) (ls : List Line) → length (entries_from es n ls) ≤ length es + length ls
 length-entries_from es n [] = omega arith
@@ -226,9 +250,16 @@ ascending_without i (e ∷ es) a =
       | false ↦ (all_without (λ y. not_above (item_of e) y ≡ true) i es a.0, ascending_without i es a.1)
     ]
 
+ascending_moved : (n p : ℕ) (x : Option Item) (es : List Entry) → IsAscending (map item_of es) → IsAscending (map item_of (with_moved n p x es))
+ascending_moved n p None es a = a
+ascending_moved n p (Some x) es a =
+    let e = entry n (item p x.value) in
+    subst IsAscending (sym (map-put e es)) (ascending_with (item p x.value) (map item_of es) a)
+
 entries_ascending : (es : List Entry) (n : ℕ) (d : Operation) → IsAscending (map item_of es) → IsAscending (map item_of (entries_after es n d))
 entries_ascending es n (Asked q) a = subst IsAscending (sym (map-asked es n q)) (content_ascending (map item_of es) q a)
 entries_ascending es n (ByTicket (Remove i)) a = ascending_without i es a
+entries_ascending es n (ByTicket (Move i p)) a = ascending_moved n p (item_at i es) (without i es) (ascending_without i es a)
 
 entries_from_ascending : (es : List Entry) (n : ℕ) (ls : List Line) → IsAscending (map item_of es) → IsAscending (map item_of (entries_from es n ls))
 entries_from_ascending es n [] a = a

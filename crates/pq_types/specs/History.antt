@@ -8,7 +8,7 @@ use Rattle.pq_types.specs.Asked.{Answer}
 use Rattle.pq_types.specs.declared.answer.Answer.TheVariants.{Entered, BookFull, NoMemory}
 use Rattle.pq_types.specs.Asked.{Line}
 use Rattle.pq_types.specs.Asked.{Operation}
-use Rattle.pq_types.specs.Operation.{Asked, ByTicket, Remove}
+use Rattle.pq_types.specs.Operation.{Asked, ByTicket, Remove, Move}
 use Rattle.pq_types.specs.Queue.{IsPush}
 use Rattle.pq_types.specs.Entry.{Entry, item_of, entries_after, reply_by}
 
@@ -55,7 +55,8 @@ last_serial place (l ∷ ls) = max (if l.place == place then l.serial else 0) (l
 -- an operation that wants room for an item
 abbrev pub PutsIn : Operation → Type 0
 PutsIn (Asked request) = IsPush request
-PutsIn (ByTicket ticketed) = ⊥
+PutsIn (ByTicket (Remove i)) = ⊥
+PutsIn (ByTicket (Move i priority)) = Unit {0}
 
 -- the journal after something is answered: what is entered has a line at the end, anything else has none
 abbrev pub journal_by : List Line → ℕ → ℕ → Operation → Answer → List Line
@@ -67,13 +68,9 @@ journal_by lines place serial operation NoMemory = lines
 abbrev pub journal_after : List Line → ℕ → ℕ → Request → Answer → List Line
 journal_after lines place serial request answer = journal_by lines place serial (Asked request) answer
 
--- the journal after a removal of what this line put in is answered
-abbrev pub journal_after_removal : List Line → ℕ → ℕ → ℕ → Answer → List Line
-journal_after_removal lines place serial i answer = journal_by lines place serial (ByTicket (Remove i)) answer
-
 -- What an operation may be answered where the journal has these lines and room for so many: BookFull
 -- where it is full; else the next line's number and the one-thread queue's reply, or, to a push
--- alone, NoMemory.
+-- or a move alone, NoMemory.
 abbrev pub MayDo : ℕ → List Line → Operation → Answer → Type 0
 MayDo room lines operation (Entered number reply) =
     (length lines < room) × (number ≡ length lines + 1) × (reply ≡ reply_by (entries_of lines) operation)
@@ -88,18 +85,22 @@ MayAnswer room lines request answer = MayDo room lines (Asked request) answer
 abbrev pub MayRemove : ℕ → List Line → ℕ → Answer → Type 0
 MayRemove room lines i answer = MayDo room lines (ByTicket (Remove i)) answer
 
--- the line is no removal
+-- what a move to this priority of what this line put in may be answered
+abbrev pub MayMove : ℕ → List Line → ℕ → ℕ → Answer → Type 0
+MayMove room lines i priority answer = MayDo room lines (ByTicket (Move i priority)) answer
+
+-- the line is a request, and no use of a ticket
 abbrev pub IsAsked : Operation → Type 0
 IsAsked (Asked q) = Unit {0}
-IsAsked (ByTicket (Remove i)) = ⊥
+IsAsked (ByTicket ticketed) = ⊥
 
-abbrev pub HasNoRemovals : List Line → Type 0
-HasNoRemovals lines = AllByRecursion (λ l. IsAsked l.operation) lines
+abbrev pub AreAllAsked : List Line → Type 0
+AreAllAsked lines = AllByRecursion (λ l. IsAsked l.operation) lines
 
 -- the requests of the lines, in their order
 abbrev pub asked_before : Operation → List Request → List Request
 asked_before (Asked q) qs = q ∷ qs
-asked_before (ByTicket (Remove i)) qs = qs
+asked_before (ByTicket ticketed) qs = qs
 
 abbrev pub requests_of : List Line → List Request
 requests_of [] = []

@@ -1,5 +1,5 @@
 -- An item of the queue: a priority, by which the queue is ordered, and a value, which it carries.
-use Rattle.std.specs.Prelude.{◌≡◌, ℕ, ◌+◌, ◌*◌, ◌^◌, ◌<◌, Bool, true, false, nat_le}
+use Rattle.std.specs.Prelude.{ℕ, ◌+◌, ◌*◌, ◌^◌, ◌<◌, Bool, true, false, nat_le}
 
 -- an item as contracts see it, whatever the width of its parts
 pub record Item : Type 0 where

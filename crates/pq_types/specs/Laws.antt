@@ -1,6 +1,6 @@
 -- What the laws about journals and contents say, for whoever builds on them (src/laws.rt proves
 -- them).
-use Rattle.std.specs.Prelude.{◌≡◌, ℕ, ◌+◌, ◌^◌, ◌<◌, ◌≤◌, max, Bool, if◌then◌else◌, ◌==◌, List, [], ◌∷◌, ◌++◌, length, map, ◌↔◌}
+use Rattle.std.specs.Prelude.{◌≡◌, ℕ, ◌+◌, ◌^◌, ◌<◌, ◌≤◌, max, Bool, if◌then◌else◌, ◌==◌, List, [], ◌∷◌, ◌++◌, length, map, None, ◌↔◌}
 use Rattle.std.specs.List.{AllByRecursion}
 use Rattle.pq_types.specs.Item.{Item}
 use Rattle.pq_types.specs.Asked.{Request, Operation}
@@ -9,10 +9,10 @@ use Rattle.pq_types.specs.declared.control.Control.{Control}
 use Rattle.pq_types.specs.Item.{IsItem, item_word}
 use Rattle.pq_types.specs.Mail.{IsProperControl, control_word}
 use Rattle.pq_types.specs.Queue.{AreItemsOf, IsAscending, IsProperRequestOf, IsProperReplyOf, content_after, reply_to}
-use Rattle.pq_types.specs.Operation.{Asked}
+use Rattle.pq_types.specs.Operation.{Asked, ByTicket, Ticketed, ticket_of}
 use Rattle.pq_types.specs.Queue.{replies_from, content_after_all}
-use Rattle.pq_types.specs.Entry.{Entry, item_of, entries_after, reply_by, IsProperOperationOf}
-use Rattle.pq_types.specs.History.{left, entries_of, IsLegal, SerialsRise, last_serial, HasNoRemovals, requests_of, replies_of}
+use Rattle.pq_types.specs.Entry.{Entry, item_of, item_at, entries_after, reply_by, IsProperOperationOf}
+use Rattle.pq_types.specs.History.{left, entries_of, IsLegal, SerialsRise, last_serial, AreAllAsked, requests_of, replies_of}
 
 -- one more line's request is carried out on what the others leave
 abbrev pub LeavesOneMore : Type 0
@@ -28,12 +28,17 @@ abbrev pub StaysLegal : Type 0
 StaysLegal = (lines : List Line) (line : Line) → IsLegal lines → line.reply ≡ reply_by (entries_of lines) line.operation
     → IsLegal (lines ++ line ∷ [])
 
--- A journal without removals leaves what its requests leave one after another, and it is a legal history
+-- A journal of requests alone leaves what these leave one after another, and it is a legal history
 -- exactly where its replies are those of the one-thread queue to them.
-abbrev pub WithoutRemovals : Type 0
-WithoutRemovals = (lines : List Line) → HasNoRemovals lines
+abbrev pub WithoutTickets : Type 0
+WithoutTickets = (lines : List Line) → AreAllAsked lines
     → (left lines ≡ content_after_all [] (requests_of lines))
     × (IsLegal lines ↔ (replies_of lines ≡ replies_from [] (requests_of lines)))
+
+-- where no item waits under a ticket, its use changes nothing
+abbrev pub VainChangeNothing : Type 0
+VainChangeNothing = (entries : List Entry) (number : ℕ) (ticketed : Ticketed) → item_at (ticket_of ticketed) entries ≡ None
+    → entries_after entries number (ByTicket ticketed) ≡ entries
 
 -- serials still rise with a line whose serial is above each of its place
 abbrev pub StillRises : Type 0
@@ -66,7 +71,7 @@ abbrev pub RepliesAreProper : Type 0
 RepliesAreProper = (wide : Bool) (content : List Item) (request : Request) → AreItemsOf wide content
     → IsProperReplyOf wide (reply_to content request)
 
--- what is done keeps the items of entries in their range, where a request's item is in it
+-- what is done keeps the items of entries in their range, where a request's item is in it, and a move's priority
 abbrev pub EntriesStayInRange : Type 0
 EntriesStayInRange =
     (wide : Bool) (entries : List Entry) (number : ℕ) (operation : Operation) → IsProperOperationOf wide operation

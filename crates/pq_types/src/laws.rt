@@ -1,8 +1,8 @@
 // What holds of the definitions alone, whatever code there is. A call of a law runs nothing: it
 // hands the law's facts to the proof of its caller.
-ghost use Rattle.pq_types.specs.Laws.{LeavesOneMore, EntersOneMore, WithoutRemovals, StaysLegal, StillRises, SerialOfOneMore};
+ghost use Rattle.pq_types.specs.Laws.{LeavesOneMore, EntersOneMore, WithoutTickets, StaysLegal, StillRises, SerialOfOneMore};
 ghost use Rattle.pq_types.specs.Laws.{NoMoreItemsThanLines, LeavesAscending};
-ghost use Rattle.pq_types.specs.Laws.{ItemsStayInRange, RepliesAreProper, EntriesStayInRange, RepliesByAreProper};
+ghost use Rattle.pq_types.specs.Laws.{ItemsStayInRange, RepliesAreProper, EntriesStayInRange, RepliesByAreProper, VainChangeNothing};
 ghost use Rattle.pq_types.specs.Outs.{VainAreTold};
 ghost use Rattle.pq_types.specs.Queue.{IsProperRequestOf};
 ghost use Rattle.pq_types.specs.Laws.{ControlWordsDiffer, ItemWordsDiffer, WordsFit};
@@ -22,17 +22,18 @@ pub fn law_one_more_line()
     ensures ascending { LeavesAscending }
 {}
 
-/// A journal without removals: it leaves what its requests leave, and is legal where its replies are those to them.
-pub fn law_without_removals()
-    ensures { WithoutRemovals }
+/// A journal of requests alone: it leaves what these leave, and is legal where its replies are those to them.
+pub fn law_without_tickets()
+    ensures { WithoutTickets }
 {}
 
-/// A removal that takes nothing out replies Empty.
-pub fn law_removals()
-    ensures { VainAreTold }
+/// A removal or a move that finds no item under its ticket replies Empty, and changes nothing.
+pub fn law_by_tickets()
+    ensures told { VainAreTold }
+    ensures unchanged { VainChangeNothing }
 {}
 
-/// Proper requests keep the items of a content in their range, and so the replies.
+/// Proper operations keep the items of a content in their range, and so the replies.
 pub fn law_items_stay_in_range()
     ensures content { ItemsStayInRange }
     ensures reply { RepliesAreProper }

@@ -14,6 +14,7 @@ pub mod mail;
 pub mod operation;
 pub mod part;
 pub mod request;
+pub mod ticketed;
 
 pub use answer::{Answer, Reply};
 pub use control::{Control, Kind, Notice, Outcome};
@@ -23,3 +24,4 @@ pub use mail::Mail;
 pub use operation::{Done, Operation};
 pub use part::Part;
 pub use request::Request;
+pub use ticketed::{Deed, Ticketed};

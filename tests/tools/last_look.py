@@ -4,6 +4,16 @@ left behind a look in vain that began once the queue was seen shut, and nobody p
 Written by hand, after crates/flat_queue/src/ending.rt, hint.rt, others.rt, searching.rt and shutting.rt. One takes what there is, one
 posts a push, one carries a push out itself, and one shuts the queue; and any other leads as often as it likes. Each load and store of
 the end and of the hint is a step of its own, and so is each place that a sweep serves. The first pop of a take is posted, or its own.
+
+Why nothing comes after the end. A word says for good that the queue is shut (s). An own push checks it under the lock. A post of a push counts
+itself as posting (p1), checks the word (p2), posts (p3), and counts itself out (p4). A waiting call, once announced, finds the word set (e1),
+then nobody posting (e2). It makes a round (e3), looks, and returns the end if there was no item (e4).
+
+- An own push that was not refused checked before s. So it has the lock before e3, and is carried out before e4.
+- Of such a post p2 came before s, so p1 before e2, where it is counted out. Hence p3 came before e2, and the round finds it.
+- The event counted after s wakes those that sleep; in C, C++ and Rust the shut wakes the whole list. A thread announced later finds e1.
+- In Rattle the look itself serves, after e2, where the hint says that somebody has posted; a post sets that before p4. `push_unless_shut`
+  counts as posting to its end.
 """
 from collections import namedtuple
 from itertools import permutations

@@ -1,4 +1,4 @@
--- Runs of requests and removals on a Book, by induction over them.
+-- Runs of requests, removals and moves on a Book, by induction over them.
 use Rattle.std.proofs.Common.{◌≡◌, ℕ, ◌+◌, ◌<◌, List, [], ◌∷◌, ◌++◌, length, map, length-append, refl, sym, ◌∙◌, ap, subst, arith}
 use Rattle.pq_types.specs.Asked.{Operation, Answer, Line}
 use Rattle.pq_types.specs.declared.answer.Answer.TheVariants.{Entered, BookFull, NoMemory}

@@ -1,4 +1,4 @@
--- Runs of requests and removals on a Book.
+-- Runs of requests, removals and moves on a Book.
 use Rattle.std.specs.Prelude.{◌≡◌, ℕ, ◌+◌, ◌<◌, List, [], ◌∷◌, ◌++◌}
 use Rattle.pq_types.specs.Asked.{Operation, Reply, Answer, Line}
 use Rattle.pq_types.specs.Operation.{Asked}
@@ -6,7 +6,7 @@ use Rattle.pq_types.specs.Entry.{Entry, entries_after, reply_by}
 use Rattle.pq_types.specs.History.{last_serial, journal_by, MayDo}
 use Rattle.pq_book.specs.Book.{Dealing, with_entered, with_reply}
 
--- a request or a removal from a place, with its serial and its answer
+-- a request, a removal or a move from a place, with its serial and its answer
 pub record Doing : Type 0 where
   pub place : ℕ
   pub serial : ℕ

@@ -24,7 +24,7 @@ use std::alloc::{AllocError, Allocator};
 use std::marker::Model;
 use thiserror::Error;
 
-pub mod removal;
+pub mod by_ticket;
 
 /// Why there is no Book.
 #[derive(Clone, Copy, Debug, PartialEq, Eq, Error)]
@@ -49,9 +49,9 @@ impl BookError {
     }
 }
 
-/// A store of items and the journal of the requests and removals that were carried out on it. Its
-/// store always holds what the journal leaves on the empty queue, each item with the journal line of
-/// its push; each line has the reply of that queue, and the serials of each place rise strictly. In
+/// A store of items and the journal of the requests, removals and moves that were carried out on it. Its
+/// store always holds what the journal leaves on the empty queue, each item with the journal line that
+/// put it in; each line has the reply of that queue, and the serials of each place rise strictly. In
 /// memory is a page of the journal: all lines of one with room for 1,048,576 at most, else the last
 /// 65,536. A contract sees the room and the whole journal.
 #[derive(Drop)]
@@ -226,7 +226,7 @@ impl<S: Store<Entry<P>>, A: Allocator, P: Part> Book<S, A, P> {
     pub fn lines_from<B: Allocator>(
         &self,
         archived: u64,
-        archive: &mut Vec<Line<Item<P>>, B>,
+        archive: &mut Vec<Line<P>, B>,
     ) -> Result<(), LinesError>
         ensures ok { OnOk result (archive.new.items ≡ archive.old.items ++ drop archived self.now.journal) }
         ensures err { OnErr result (archive.new.items ≡ archive.old.items) }
@@ -244,7 +244,7 @@ impl<S: Store<Entry<P>>, A: Allocator, P: Part> Book<S, A, P> {
 
     /// What `into_parts` gives of the Book in this place, which is empty then. It is handed over in a place, since the borrow
     /// checker covers no call that takes a Book whose width is a parameter of what is called.
-    pub fn take_parts(place: &mut Option<Self>) -> (S, u64, Vec<Line<Item<P>>, A>)
+    pub fn take_parts(place: &mut Option<Self>) -> (S, u64, Vec<Line<P>, A>)
         requires { IsSome place.old }
         ensures { IfSome place.old (λ book. AreParts book (S.content result.0) result.1 result.2.items) }
     {
@@ -263,7 +263,7 @@ impl<S: Store<Entry<P>>, A: Allocator, P: Part> Book<S, A, P> {
 
 impl<S: Store<Entry>, A: Allocator> Book<S, A> {
     /// The store, how many lines are forgotten, and the others. The store holds what the journal
-    /// leaves: the items that are in the queue, each with the line of its push. Takes no memory.
+    /// leaves: the items that are in the queue, each with the line that put it in. Takes no memory.
     pub fn into_parts(self) -> (S, u64, Vec<Line, A>)
         ensures { AreParts self (S.content result.0) result.1 result.2.items }
     {
@@ -326,7 +326,7 @@ fn carried_out<S: Store<Entry<P>>, P: Part>(
 }
 
 // The last line of a place has its greatest serial.
-fn last_serial_in<P: Part>(lines: &[Line<Item<P>>], place: u16) -> u64
+fn last_serial_in<P: Part>(lines: &[Line<P>], place: u16) -> u64
     requires { SerialsRise lines.now }
     ensures { result ≡ last_serial place lines.now }
 {

@@ -1,5 +1,5 @@
 // What a Book hands out of its journal.
-use pq_types::{Item, Line, Part};
+use pq_types::{Line, Part};
 use thiserror::Error;
 
 /// Why lines could not be copied to an archive.
@@ -19,6 +19,6 @@ pub enum LinesError {
 pub struct LastLines<'a, P: Part = u32> {
     /// How many lines came before them.
     pub forgotten: u64,
-    pub older: &'a [Line<Item<P>>],
-    pub newer: &'a [Line<Item<P>>],
+    pub older: &'a [Line<P>],
+    pub newer: &'a [Line<P>],
 }

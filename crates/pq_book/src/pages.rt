@@ -4,7 +4,7 @@ ghost use Rattle.std.specs.Prelude.{drop, vec_len, vec_capacity, IfOk, OnOk, OnE
 ghost use Rattle.pq_book.specs.Pages.{Pages, all, turned};
 
 use crate::forgotten::Forgotten;
-use pq_types::{Item, Line, Operation, Part, Reply, Request};
+use pq_types::{Line, Operation, Part, Reply, Request};
 use std::alloc::{AllocError, Allocator};
 use std::marker::Model;
 
@@ -14,7 +14,7 @@ use std::marker::Model;
 pub struct Journal<A: Allocator, P: Part = u32> {
     forgotten: Forgotten,
     // A ring once lines are forgotten: the next one takes the place of the oldest.
-    page: Vec<Line<Item<P>>, A>,
+    page: Vec<Line<P>, A>,
     oldest: usize,
     lines: u64,
 }
@@ -63,7 +63,7 @@ impl<A: Allocator, P: Part> Journal<A, P> {
     }
 
     /// One line more. Where the page is full, its oldest line is forgotten.
-    pub fn add(&mut self, line: Line<Item<P>>)
+    pub fn add(&mut self, line: Line<P>)
         requires { length (all self.old) < 2 ^ 63 }
         ensures lines { all self.new ≡ all self.old ++ line ∷ [] }
         ensures page { self.new.page ≡ self.old.page }
@@ -82,7 +82,7 @@ impl<A: Allocator, P: Part> Journal<A, P> {
     }
 
     /// The lines that are kept, the older ones first: all in the first piece while none is forgotten.
-    pub fn kept(&self) -> (&[Line<Item<P>>], &[Line<Item<P>>])
+    pub fn kept(&self) -> (&[Line<P>], &[Line<P>])
         ensures lines { result.0.now ++ result.1.now ≡ self.now.kept }
         ensures straight { self.now.forgotten ≡ [] → result.0.now ≡ self.now.kept }
         ensures counted { length result.0.now + length result.1.now ≡ length self.now.kept }
@@ -96,7 +96,7 @@ impl<A: Allocator, P: Part> Journal<A, P> {
     pub fn copy_from<B: Allocator>(
         &self,
         first: u64,
-        archive: &mut Vec<Line<Item<P>>, B>,
+        archive: &mut Vec<Line<P>, B>,
     ) -> Result<(), AllocError>
         requires kept { length self.now.forgotten ≤ first }
         requires there { first ≤ length (all self.now) }
@@ -109,7 +109,7 @@ impl<A: Allocator, P: Part> Journal<A, P> {
     }
 
     /// The lines that are kept.
-    pub fn into_kept(self) -> Vec<Line<Item<P>>, A>
+    pub fn into_kept(self) -> Vec<Line<P>, A>
         ensures { result.items ≡ self.kept }
     {
         let Journal {
@@ -126,10 +126,10 @@ impl<A: Allocator, P: Part> Journal<A, P> {
 // Puts the line in the place of the oldest one of a full page: the index of the next oldest, and the
 // line that stood there.
 fn put_in_turn<A: Allocator, P: Part>(
-    page: &mut Vec<Line<Item<P>>, A>,
+    page: &mut Vec<Line<P>, A>,
     oldest: usize,
-    line: Line<Item<P>>,
-) -> (usize, Line<Item<P>>)
+    line: Line<P>,
+) -> (usize, Line<P>)
     requires { oldest < vec_len page.old }
     ensures lines { turned oldest page.old.items ++ line ∷ [] ≡ result.1 ∷ turned result.0 page.new.items }
     ensures next { result.0 < vec_len page.new }
@@ -146,10 +146,10 @@ fn put_in_turn<A: Allocator, P: Part>(
 
 // Copies those of the older and the newer lines that are behind the first so many.
 fn copy_behind<B: Allocator, P: Part>(
-    older: &[Line<Item<P>>],
-    newer: &[Line<Item<P>>],
+    older: &[Line<P>],
+    newer: &[Line<P>],
     skipped: usize,
-    archive: &mut Vec<Line<Item<P>>, B>,
+    archive: &mut Vec<Line<P>, B>,
 ) -> Result<(), AllocError>
     requires { skipped ≤ length older.now + length newer.now }
     ensures ok { OnOk result (archive.new.items ≡ archive.old.items ++ drop skipped (older.now ++ newer.now)) }
@@ -165,10 +165,7 @@ fn copy_behind<B: Allocator, P: Part>(
 }
 
 // Copies lines for which there is room.
-fn copy_reserved<B: Allocator, P: Part>(
-    lines: &[Line<Item<P>>],
-    archive: &mut Vec<Line<Item<P>>, B>,
-)
+fn copy_reserved<B: Allocator, P: Part>(lines: &[Line<P>], archive: &mut Vec<Line<P>, B>)
     requires { vec_len archive.old + length lines.now ≤ vec_capacity archive.old }
     ensures items { archive.new.items ≡ archive.old.items ++ lines.now }
     ensures len { vec_len archive.new ≡ vec_len archive.old + length lines.now }
@@ -183,7 +180,7 @@ fn copy_reserved<B: Allocator, P: Part>(
 fn written_page<A: Allocator, P: Part>(
     alloc: A,
     lines: usize,
-) -> Result<Vec<Line<Item<P>>, A>, AllocError>
+) -> Result<Vec<Line<P>, A>, AllocError>
     ensures written { IfOk result (λ v. vec_len v ≡ lines) }
     ensures room { IfOk result (λ v. vec_capacity v ≡ lines) }
 {
@@ -201,10 +198,7 @@ fn written_page<A: Allocator, P: Part>(
 
 // An empty page with room for so many lines, each of which was written once, so that no page of
 // memory is touched for the first time while a combiner holds the lock.
-fn blank_page<A: Allocator, P: Part>(
-    alloc: A,
-    lines: usize,
-) -> Result<Vec<Line<Item<P>>, A>, AllocError>
+fn blank_page<A: Allocator, P: Part>(alloc: A, lines: usize) -> Result<Vec<Line<P>, A>, AllocError>
     ensures empty { IfOk result (λ v. v.items ≡ []) }
     ensures room { IfOk result (λ v. vec_capacity v ≡ lines) }
 {

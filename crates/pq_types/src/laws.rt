@@ -5,11 +5,14 @@ ghost use Rattle.pq_types.specs.Laws.{NoMoreItemsThanLines, LeavesAscending};
 ghost use Rattle.pq_types.specs.Laws.{ItemsStayInRange, RepliesAreProper, EntriesStayInRange, RepliesByAreProper, VainChangeNothing};
 ghost use Rattle.pq_types.specs.Outs.{VainAreTold};
 ghost use Rattle.pq_types.specs.Queue.{IsProperRequestOf};
+ghost use Rattle.pq_types.specs.Operation.{ByTicket};
+ghost use Rattle.pq_types.specs.Entry.{IsProperOperationOf};
 ghost use Rattle.pq_types.specs.Laws.{ControlWordsDiffer, ItemWordsDiffer, WordsFit};
 
 use crate::item::Item;
 use crate::part::Part;
 use crate::request::Request;
+use crate::ticketed::{Deed, Ticketed};
 
 /// A journal that gains a line: what it leaves, and when it stays the history of one queue.
 pub fn law_one_more_line()
@@ -47,6 +50,15 @@ pub fn law_request_is_proper<P: Part>(request: &Request<Item<P>>)
 {
     if let Request::Push(item) = request {
         item.parts();
+    }
+}
+
+/// The use of a ticket is proper: the priority of a move is in the range of its width.
+pub fn law_ticketed_is_proper<P: Part>(ticketed: &Ticketed<P>)
+    ensures { IsProperOperationOf P.wide (ByTicket ticketed.now) }
+{
+    if let Deed::Move(priority, _) = &ticketed.deed {
+        priority.as_u64();
     }
 }
 

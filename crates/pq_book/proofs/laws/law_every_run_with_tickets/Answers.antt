@@ -1,6 +1,6 @@
 use Rattle.std.proofs.Common.{[], arith}
 use Rattle.pq_book.proofs.Doings.{ran, requests_run, doings_join}
-use Rattle.pq_book.proofs.laws.law_every_run_with_removals.Goals as goal
+use Rattle.pq_book.proofs.laws.law_every_run_with_tickets.Goals as goal
 
 pub returns : goal.returns
 returns c =

@@ -2,8 +2,8 @@ use Rattle.std.proofs.Common.{◌∙◌, ap}
 use Rattle.std.specs.Prelude.{Option, Some}
 use Rattle.std.specs.Option.{option_map}
 use Rattle.pq_types.specs.Entry.{Entry, item_of, taken}
-use Rattle.pq_book.proofs.Removals.{without_line, item_there}
-use Rattle.pq_book.proofs.book.removal.removed.Goals as goal
+use Rattle.pq_book.proofs.ByTicket.{without_line, item_there}
+use Rattle.pq_book.proofs.book.by_ticket.removed.Goals as goal
 
 pub returns-in-Some-clause-reply : goal.returns-in-Some-clause-reply
 returns-in-Some-clause-reply g c =

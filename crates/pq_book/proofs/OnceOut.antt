@@ -1,20 +1,21 @@
 -- What a line put in goes out once, and its taker replies with it.
 use Rattle.std.proofs.Common.{◌≡◌, ℕ, ◌+◌, ◌<◌, ◌≤◌, ◌⊎◌, inl, inr, Bool, true, false}
 use Rattle.std.proofs.Common.{List, [], ◌∷◌, ◌++◌, length, refl, sym, ◌∙◌, ap, subst, arith, eq-eqb, ne_eqb}
-use Rattle.std.specs.Prelude.{◌==◌, ◌||◌, if◌then◌else◌, Some}
+use Rattle.std.specs.Prelude.{◌==◌, ◌||◌, if◌then◌else◌, Option, Some, None}
 use Rattle.std.specs.List.{AllByRecursion}
 use Rattle.std.proofs.lemmas.Bool.{cases_lt}
 use Rattle.std.proofs.lemmas.Bool.Decides.{nat_tests}
+use Rattle.pq_types.specs.Item.{Item, item}
 use Rattle.pq_types.specs.Asked.{Line, Operation}
 use Rattle.pq_types.specs.declared.request.Request.TheVariants.{Push, Pop, Least}
 use Rattle.pq_types.specs.declared.answer.Reply.TheVariants.{Got}
-use Rattle.pq_types.specs.Operation.{Asked, ByTicket, Remove}
-use Rattle.pq_types.specs.Entry.{Entry, entry, item_of, item_at, taken, entry_not_above, with_entry, without, entries_after, reply_by}
+use Rattle.pq_types.specs.Operation.{Asked, ByTicket, Remove, Move, Ticketed, ticket_of}
+use Rattle.pq_types.specs.Entry.{Entry, entry, item_of, item_at, taken, entry_not_above, with_entry, without, with_moved, entries_after, reply_by}
 use Rattle.pq_types.specs.History.{entries_from, entries_of, IsLegal}
-use Rattle.pq_types.specs.Outs.{StandsAt, IsPushedOn, IsOutOn}
-use Rattle.pq_book.specs.Outs.{OutOnce, OutAreTold}
-use Rattle.pq_book.proofs.Entries.{along, entries_from-append, entries_of-snoc, lines_below, entries_are_pushes}
-use Rattle.pq_book.proofs.FirstIn.{TakesOut, waits, waits_put, found, false_true, same_line, reaches, legal_at, pushed_in}
+use Rattle.pq_types.specs.Outs.{StandsAt, IsPutInOn, IsOutOn, put_in, under}
+use Rattle.pq_book.specs.Outs.{OutOnce, OutAreTold, MovedAreSame}
+use Rattle.pq_book.proofs.Entries.{along, entries_from-append, entries_of-snoc, all_without, lines_below, entries_are_put_in}
+use Rattle.pq_book.proofs.FirstIn.{TakesOut, waits, waits_put, found, false_true, same_line, same_before, one_put, reaches, legal_at, put_in_whole}
 
 -- no two entries have one line
 abbrev AreDistinct : List Entry → Type 0
@@ -85,6 +86,17 @@ distinct = along (λ journal. AreDistinct (entries_of journal)) tt
       distinct_after (e ∷ es) n (Asked Pop) below h = h.1
       distinct_after es n (Asked Least) below h = h
       distinct_after es n (ByTicket (Remove i)) below h = distinct_without i es h
+      distinct_after es n (ByTicket (Move i p)) below h = distinct_moved (item_at i es) where
+        distinct_moved : (x : Option Item) → AreDistinct (with_moved n p x (without i es))
+        distinct_moved None = distinct_without i es h
+        distinct_moved (Some x) =
+            distinct_put (entry n (item p x.value)) (without i es) (later_waits_not n (without i es) (all_without (λ f. f.line < n) i es below)) (distinct_without i es h)
+
+-- nor where one of a later line is put in
+moved_waits_not : (i n p : ℕ) (x : Option Item) (es : List Entry) → i < n → waits i es ≡ false → waits i (with_moved n p x es) ≡ false
+moved_waits_not i n p None es less gone = gone
+moved_waits_not i n p (Some x) es less gone =
+    waits_put i (entry n (item p x.value)) es ∙ or_false (n == i) (waits i es) (ne_eqb n i (λ is. omega (arith, less, is))) gone
 
 -- what does not wait does not wait after later lines
 gone_for_good : (i n : ℕ) (es : List Entry) (ls : List Line) → i < n → waits i es ≡ false → waits i (entries_from es n ls) ≡ false
@@ -96,6 +108,7 @@ gone_for_good i n es (l ∷ ls) less gone = gone_for_good i (n + 1) (entries_aft
   one_more (f ∷ fs) (Asked Pop) gone = right_false (f.line == i) (waits i fs) gone
   one_more fs (Asked Least) gone = gone
   one_more fs (ByTicket (Remove j)) gone = still_gone j i fs gone
+  one_more fs (ByTicket (Move j p)) gone = moved_waits_not i n p (item_at j fs) (without j fs) less (still_gone j i fs gone)
 
 waits_within : (i : ℕ) (front back : List Entry) (e : Entry) → e.line ≡ i → waits i (front ++ e ∷ back) ≡ true
 waits_within i [] back e is = ap (λ b. b || waits i back) (eq-eqb e.line i is)
@@ -107,13 +120,18 @@ waits_within i (f ∷ front) back e is = at_choice (waits_within i front back e 
 -- what a line takes out waits before it
 waits_before : (i : ℕ) (es : List Entry) (o : Operation) → TakesOut i es o → waits i es ≡ true
 waits_before i es o (inl (pops, (e, rest, first, is))) = ap (waits i) first ∙ waits_within i [] rest e is
-waits_before i es o (inr (removes, s)) = ap (waits i) s.split ∙ waits_within i s.front s.back s.own s.is
+waits_before i es o (inr (uses, s)) = ap (waits i) s.split ∙ waits_within i s.front s.back s.own s.is
 
-gone_after : (i n : ℕ) (es : List Entry) (o : Operation) → AreDistinct es → TakesOut i es o → waits i (entries_after es n o) ≡ false
-gone_after i n es o h (inl (pops, (e, rest, first, is))) =
+gone_used : (i n : ℕ) (t : Ticketed) (es : List Entry) → i < n → AreDistinct es → ticket_of t ≡ i → waits i (entries_after es n (ByTicket t)) ≡ false
+gone_used i n (Remove j) es less h own = subst (λ m. waits i (without m es) ≡ false) (sym own) (gone_without i es h)
+gone_used i n (Move j p) es less h own =
+    moved_waits_not i n p (item_at j es) (without j es) less (subst (λ m. waits i (without m es) ≡ false) (sym own) (gone_without i es h))
+
+gone_after : (i n : ℕ) (es : List Entry) (o : Operation) → i < n → AreDistinct es → TakesOut i es o → waits i (entries_after es n o) ≡ false
+gone_after i n es o less h (inl (pops, (e, rest, first, is))) =
     ap (λ p. waits i (entries_after es n p)) pops ∙ ap (λ fs. waits i (entries_after fs n (Asked Pop))) first
     ∙ subst (λ m. waits m rest ≡ false) is (subst AreDistinct first h).0
-gone_after i n es o h (inr (removes, s)) = ap (λ p. waits i (entries_after es n p)) removes ∙ gone_without i es h
+gone_after i n es o less h (inr ((t, uses, own), s)) = ap (λ p. waits i (entries_after es n p)) uses ∙ gone_used i n t es less h own
 
 -- the line that takes it out
 pub record Taker (journal : List Line) (i k : ℕ) : Type 0 where
@@ -123,8 +141,8 @@ pub record Taker (journal : List Line) (i k : ℕ) : Type 0 where
 
 taker : (journal : List Line) (i k : ℕ) → IsOutOn journal i k → Taker journal i k
 taker journal i k (inl (l, at, pops, there)) = record { line = l; at = at; out = inl (pops, there) }
-taker journal i k (inr (l, at, removes, (e, front, back, split, is))) =
-    record { line = l; at = at; out = inr (removes, record { own = e; front = front; back = back; split = split; is = is }) }
+taker journal i k (inr (l, at, uses, (e, front, back, split, is))) =
+    record { line = l; at = at; out = inr (uses, record { own = e; front = front; back = back; split = split; is = is }) }
 
 -- an entry's line is one of those before
 waits_below : (i n : ℕ) (es : List Entry) → waits i es ≡ true → AllByRecursion (λ e. e.line < n) es → i < n
@@ -138,7 +156,7 @@ not_later journal i h k less s t =
     let gap = reaches a s.at.behind b t.at.behind s.line t.line (omega (arith, less, s.at.counted, t.at.counted)) (sym s.at.split ∙ t.at.split) in
     let older : i < 1 + length a =
     subst (λ n. i < n) (omega arith) (waits_below i (length a + 1) (entries_of a) (waits_before i (entries_of a) s.line.operation s.out) (lines_below a)) in
-    let gone = gone_after i (1 + length a) (entries_of a) s.line.operation (distinct a) s.out in
+    let gone = gone_after i (1 + length a) (entries_of a) s.line.operation older (distinct a) s.out in
     let later : waits i (entries_of b) ≡ false =
     ap (λ ls. waits i (entries_of ls)) gap.split ∙ ap (waits i) (entries_from-append [] 1 a (s.line ∷ gap.others))
     ∙ gone_for_good i (1 + length a + 1) (entries_after (entries_of a) (1 + length a) s.line.operation) gap.others (omega (arith, older)) gone in
@@ -151,7 +169,7 @@ out_once journal i h k first again = by_order (cases_lt h k) (cases_lt k h) wher
   by_order other (inl less) = absurd (not_later journal i k h less (taker journal i k again) (taker journal i h first))
   by_order (inr more) (inr less) = omega (arith, more, less)
 
--- a removal of what waits gets the item of one of the entries
+-- the item that waits under a ticket is that of one of the entries
 item_that_waits : (P : Entry → Type 0) (i : ℕ) (es : List Entry) → waits i es ≡ true → AllByRecursion P es
     → (e : Entry) × (e.line ≡ i) × P e × (item_at i es ≡ Some (item_of e))
 item_that_waits P i [] w h = false_true w
@@ -166,17 +184,27 @@ reply_out : (P : Entry → Type 0) (i : ℕ) (es : List Entry) (o : Operation) �
     → (e : Entry) × (e.line ≡ i) × P e × (reply_by es o ≡ Got (item_of e))
 reply_out P i es o (inl (pops, (e, rest, first, is))) h =
     (e, is, (subst (AllByRecursion P) first h).0, ap (reply_by es) pops ∙ ap (λ fs. reply_by fs (Asked Pop)) first)
-reply_out P i es o (inr (removes, s)) h =
-    let e = item_that_waits P i es (waits_before i es o (inr (removes, s))) h in
-    (e.0, e.1, e.2, ap (reply_by es) removes ∙ ap taken e.3)
+reply_out P i es o (inr ((t, uses, own), s)) h =
+    let e = item_that_waits P i es (waits_before i es o (inr ((t, uses, own), s))) h in
+    (e.0, e.1, e.2, ap (reply_by es) uses ∙ ap (λ n. taken (item_at n es)) own ∙ ap taken e.3)
 
 pub out_are_told : OutAreTold
 out_are_told journal i k l legal out at =
     let t = taker journal i k out in
     let own : t.line ≡ l = same_line journal k t.line l t.at at in
-    let e = reply_out (λ f. IsPushedOn t.at.before f.line (item_of f)) i (entries_of t.at.before) t.line.operation t.out (entries_are_pushes t.at.before) in
+    let e = reply_out (λ f. IsPutInOn t.at.before f.line (item_of f)) i (entries_of t.at.before) t.line.operation t.out (entries_are_put_in t.at.before) in
     let replied : t.line.reply ≡ Got (item_of e.0) = legal_at [] 1 t.at.before t.line t.at.behind (subst IsLegal t.at.split legal) ∙ e.3 in (
       item_of e.0,
-      pushed_in journal k t.line t.at i (item_of e.0) (subst (λ n. IsPushedOn t.at.before n (item_of e.0)) e.1 e.2),
+      put_in_whole journal k t.line t.at i (item_of e.0) (subst (λ n. IsPutInOn t.at.before n (item_of e.0)) e.1 e.2),
       ap (λ (m : Line). m.reply) (sym own) ∙ replied,
     )
+
+pub moved_are_same : MovedAreSame
+moved_are_same journal i k p x l at is (m, bt, uses, (own, front, back, split, line_is)) put =
+    let es = entries_of at.before in
+    let there : waits i es ≡ true =
+    ap (λ ls. waits i (entries_of ls)) (same_before journal k l m at bt) ∙ ap (waits i) split ∙ waits_within i front back own line_is in
+    let e = item_that_waits (λ f. IsPutInOn at.before f.line (item_of f)) i es there (entries_are_put_in at.before) in
+    let again = put_in_whole journal k l at i (item_of e.0) (subst (λ n. IsPutInOn at.before n (item_of e.0)) e.1 e.2) in
+    let same : item_of e.0 ≡ x = one_put journal i (item_of e.0) x again put in
+    (l, at, ap (put_in es) is ∙ ap (under p) (e.3 ∙ ap Some same))

@@ -37,7 +37,6 @@ use Rattle.pq_book.proofs.forgotten.Forgotten.and.Statement as stated
 use Rattle.pq_book.proofs.forgotten.Forgotten.and.Code as code
 use Rattle.pq_book.specs.contracts.forgotten.Forgotten as forgotten
 use Rattle.pq_types.specs.contracts.journal.Line as line
-use Rattle.pq_types.specs.contracts.item.Item as item
 use Rattle.pq_types.specs.declared.part.Part as part
 use Rattle.std.specs.declared.clone.Clone as clone
 use Rattle.std.specs.declared.cmp.Eq as total
@@ -55,7 +54,7 @@ module _ (P : RattleType) (pg : part.Ghosts P.Denot) (pd : Dict) (cg : clone.Gho
   ended = f.ended P pg pd cg cd tg td eg ed
 
   abbrev asked : RattleType
-  asked = line.the_row (item.the_row (copied 0 P) pg eg)
+  asked = line.the_row (copied 0 P) pg eg
 
   abbrev stayed : Stays ended.signature.params ended.kept
   stayed = (stay_none_ref (0 ∷ []) tt (plain (λ _. forgotten.the_row)) yes, (stay_none_ref (1 ∷ []) tt (plain (λ _. asked)) yes, tt))

@@ -1,0 +1,61 @@
+use Rattle.std.proofs.Common.{arith, ap, ◌+◌, ◌<◌, length, ◌∙◌, [], ◌∷◌, ◌++◌}
+use Rattle.pq_types.specs.Operation.{ByTicket, ticket_of}
+use Rattle.pq_types.specs.Entry.{reply_by, item_at}
+use Rattle.pq_types.specs.History.{line_of, entries_of, left}
+use Rattle.pq_book.specs.Book.{Volume}
+use Rattle.pq_book.proofs.KeptLemmas.{next_is_later, few_entries, as_many_left, reply_in_range, kept_entered, paged_entered, with_line, no_room}
+use Rattle.pq_book.proofs.book.Book.apply_by_ticket.Goals as goal
+
+pub carried_out_by_ticket-requires : goal.carried_out_by_ticket-requires
+carried_out_by_ticket-requires g c = record { lines = next_is_later _ _ _ _ c.self.invariant.0 _ (omega (arith, c.len-number.ensures)) }
+
+pub invariant_of-self-2 : goal.invariant_of-self-2
+invariant_of-self-2 g c =
+    let line = c.law_one_more_line.ensures in
+    let kept = kept_entered _ _ _ _ c.self.invariant.0 line.legal line.rise c.law_items_stay_in_range.ensures.entries _ _ _ _ _ (ByTicket c.args.ticketed) _ (rw (← c.self.view_is) at c.requires)
+    (omega (arith, c.len.ensures)) c.law_ticketed_is_proper.ensures (omega (arith, c.len-number.ensures)) c.in-Some.ensures.reply c.in-Some.ensures.entries (with_line _ _ _ _ _ _ _ c.by_ticket.ensures c.add.ensures.lines) in
+    (kept, paged_entered c.self.inside.room c.self.inside.journal c.add.new.self _ c.self.invariant.1 c.add.ensures.page c.add.ensures.kept c.add.ensures.full c.add.ensures.lines c.add.ensures.most)
+
+pub returns-clause-answer : goal.returns-clause-answer
+returns-clause-answer g c =
+    let journal = ap (λ (b : Volume). length b.journal) c.self.view_is in
+    let room = ap (λ (b : Volume). b.room) c.self.view_is in
+    let now = c.self.invariant.0.entries_are ∙ ap (λ (b : Volume). entries_of b.journal) c.self.view_is in (
+      omega (arith, journal, room, c.len.ensures),
+      omega (arith, journal, c.len-number.ensures),
+      c.in-Some.ensures.reply ∙ ap (λ es. reply_by es (ByTicket c.args.ticketed)) now,
+    )
+
+pub returns-clause-proper : goal.returns-clause-proper
+returns-clause-proper g c =
+    let few : c.len.result < c.self.inside.room = omega (arith, c.if-len-self.false) in (
+      (omega arith, omega (arith, c.len-number.ensures, c.len.ensures, few, c.self.invariant.0.room_in_range.1)),
+      reply_in_range _ _ _ _ c.self.invariant.0 c.law_items_stay_in_range.ensures.replies (ByTicket c.args.ticketed) _ c.in-Some.ensures.reply,
+    )
+
+pub returns-clause-within : goal.returns-clause-within
+returns-clause-within g c =
+    let room = ap (λ (b : Volume). b.room) c.self.view_is in (
+      omega arith,
+      omega (arith, c.len-number.ensures, c.len.ensures, c.if-len-self.false, room),
+      reply_in_range _ _ _ _ c.self.invariant.0 c.law_items_stay_in_range.ensures.replies (ByTicket c.args.ticketed) _ c.in-Some.ensures.reply,
+    )
+
+pub returns-clause-run : goal.returns-clause-run
+returns-clause-run g c =
+    let journal = ap (λ (b : Volume). b.journal) c.self.view_is in
+    let grown = with_line _ _ _ _ _ _ _ c.by_ticket.ensures c.add.ensures.lines in
+    (c.requires, returns-clause-answer g c, grown ∙ ap (λ ls. ls ++ line_of c.args.place c.args.serial (ByTicket c.args.ticketed) c.in-Some.reply ∷ []) journal)
+
+-- the store has fewer items than the journal has room for lines
+pub returns-in_default-clause-memory : goal.returns-in_default-clause-memory
+returns-in_default-clause-memory g c all is =
+    let line = c.law_one_more_line.ensures in
+    let room = ap (λ (b : Volume). b.room) c.self.view_is in
+    no_room _ _ _ _ c.in_default.ensures.full (all.1 c.self.inside.store) all.0 (omega (arith, few_entries _ _ _ _ c.self.invariant.0 line.length, c.len.ensures, room))
+
+-- and as many as the journal leaves
+pub returns-in_default-clause-spare : goal.returns-in_default-clause-spare
+returns-in_default-clause-spare g c all is =
+    let now = ap (λ (b : Volume). length (left b.journal)) c.self.view_is in
+    no_room _ _ _ _ c.in_default.ensures.full (all.1 c.self.inside.store) all.0 (omega (arith, as_many_left _ _ _ _ c.self.invariant.0, now))

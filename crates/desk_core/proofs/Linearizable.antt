@@ -13,7 +13,7 @@ use Rattle.pq_types.specs.declared.answer.Answer.TheVariants.{Entered, BookFull,
 use Rattle.pq_types.specs.declared.control.Control.TheVariants.{Answered}
 use Rattle.pq_types.specs.Asked.{Line}
 use Rattle.pq_types.specs.Control.{answer_with, request_item, answer_item, answered, Carries, is_answer}
-use Rattle.pq_types.specs.History.{line, line_of, journal_by, journal_after, MayAnswer, MayDo}
+use Rattle.pq_types.specs.History.{line_of, journal_by, journal_after, MayAnswer, MayDo}
 use Rattle.desk_core.specs.Calls.{call, calls_of, gained}
 use Rattle.desk_core.specs.CallLines.{IsLineOf}
 use Rattle.desk_core.specs.Clauses.{HasNo}

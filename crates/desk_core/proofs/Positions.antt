@@ -5,7 +5,6 @@ use mathlib.Core.Logic.{dite}
 use native.Mathlib.Decide.{ℕ_discrete, dec_lt}
 use Rattle.atomic_table.proofs.Lists.{set_else}
 use Rattle.pq_types.specs.Asked.{Operation}
-use Rattle.pq_types.specs.Operation.{Asked}
 use Rattle.pq_types.specs.Asked.{Answer}
 use Rattle.desk_core.specs.Desk.{Has, acts_number, time, put, dealer_opening}
 use Rattle.desk_core.specs.Linearizable.{Act, Begins, Ends, TakeTurns}

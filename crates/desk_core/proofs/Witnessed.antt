@@ -5,7 +5,6 @@ use mathlib.Core.Option.{some, some-injective, some-ne-none}
 use lib.ListN.{get_elem?}
 use Rattle.atomic_table.proofs.Lists.{at_set, at_snoc}
 use Rattle.pq_types.specs.Asked.{Line}
-use Rattle.pq_types.specs.Operation.{Asked}
 use Rattle.desk_core.specs.CallLines.{IsLineOf}
 use Rattle.desk_core.specs.Pen.{new_pen}
 use Rattle.desk_core.specs.Desk.{Desk, Has, acts_number, dealer_opening}

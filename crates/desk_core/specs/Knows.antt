@@ -57,7 +57,7 @@ IsReplyTo (Push x) reply = reply ≡ Pushed
 IsReplyTo Pop reply = (reply ≡ Empty) ⊎ ((x : Item) × (reply ≡ Got x))
 IsReplyTo Least reply = (reply ≡ Empty) ⊎ ((x : Item) × (reply ≡ LeastIs x))
 
--- each call that a pen has read whole has such a reply: to a removal as to a pop
+-- each call that a pen has read whole has such a reply: to a removal or a move as to a pop
 abbrev pub CallsHaveReplies : Type 0
 CallsHaveReplies = (d : Desk) (seat : ℕ) (p : PenState) → MeetsRule d → Has d.views seat p
     → AllByRecursion (λ c. IsReplyTo (request_of c.operation) c.reply) p.mine

@@ -2,7 +2,6 @@
 -- journal puts their calls in one order which keeps that in which they were made.
 use Rattle.std.specs.Prelude.{◌≡◌, ℕ, ◌+◌, ◌<◌, ◌≤◌, Bool, true, false, List, []}
 use Rattle.std.specs.Prelude.{◌∷◌, ◌++◌, length, slice_get, Option, Some, None}
-use Rattle.pq_types.specs.Asked.{Request}
 use Rattle.pq_types.specs.Asked.{Operation}
 use Rattle.pq_types.specs.Operation.{Asked}
 use Rattle.pq_types.specs.Asked.{Answer}

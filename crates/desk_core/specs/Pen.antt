@@ -2,7 +2,7 @@
 use Rattle.std.specs.Prelude.{◌≡◌, ℕ, ◌+◌, ◌==◌, if◌then◌else◌, Bool, true, false, List, [], ◌∷◌, ◌++◌, Option, Some, None}
 use Rattle.pq_types.specs.Item.{Item}
 use Rattle.pq_types.specs.Asked.{Request, Operation}
-use Rattle.pq_types.specs.Operation.{Asked, ByTicket, Remove}
+use Rattle.pq_types.specs.Operation.{Ticketed, Asked, ByTicket}
 use Rattle.pq_types.specs.Asked.{Answer}
 use Rattle.pq_types.specs.declared.answer.Answer.TheVariants.{Entered, BookFull, NoMemory}
 use Rattle.pq_types.specs.declared.answer.Reply.TheVariants.{Pushed, Empty}
@@ -166,9 +166,9 @@ after_release_by p operation answer now =
 abbrev pub after_release_with : PenState → Request → Answer → ℕ → PenState
 after_release_with p request answer now = after_release_by p (Asked request) answer now
 
--- the same with a removal of what this line put in
-abbrev pub after_release_removing : PenState → ℕ → Answer → ℕ → PenState
-after_release_removing p ticket answer now = after_release_by p (ByTicket (Remove ticket)) answer now
+-- the same with this use of a ticket, a removal or a move
+abbrev pub after_release_by_ticket : PenState → Ticketed → Answer → ℕ → PenState
+after_release_by_ticket p ticketed answer now = after_release_by p (ByTicket ticketed) answer now
 
 -- as the leader it has carried a request of its own out, which was answered so under the next serial,
 -- and goes on leading: the journal in its hand has the line, if it is entered. No word of its record has

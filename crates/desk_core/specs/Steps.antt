@@ -3,7 +3,7 @@
 use Rattle.std.specs.Prelude.{◌≡◌, ◌≢◌, ℕ, ◌+◌, ◌<◌, ◌⊎◌, true, false, List, [], ◌∷◌, Option, Some, None}
 use Rattle.pq_types.specs.Item.{Item}
 use Rattle.pq_types.specs.Asked.{Request, Operation}
-use Rattle.pq_types.specs.Operation.{Asked, ByTicket, Remove}
+use Rattle.pq_types.specs.Operation.{Ticketed, Asked, ByTicket}
 use Rattle.pq_types.specs.Entry.{IsProperOperationOf}
 use Rattle.pq_types.specs.Asked.{Answer}
 use Rattle.pq_types.specs.declared.control.Kind.TheVariants as kind
@@ -45,9 +45,9 @@ pub data Event : Type 0 where
 abbrev pub ReleasesWith : ℕ → Request → Answer → Event
 ReleasesWith seat request answer = ReleasesBy seat (Asked request) answer
 
--- a leader releases the lock with a removal of what this line put in
-abbrev pub ReleasesRemoving : ℕ → ℕ → Answer → Event
-ReleasesRemoving seat ticket answer = ReleasesBy seat (ByTicket (Remove ticket)) answer
+-- a leader releases the lock with this use of a ticket, a removal or a move
+abbrev pub ReleasesByTicket : ℕ → Ticketed → Answer → Event
+ReleasesByTicket seat ticketed answer = ReleasesBy seat (ByTicket ticketed) answer
 
 -- whose event it is
 abbrev pub actor : Event → ℕ

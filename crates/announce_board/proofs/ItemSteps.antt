@@ -2,11 +2,13 @@
 use Rattle.std.proofs.Common.{◌≡◌, ℕ, ◌+◌, ◌^◌, ◌<◌, Bool, true, false, true≢false, refl, ap, sym, ◌∙◌, subst, arith}
 use Rattle.std.specs.Prelude.{Some}
 use Rattle.pq_types.specs.Item.{Item, IsItemOf}
-use Rattle.pq_types.specs.Asked.{Request}
+use Rattle.pq_types.specs.Asked.{Request, Operation}
 use Rattle.pq_types.specs.declared.control.Notice.{Notice}
 use Rattle.pq_types.specs.Item.{item}
 use Rattle.pq_types.specs.declared.request.Request.TheVariants.{Push, Pop, Least}
+use Rattle.pq_types.specs.Operation.{Asked, ByTicket, Remove, Move}
 use Rattle.pq_types.specs.Queue.{IsProperRequestOf}
+use Rattle.pq_types.specs.Entry.{IsProperOperationOf}
 use Rattle.atomic_table.specs.Seated.{TableId}
 use Rattle.desk_core.specs.Words.{word_number, word_of, mixed, WordsTellItems}
 use Rattle.desk_core.specs.Pen.{IsKept, with_known, after_draft, after_read_item, after_lay, after_see, after_take}
@@ -204,6 +206,13 @@ wider_request false (Push x) h = (omega (arith, h.0), omega (arith, h.1))
 wider_request true (Push x) h = h
 wider_request wide Pop h = tt
 wider_request wide Least h = tt
+
+-- an operation in the range of its width is in that of the greater
+pub wider_operation : (wide : Bool) (o : Operation) → IsProperOperationOf wide o → IsProperOperationOf true o
+wider_operation wide (Asked q) h = wider_request wide q h
+wider_operation wide (ByTicket (Remove i)) h = tt
+wider_operation false (ByTicket (Move i priority)) h = omega (arith, h)
+wider_operation true (ByTicket (Move i priority)) h = h
 
 -- zeros are in the range of either width
 pub zero_in_range : (wide : Bool) → IsItemOf wide (item 0 0)

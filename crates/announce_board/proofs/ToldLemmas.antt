@@ -16,7 +16,7 @@ use Rattle.pq_types.specs.declared.control.Control.{Control}
 use Rattle.pq_types.specs.declared.control.Control.TheVariants.{Answered}
 use Rattle.pq_types.specs.Asked.{Line}
 use Rattle.pq_types.specs.Asked.{Operation}
-use Rattle.pq_types.specs.Operation.{Asked, ByTicket, Remove, request_of}
+use Rattle.pq_types.specs.Operation.{Asked, ByTicket, ticket_of, request_of}
 use Rattle.pq_types.specs.Queue.{reply_to}
 use Rattle.pq_types.specs.Entry.{Entry, item_of, item_at, taken, entries_after, reply_by}
 use Rattle.pq_types.specs.Control.{answer_item, posted, answered, is_posted, Carries}
@@ -36,7 +36,7 @@ use Rattle.desk_core.specs.declared.model.Standing.TheVariants.{Idle, Waiting}
 use Rattle.desk_core.specs.declared.model.PenState.{PenState}
 use Rattle.desk_core.specs.declared.model.View.TheVariants.{Holder}
 use Rattle.desk_core.specs.Knows.{Knows, IsReplyTo}
-use Rattle.announce_board.specs.Asking.{IsAnswerTo, IsAboveAll, IsFullFor}
+use Rattle.announce_board.specs.Asking.{IsAnswerBy, IsAnswerTo, IsAboveAll, IsFullFor}
 use Rattle.announce_board.specs.Told.{WaitersAreTold, PostsAreNew, DuesStand, AboveTheLast, CellsStand}
 use Rattle.announce_board.proofs.Allows.{length_at}
 
@@ -53,7 +53,7 @@ taken_fits (Some x) = inr (x, refl)
 
 line_fits : (es : List Entry) (o : Operation) → IsReplyTo (request_of o) (reply_by es o)
 line_fits es (Asked q) = reply_fits (map item_of es) q
-line_fits es (ByTicket (Remove i)) = taken_fits (item_at i es)
+line_fits es (ByTicket ticketed) = taken_fits (item_at (ticket_of ticketed) es)
 
 -- each line of a legal journal has a reply to its operation
 legal_fits : (es : List Entry) (n : ℕ) (journal : List Line) (i : ℕ) (l : Line) → IsLegalFrom es n journal → slice_get journal i ≡ Some l
@@ -73,12 +73,11 @@ answer_fits room journal p request NoMemory lawful told h = h.0
 
 -- what an operation of the pen's own may be answered is an answer to it
 pub own_answer_fits : (wide : Bool) (room : ℕ) (hand : List Line) (operation : Operation) (a : Answer) → MayDo room hand operation a → IsProperAnswerOf wide a
-    → IsAnswerTo room (request_of operation) a
+    → IsAnswerBy room operation a
 own_answer_fits wide room hand operation (Entered number reply) may proper =
     (proper.0, omega (arith, may.0, may.1), subst (IsReplyTo (request_of operation)) (sym may.2) (line_fits (entries_of hand) operation))
 own_answer_fits wide room hand operation BookFull may proper = tt
-own_answer_fits wide room hand (Asked request) NoMemory may proper = may.1
-own_answer_fits wide room hand (ByTicket ticketed) NoMemory may proper = absurd may.1
+own_answer_fits wide room hand operation NoMemory may proper = may.1
 
 -- the item of an answer that stands in a waiting pen's record
 carries : (d : Desk) (journal : List Line) (p : PenState) (request : Request) (a : Answer) → ItemsClause d journal p

@@ -2,7 +2,8 @@
 use Rattle.std.specs.Prelude.{◌≡◌, ◌≢◌, ◌<◌, ◌≤◌, ℕ, ◌⊎◌, Bool, true, false, List, ◌++◌, Option, Some, None}
 use Rattle.std.specs.List.{AllByRecursion}
 use Rattle.pq_types.specs.Item.{Item}
-use Rattle.pq_types.specs.Asked.{Request}
+use Rattle.pq_types.specs.Asked.{Request, Operation}
+use Rattle.pq_types.specs.Operation.{Asked, request_of}
 use Rattle.pq_types.specs.declared.request.Request.TheVariants.{Push, Pop, Least}
 use Rattle.pq_types.specs.Asked.{Reply}
 use Rattle.pq_types.specs.Asked.{Answer}
@@ -11,7 +12,7 @@ use Rattle.pq_types.specs.declared.control.Kind.{Kind}
 use Rattle.pq_types.specs.declared.control.Notice.{Notice}
 use Rattle.pq_types.specs.declared.control.Control.{Control}
 use Rattle.pq_types.specs.declared.control.Control.TheVariants.{Nothing, Posted, Answered}
-use Rattle.pq_types.specs.Queue.{IsPush}
+use Rattle.pq_types.specs.History.{PutsIn}
 use Rattle.pq_types.specs.Control.{request_item, answer_with, notice_has_item, posted, is_answer}
 use Rattle.pq_types.specs.Mail.{IsLineNumber}
 use Rattle.desk_core.specs.Beyond.{IsBeyond}
@@ -74,12 +75,16 @@ seen_by words p request (Posted serial kind) cell now = after_look p request (Po
 seen_by words p request (Answered notice) cell now =
     taken_if words (notice_has_item notice) (after_look p request (Answered notice) now) request notice cell now
 
--- The answer is one to such a request, at a journal with room for so many lines: the number of an
--- entered one is not above the room. Only a push is refused for want of memory.
+-- The answer is one to such an operation, at a journal with room for so many lines: the number of an
+-- entered one is not above the room. Only what wants room for an item is refused for want of memory: a push or a move.
+abbrev pub IsAnswerBy : ℕ → Operation → Answer → Type 0
+IsAnswerBy room operation (Entered number reply) = IsLineNumber number × (number ≤ room) × IsReplyTo (request_of operation) reply
+IsAnswerBy room operation BookFull = Unit {0}
+IsAnswerBy room operation NoMemory = PutsIn operation
+
+-- the answer is one to such a request
 abbrev pub IsAnswerTo : ℕ → Request → Answer → Type 0
-IsAnswerTo room request (Entered number reply) = IsLineNumber number × (number ≤ room) × IsReplyTo request reply
-IsAnswerTo room request BookFull = Unit {0}
-IsAnswerTo room request NoMemory = IsPush request
+IsAnswerTo room request answer = IsAnswerBy room (Asked request) answer
 
 -- The pen was told that the journal is full. So it is and stays: whoever has it in hand, or its Book at the end, finds as many
 -- lines there as there is room for (`Knows`).

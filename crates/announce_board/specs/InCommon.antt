@@ -11,7 +11,7 @@ use Rattle.pq_types.specs.Asked.{Reply}
 use Rattle.pq_types.specs.Asked.{Line}
 use Rattle.pq_types.specs.declared.request.Request.TheVariants.{Push, Pop, Least}
 use Rattle.pq_types.specs.declared.answer.Reply.TheVariants.{Pushed, Got, Empty, Least as LeastIs}
-use Rattle.pq_types.specs.Operation.{Asked, ByTicket, Remove}
+use Rattle.pq_types.specs.Operation.{Asked, ByTicket, Remove, Move}
 use Rattle.pq_types.specs.History.{line}
 
 -- the kind of a request, and its item, if it has one
@@ -25,18 +25,21 @@ item_asked (Push x) = x
 item_asked Pop = item 0 0
 item_asked Least = item 0 0
 
--- the kind of an operation, its ticket and its item, if it has them
+-- the kind of an operation, its ticket and its item, if it has them: of a move the new priority stands in an item of value 0
 abbrev pub operation_number : Operation → ℕ
 operation_number (Asked q) = request_number q
 operation_number (ByTicket (Remove ticket)) = 3
+operation_number (ByTicket (Move ticket priority)) = 4
 
 abbrev pub ticket_asked : Operation → ℕ
 ticket_asked (Asked q) = 0
 ticket_asked (ByTicket (Remove ticket)) = ticket
+ticket_asked (ByTicket (Move ticket priority)) = ticket
 
 abbrev pub item_put : Operation → Item
 item_put (Asked q) = item_asked q
 item_put (ByTicket (Remove ticket)) = item 0 0
+item_put (ByTicket (Move ticket priority)) = item priority 0
 
 -- the kind of a reply, and its item, if it has one
 abbrev pub reply_number : Reply → ℕ

@@ -17,6 +17,7 @@
 //!   posted.
 //! - `Desk::apply` carries out a request of the leader's own, which posts nothing, and goes on leading: the Book in its hand has
 //!   its line, and the pen its answer. `Desk::release_with` frees the lock with one: the Book that goes home has its line.
+//!   `Desk::release_by_ticket` frees it so with a removal or a move of an item by its ticket.
 //! - `Desk::note` writes a note of the journal, which another pen of the desk may `Desk::hear`, in any thread: then each
 //!   later line of that pen is behind the journal that the note tells, which has all calls of the writer.
 //! - A pen that leads may draft, post and look meanwhile: its lead stays its own (`leading::law_leads_stay`).
@@ -24,8 +25,8 @@
 //!   `Desk::release_with` give no `NoMemory`, and `Desk::look` finds none.
 //! - `Desk::close` gives the Book of some desk that meets the rule, and `Desk::close_with` one
 //!   whose journal has all calls of that pen.
-//! - But for the opening only `Desk::serve`, `Desk::apply` and `Desk::release_with` take memory, for a push alone;
-//!   and no call waits.
+//! - But for the opening only `Desk::serve`, `Desk::apply`, `Desk::release_with` and `Desk::release_by_ticket` take memory, for
+//!   a push or a move alone; and no call waits.
 //!
 //! That `Desk::serve` tells truly of another pen's post, and that a look finds what another leader
 //! answered, is tested and not proved: a contract speaks of its own pen. Nothing is said of time,
@@ -35,6 +36,7 @@
 mod applying;
 mod asking;
 mod boxed_book;
+mod by_ticket;
 mod closing;
 pub mod desk;
 pub mod error;
@@ -45,7 +47,6 @@ mod locking;
 pub mod notes;
 mod opening;
 mod own_request;
-mod removing;
 mod rule;
 pub mod running;
 mod serving;

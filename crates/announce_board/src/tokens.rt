@@ -103,7 +103,7 @@ impl<S: Store<Entry<P>>, P: Part> Lead<S, P> {
     pub fn lines_from<B: Allocator>(
         &self,
         archived: u64,
-        archive: &mut Vec<Line<Item<P>>, B>,
+        archive: &mut Vec<Line<P>, B>,
     ) -> Result<(), LinesError>
         ensures ok { OnOk result (archive.new.items ≡ archive.old.items ++ drop archived self.now.book.journal) }
         ensures err { OnErr result (archive.new.items ≡ archive.old.items) }

@@ -1,17 +1,18 @@
-// How a leader releases with a removal of its own: it takes an item out by its ticket. It posts nothing, and its line is in the
-// Book that goes home.
-ghost use Rattle.std.specs.Prelude.{◌≡◌, ◌≢◌, ℕ, ◌+◌, ◌<◌, ◌≤◌, true, [], ◌∷◌, None};
+// How a leader releases with the use of a ticket of its own: it takes an item out, or moves it to another priority. It posts
+// nothing, and its line is in the Book that goes home.
+ghost use Rattle.std.specs.Prelude.{◌≡◌, ◌≢◌, ℕ, ◌+◌, ◌<◌, ◌≤◌, true, [], ◌∷◌, length, None};
 ghost use Rattle.pq_types.specs.Asked.{Reply};
 ghost use Rattle.pq_types.specs.declared.answer.Answer.TheVariants.{Entered};
 ghost use Rattle.pq_types.specs.declared.journal.TheConstants.{GREATEST_NUMBER};
-ghost use Rattle.pq_types.specs.declared.request.Request.TheVariants.{Pop};
-ghost use Rattle.pq_types.specs.History.{MayRemove};
+ghost use Rattle.pq_types.specs.History.{left, MayDo};
+ghost use Rattle.pq_book.specs.Book.{AllHaveRoom};
+ghost use Rattle.pq_types.specs.Operation.{ByTicket};
 ghost use Rattle.desk_core.specs.declared.model.View.TheVariants.{Holder};
 ghost use Rattle.desk_core.specs.Desk.{volume};
 ghost use Rattle.desk_core.specs.Knows.{NoneAbove};
 ghost use Rattle.desk_core.specs.Layout.{lock_at};
-ghost use Rattle.desk_core.specs.Pen.{IsIdle, after_release_removing};
-ghost use Rattle.announce_board.specs.Asking.{IsAnswerTo, IsAboveAll, IsFullFor};
+ghost use Rattle.desk_core.specs.Pen.{IsIdle, after_release_by_ticket};
+ghost use Rattle.announce_board.specs.Asking.{IsAnswerBy, IsAboveAll, IsFullFor};
 ghost use Rattle.announce_board.specs.Steps.{pen_at};
 ghost use Rattle.announce_board.specs.Tokens.{IsLeadOf, is_idle};
 
@@ -24,16 +25,17 @@ use crate::words::LOCK;
 use desk_core::laws::law_calls_are_lines;
 use leftist_heap::TicketStore;
 use pq_book::Entry;
-use pq_types::{Answer, Item, Part};
+use pq_types::laws::law_ticketed_is_proper;
+use pq_types::{Answer, Item, Part, Ticketed};
 
-/// Has the Book take out the item with this ticket, puts it into its slot, and frees the lock then.
-fn put_home_removing<S: TicketStore<Entry<P>>, P: Part>(
+/// Has the Book use a ticket for the pen, puts it into its slot, and frees the lock then.
+fn put_home_by_ticket<S: TicketStore<Entry<P>>, P: Part>(
     board: &Board<S, P>,
     seat: &mut BoardSeat<S, P>,
     place: u16,
     serial: u64,
     book: BoxedBook<S, P>,
-    ticket: u64,
+    ticketed: Ticketed<P>,
 ) -> Answer<Item<P>>
     requires here { seat.old.table_id ≡ board.now.table_id }
     requires is { seat.old.me.0 ≡ Holder (pen_at seat.old.me) }
@@ -48,55 +50,60 @@ fn put_home_removing<S: TicketStore<Entry<P>>, P: Part>(
     requires used { NoneAbove (pen_at seat.old.me).place (pen_at seat.old.me).posts (pen_at seat.old.me).hand }
     requires book { book ≡ volume (pen_at seat.old.me).room (pen_at seat.old.me).hand }
     ensures table { seat.new.table_id ≡ seat.old.table_id }
-    ensures may { MayRemove (pen_at seat.old.me).room (pen_at seat.old.me).hand ticket result }
-    ensures answers { IsAnswerTo (pen_at seat.old.me).room Pop result }
+    ensures may { MayDo (pen_at seat.old.me).room (pen_at seat.old.me).hand (ByTicket ticketed) result }
+    ensures answers { IsAnswerBy (pen_at seat.old.me).room (ByTicket ticketed) result }
     ensures behind { (number : ℕ) (reply : Reply) → result ≡ Entered number reply → IsAboveAll number (pen_at seat.old.me).mine }
     ensures full { result ≡ Answer.BookFull → IsFullFor (pen_at seat.new.me) }
     ensures barred { IsFullFor (pen_at seat.old.me) → (number : ℕ) (reply : Reply) → result ≢ Entered number reply }
-    ensures after { (now : ℕ) × (seat.new.me ≡ (Holder (after_release_removing (pen_at seat.old.me) ticket result now), [])) }
+    ensures memory { AllHaveRoom S.room (pen_at seat.old.me).room → result ≢ Answer.NoMemory }
+    ensures spare { AllHaveRoom S.room (length (left (pen_at seat.old.me).hand) + 1) → result ≢ Answer.NoMemory }
+    ensures after { (now : ℕ) × (seat.new.me ≡ (Holder (after_release_by_ticket (pen_at seat.old.me) ticketed result now), [])) }
 {
     law_steps_are_allowed::<S, P>();
     law_calls_are_lines();
+    law_ticketed_is_proper(&ticketed);
     let mut book = book;
-    let answer = book.boxed.remove(place, serial, ticket);
+    let answer = book.boxed.apply_by_ticket(place, serial, ticketed);
     drop(board.exchange(seat, 0, Some(book)));
     board.store::<ReleaseWith>(seat, LOCK, 0);
     answer
 }
 
 impl<S: TicketStore<Entry<P>>, P: Part> Desk<S, P> {
-    /// The idle leader, to which nothing is due, has the Book take out the item with this ticket, puts
-    /// the Book home and then frees the lock, in one step. It is replied to as a pop is: `Got` with the
-    /// item, or `Empty` where it no longer waits. A line that is entered is behind those of the pen's
-    /// calls before. BookFull is answered where the journal is full, as of `release_with`. NoMemory never is.
-    pub fn release_removing(
+    /// The idle leader, to which nothing is due, has the Book take the item out that has this ticket, or move it, puts the
+    /// Book home and then frees the lock, in one step. It is replied to as a pop is: `Got` with the item as it was, or `Empty`
+    /// where it no longer waits. A line that is entered is behind those of the pen's calls before. BookFull is answered where
+    /// the journal is full, as of `release_with`. A removal is never answered NoMemory; a move is where the store could not
+    /// grow, and then no item has changed.
+    pub fn release_by_ticket(
         &self,
         pen: &mut Pen<S, P>,
         lead: Lead<S, P>,
-        ticket: u64,
+        ticketed: Ticketed<P>,
     ) -> Answer<Item<P>>
         requires table { pen.old.table ≡ self.now.table }
         requires lead { IsLeadOf pen.old lead }
         requires due { pen.old.state.due ≡ None }
         requires idle { is_idle pen.old.state.standing ≡ true }
         requires few { pen.old.state.posts < GREATEST_NUMBER }
-        ensures may { MayRemove pen.old.state.room pen.old.state.hand ticket result }
-        ensures answers { IsAnswerTo pen.old.state.room Pop result }
+        ensures may { MayDo pen.old.state.room pen.old.state.hand (ByTicket ticketed) result }
+        ensures answers { IsAnswerBy pen.old.state.room (ByTicket ticketed) result }
         ensures behind { (number : ℕ) (reply : Reply) → result ≡ Entered number reply → IsAboveAll number pen.old.state.mine }
         ensures full { result ≡ Answer.BookFull → IsFullFor pen.new.state }
         ensures barred { IsFullFor pen.old.state → (number : ℕ) (reply : Reply) → result ≢ Entered number reply }
-        ensures memory { result ≢ Answer.NoMemory }
-        ensures after { (now : ℕ) × (pen.new ≡ record pen.old { state = after_release_removing pen.old.state ticket result now }) }
+        ensures memory { AllHaveRoom S.room pen.old.state.room → result ≢ Answer.NoMemory }
+        ensures spare { AllHaveRoom S.room (length (left pen.old.state.hand) + 1) → result ≢ Answer.NoMemory }
+        ensures after { (now : ℕ) × (pen.new ≡ record pen.old { state = after_release_by_ticket pen.old.state ticketed result now }) }
     {
         let serial = pen.posts + 1;
         let book = lead.into_boxed();
-        let answer = put_home_removing(
+        let answer = put_home_by_ticket(
             &self.table.shared,
             &mut pen.seat,
             pen.place,
             serial,
             book,
-            ticket,
+            ticketed,
         );
         pen.posts = serial;
         answer

@@ -20,7 +20,7 @@ use Rattle.pq_types.specs.Operation.{Asked, ByTicket, ticket_of, request_of}
 use Rattle.pq_types.specs.Queue.{reply_to}
 use Rattle.pq_types.specs.Entry.{Entry, item_of, item_at, taken, entries_after, reply_by}
 use Rattle.pq_types.specs.Control.{answer_item, posted, answered, is_posted, Carries}
-use Rattle.pq_types.specs.History.{IsLegalFrom, entries_of, left, last_serial, MayDo}
+use Rattle.pq_types.specs.History.{IsLegalFrom, entries_of, last_serial, MayDo}
 use Rattle.pq_types.specs.Mail.{IsProperAnswerOf}
 use Rattle.desk_core.specs.Beyond.{AnswersAreBeyond}
 use Rattle.desk_core.specs.Calls.{call, calls_of}

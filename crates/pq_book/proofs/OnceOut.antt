@@ -170,7 +170,7 @@ out_once journal i h k first again = by_order (cases_lt h k) (cases_lt k h) wher
   by_order (inr more) (inr less) = omega (arith, more, less)
 
 -- the item that waits under a ticket is that of one of the entries
-item_that_waits : (P : Entry → Type 0) (i : ℕ) (es : List Entry) → waits i es ≡ true → AllByRecursion P es
+pub item_that_waits : (P : Entry → Type 0) (i : ℕ) (es : List Entry) → waits i es ≡ true → AllByRecursion P es
     → (e : Entry) × (e.line ≡ i) × P e × (item_at i es ≡ Some (item_of e))
 item_that_waits P i [] w h = false_true w
 item_that_waits P i (e ∷ es) w h = at_choice (λ v. item_that_waits P i es v h.1) (e.line == i) refl where

@@ -1,11 +1,11 @@
 -- Laws of every journal: which entries it leaves, and which line takes out what a line put in.
-use Rattle.std.specs.Prelude.{◌≡◌, ℕ, ◌<◌, List, map}
+use Rattle.std.specs.Prelude.{◌≡◌, ℕ, ◌<◌, ◌⊎◌, List, map, Some}
 use Rattle.std.specs.List.{AllByRecursion}
 use Rattle.pq_types.specs.Item.{Item, item}
 use Rattle.pq_types.specs.declared.answer.Reply.TheVariants.{Got}
 use Rattle.pq_types.specs.Asked.{Line}
 use Rattle.pq_types.specs.Operation.{ByTicket, Move}
-use Rattle.pq_types.specs.Entry.{item_of}
+use Rattle.pq_types.specs.Entry.{item_of, item_at}
 use Rattle.pq_types.specs.History.{entries_of, left, IsLegal}
 use Rattle.pq_types.specs.Outs.{StandsAt, IsPutInOn, IsTakenOn, IsUsedOn, IsOutOn}
 
@@ -16,6 +16,11 @@ EntriesAreItems = (journal : List Line) → map item_of (entries_of journal) ≡
 -- each entry has the line that put it in
 abbrev pub EntriesArePutIn : Type 0
 EntriesArePutIn = (journal : List Line) → AllByRecursion (λ e. IsPutInOn journal e.line (item_of e)) (entries_of journal)
+
+-- What a line put in waits, as it was put in, or a line took it out.
+abbrev pub WaitsOrIsOut : Type 0
+WaitsOrIsOut = (journal : List Line) (i : ℕ) (x : Item) → IsPutInOn journal i x
+    → (item_at i (entries_of journal) ≡ Some x) ⊎ ((h : ℕ) × IsOutOn journal i h)
 
 -- Of two items of one priority the one that the lower line put in is popped first, or was removed or moved before.
 abbrev pub FirstInFirstOut : Type 0

@@ -1,4 +1,4 @@
-use Rattle.std.proofs.Common.{arith, ap, ◌∙◌, ◌++◌, ◌-◌, drop}
+use Rattle.std.proofs.Common.{ap, ◌∙◌, ◌++◌, drop}
 use Rattle.std.proofs.lemmas.List.{append_assoc}
 use Rattle.pq_book.proofs.Rings.{behind_both}
 use Rattle.pq_book.proofs.pages.copy_behind.Goals as goal

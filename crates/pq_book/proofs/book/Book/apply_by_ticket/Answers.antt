@@ -1,6 +1,6 @@
-use Rattle.std.proofs.Common.{arith, ap, ◌+◌, ◌<◌, length, ◌∙◌, [], ◌∷◌, ◌++◌}
-use Rattle.pq_types.specs.Operation.{ByTicket, ticket_of}
-use Rattle.pq_types.specs.Entry.{reply_by, item_at}
+use Rattle.std.proofs.Common.{arith, ap, ◌<◌, length, ◌∙◌, [], ◌∷◌, ◌++◌}
+use Rattle.pq_types.specs.Operation.{ByTicket}
+use Rattle.pq_types.specs.Entry.{reply_by}
 use Rattle.pq_types.specs.History.{line_of, entries_of, left}
 use Rattle.pq_book.specs.Book.{Volume}
 use Rattle.pq_book.proofs.KeptLemmas.{next_is_later, few_entries, as_many_left, reply_in_range, kept_entered, paged_entered, with_line, no_room}

@@ -1,5 +1,5 @@
 -- Lines without bytes own nothing, so they may go to another thread.
-use denote.Param.Send.{IsSend, owning_send, sendable}
+use denote.Param.Send.{IsSend, owning_send}
 use Rattle.pq_book.specs.contracts.forgotten.Forgotten.{the_row, the_type}
 
 pub send : IsSend the_row

@@ -8,7 +8,7 @@ ghost use Rattle.flatpq.specs.Endings.{book_of, left_of};
 
 use leftist_heap::AnyStore;
 use pq_book::{Book, Entry};
-use pq_types::{Item, Line, Part};
+use pq_types::{Line, Part};
 use queue_texts::write_journal;
 use std::alloc::Global;
 use std::io::Write;
@@ -46,7 +46,7 @@ pub fn of_wide(book: Option<Kept<u64>>) -> Option<Left>
 
 // The journal, where all of it is in memory in one piece, as that of each run whose words may name a
 // file for it.
-fn whole_journal<P: Part>(book: &Kept<P>) -> Option<&[Line<Item<P>>]>
+fn whole_journal<P: Part>(book: &Kept<P>) -> Option<&[Line<P>]>
     ensures some { IfSome result (λ lines. lines.now ≡ book.now.journal) }
     ensures none { IfNone result (0 < length book.now.journal) }
 {

@@ -4,7 +4,7 @@ use Rattle.std.proofs.Common.{ap, subst, append_assoc, arith}
 use Rattle.std.specs.Prelude.{OnOk, OnErr, IfErr, is_err}
 use Rattle.std.specs.Io.KnownBytes.{Appends, Consumes, Keeps, IsAtEnd}
 use Rattle.std.proofs.KnownBytes.{Appends-trans, Consumes-trans, Consumes-kept, Keeps-refl}
-use Rattle.line_script.specs.declared.lines.TheConstants.{LONGEST_LINE, BUFFER}
+use Rattle.line_script.specs.declared.lines.TheConstants.{BUFFER}
 use Rattle.line_script.specs.declared.error.RunError.{RunError}
 use Rattle.line_script.specs.declared.error.RunError.TheVariants.{Refused, TooLong, NoMemory, Input, Output}
 use Rattle.line_script.specs.declared.script.Run.{Run}
@@ -158,7 +158,7 @@ module _ {S R : Type 0} (k : Kind S R) where
     others = more;
     accepted = b.read.played;
     written = refl;
-    under_way = subst (λ xs. length xs ≤ LONGEST_LINE) b.read.holds b.read.short;
+    under_way = subst (λ xs. length xs ≤ k.longest) b.read.holds b.read.short;
   }
 
   -- what a run writes, and where it leaves the reader, that stops so after these bytes of the

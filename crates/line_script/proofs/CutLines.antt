@@ -1,8 +1,7 @@
 -- How a script's lines come as its bytes do.
-use Rattle.std.proofs.Common.{◌≡◌, ◌≢◌, ℕ, ◌<◌, ◌≤◌, Bool, true, false, List, [], ◌∷◌, ◌++◌, length, length-append, eq-eqb, ne_eqb, refl, sym}
+use Rattle.std.proofs.Common.{◌≡◌, ◌≢◌, ℕ, ◌<◌, Bool, true, false, List, [], ◌∷◌, ◌++◌, length, length-append, eq-eqb, ne_eqb, refl, sym}
 use Rattle.std.proofs.Common.{◌∙◌, ap, arith, append_assoc}
 use Rattle.std.specs.Prelude.{◌==◌, if◌then◌else◌}
-use Rattle.line_script.specs.declared.lines.TheConstants.{LONGEST_LINE}
 use Rattle.line_script.specs.Lines.{Cut, with_byte, cut, last_line, lines_of, without_return}
 
 -- the carriage return goes, where it is the last byte
@@ -105,15 +104,6 @@ pub onward : (xs ys : List ℕ) (b : ℕ) → b ≢ 10 → LineOnward (xs ++ b �
 onward xs ys b ne =
     onward_from (xs ++ b ∷ ys) (cut xs).lines (cut xs).rest b (cut ys).lines (cut ys).rest
     (cut-append xs (b ∷ ys) ∙ ap (λ v. onto (cut xs).lines (cut xs).rest (put v b (cut ys)).lines (put v b (cut ys)).rest) (ne_eqb b 10 ne))
-
-shorter : (line : List ℕ) → length (without_return line) ≤ length line
-shorter [] = omega arith
-shorter (b ∷ []) = elim (b == 13) as (λ v. length {A = ℕ} (if v then [] else b ∷ []) ≤ 1) [ true ↦ omega arith | false ↦ omega arith ]
-shorter (b ∷ c ∷ bs) = omega (arith, shorter (c ∷ bs))
-
--- a line is no longer for losing its carriage return
-pub short_still : (line text : List ℕ) → text ≡ without_return line → length line ≤ LONGEST_LINE → length text ≤ LONGEST_LINE
-short_still line text e h = omega (arith, shorter line, ap length e)
 
 pub empty_still : (line : List ℕ) → length line ≡ 0 → line ≡ without_return line
 empty_still [] e = refl

@@ -4,7 +4,7 @@ use Rattle.std.proofs.Common.{refl, sym, ◌∙◌, ap, subst, arith, append_ass
 use Rattle.std.proofs.lemmas.List.{take_more, take-append-drop}
 use Rattle.std.specs.Prelude.{min}
 use Rattle.std.specs.Io.KnownBytes.{Appends}
-use Rattle.line_script.specs.declared.lines.TheConstants.{LONGEST_LINE, LINE_FEED}
+use Rattle.line_script.specs.declared.lines.TheConstants.{LINE_FEED}
 use Rattle.line_script.specs.declared.error.RunError.{RunError}
 use Rattle.line_script.specs.declared.error.RunError.TheVariants.{Refused, TooLong, NoMemory, Input, Output}
 use Rattle.line_script.specs.declared.script.Run.{Run}
@@ -157,7 +157,7 @@ module _ {S R : Type 0} (k : Kind S R) where
 
   -- any other byte goes onto the line under way, and writes nothing
   pub byte_goes : (start : S) (before text : List ℕ) (r after : Run S) (old : List ℕ) (byte : ℕ) → byte ≢ LINE_FEED
-      → after.player ≡ r.player → after.count ≡ r.count → after.line.items ≡ r.line.items ++ byte ∷ [] → length after.line.items ≤ LONGEST_LINE
+      → after.player ≡ r.player → after.count ≡ r.count → after.line.items ≡ r.line.items ++ byte ∷ [] → length after.line.items ≤ k.longest
       → HasRead start before text r → (more : List ℕ) × (old ≡ old ++ more) × HasRead start (before ++ byte ∷ []) (text ++ more) after
   byte_goes start before text r after old byte ne player count grown short h =
       let same : (cut (before ++ byte ∷ [])).lines ≡ (cut before).lines = ap (λ (c : Cut). c.lines) (cut-byte before byte ne) in (
@@ -176,12 +176,12 @@ module _ {S R : Type 0} (k : Kind S R) where
 
   -- the byte behind as many as a line may have makes the line too long
   pub byte_stops : (start : S) (before text rest : List ℕ) (r : Run S) (old : List ℕ) (number byte : ℕ) → byte ≢ LINE_FEED
-      → number ≡ min (r.count + 1) 18446744073709551615 → LONGEST_LINE ≤ length r.line.items
+      → number ≡ min (r.count + 1) 18446744073709551615 → k.longest ≤ length r.line.items
       → HasRead start before text r → (part : List ℕ) × (old ≡ old ++ part)
       × StopsWith start (before ++ byte ∷ rest) None (text ++ part) (TooLong number)
   byte_stops start before text rest r old number byte ne next long h =
       let o = onward before rest byte ne in
-      let over : LONGEST_LINE < length o.line = omega (arith, o.longer, ap length h.holds, long) in (
+      let over : k.longest < length o.line = omega (arith, o.longer, ap length h.holds, long) in (
         [],
         sym (append_nil old),
         (

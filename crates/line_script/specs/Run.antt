@@ -1,7 +1,6 @@
 -- A run under way, and what a piece of it adds: for every start from which the run has come so far.
 use Rattle.std.specs.Prelude.{◌≡◌, ℕ, ◌≤◌, List, ◌++◌, length, Option, None}
 use Rattle.std.specs.Io.KnownBytes.{Appends}
-use Rattle.line_script.specs.declared.lines.TheConstants.{LONGEST_LINE}
 use Rattle.line_script.specs.declared.error.RunError.{RunError}
 use Rattle.line_script.specs.declared.script.Run.{Run}
 use Rattle.line_script.specs.Lines.{cut, lines_of, count_of}
@@ -13,7 +12,7 @@ module _ {S R : Type 0} (k : Kind S R) where
   pub record HasRead (start : S) (bytes text : List ℕ) (run : Run S) : Type 0 where
     pub played : PlaysAll k start (cut bytes).lines text run.player
     pub holds : run.line.items ≡ (cut bytes).rest
-    pub short : length run.line.items ≤ LONGEST_LINE
+    pub short : length run.line.items ≤ k.longest
     pub counted : run.count ≡ count_of (length (cut bytes).lines)
 
   -- these further bytes are read, and what they say stands behind what was there

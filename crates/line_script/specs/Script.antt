@@ -2,13 +2,15 @@
 -- refused one; and where it leaves the reader.
 use Rattle.std.specs.Prelude.{◌≡◌, ℕ, ◌+◌, ◌<◌, ◌≤◌, ◌⊎◌, List, [], ◌∷◌, ◌++◌, length, Option, Some, Result, Ok, Err}
 use Rattle.std.specs.Io.KnownBytes.{Consumes}
-use Rattle.line_script.specs.declared.lines.TheConstants.{LONGEST_LINE, BUFFER}
+use Rattle.line_script.specs.declared.lines.TheConstants.{BUFFER}
 use Rattle.line_script.specs.declared.error.RunError.{RunError}
 use Rattle.line_script.specs.declared.error.RunError.TheVariants.{Refused, TooLong, NoMemory, Input, Output}
 use Rattle.line_script.specs.Lines.{cut, lines_of, without_return, count_of}
 
 -- A kind of script, by what its lines mean in each state; a refusal is the player's own.
 pub record Kind (S R : Type 0) : Type 1 where
+  -- how many bytes a line may have
+  pub longest : ℕ
   -- the line is accepted in this state, writes this text and leaves that state
   pub plays : S → List ℕ → List ℕ → S → Type 0
   -- the line is refused in this state, as the line with this number
@@ -24,7 +26,7 @@ module _ {S R : Type 0} (k : Kind S R) where
 
   -- a line that isn't too long, which loses a carriage return at its end
   abbrev pub PlaysLine : S → List ℕ → List ℕ → S → Type 0
-  PlaysLine s line text t = (length line ≤ LONGEST_LINE) × PlaysUnlessEmpty s (without_return line) text t
+  PlaysLine s line text t = (length line ≤ k.longest) × PlaysUnlessEmpty s (without_return line) text t
 
   -- all these lines are accepted, one after another, and write this text
   abbrev pub PlaysAll : S → List (List ℕ) → List ℕ → S → Type 0
@@ -35,12 +37,12 @@ module _ {S R : Type 0} (k : Kind S R) where
   -- the player refuses line n, which isn't too long and not empty
   abbrev pub PlayerRefuses : S → ℕ → List ℕ → R → Type 0
   PlayerRefuses s n line reason =
-      (length line ≤ LONGEST_LINE) × (0 < length (without_return line)) × k.refuses s n (without_return line) reason
+      (length line ≤ k.longest) × (0 < length (without_return line)) × k.refuses s n (without_return line) reason
 
   -- line n is refused: by the player, or because it is too long
   abbrev pub RefusesLine : S → ℕ → List ℕ → RunError R → Type 0
   RefusesLine s n line (Refused reason) = PlayerRefuses s n line reason
-  RefusesLine s n line (TooLong number) = (LONGEST_LINE < length line) × (number ≡ n)
+  RefusesLine s n line (TooLong number) = (k.longest < length line) × (number ≡ n)
   RefusesLine s n line NoMemory = ⊥
   RefusesLine s n line Input = ⊥
   RefusesLine s n line Output = ⊥
@@ -92,7 +94,7 @@ module _ {S R : Type 0} (k : Kind S R) where
     pub others : List ℕ
     pub accepted : PlaysAll s (cut earlier).lines first state
     pub written : text ≡ first ++ others
-    pub under_way : length (cut earlier).rest ≤ LONGEST_LINE
+    pub under_way : length (cut earlier).rest ≤ k.longest
 
   -- what a run writes over this input, of which the last bytes are unread when it ends: none are
   -- where the whole script is played

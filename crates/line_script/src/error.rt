@@ -9,7 +9,7 @@ pub enum RunError<R> {
     /// The player refused a line, or the end of the script.
     #[error("{0}")]
     Refused(R),
-    /// The line with this number, counted from 1, has more than 80 bytes.
+    /// The line with this number, counted from 1, has more bytes than the player takes.
     #[error("line {line}: line too long")]
     TooLong { line: u64 },
     /// Memory was refused.

@@ -14,6 +14,6 @@ pub mod player;
 pub mod script;
 
 pub use error::RunError;
-pub use lines::{BUFFER, LONGEST_LINE};
+pub use lines::{BUFFER, LINE_ROOM, LONGEST_LINE};
 pub use player::Player;
 pub use script::{play_script, run_script};

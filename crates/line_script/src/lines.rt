@@ -2,8 +2,11 @@
 ghost use Rattle.std.specs.Prelude.{◌≡◌};
 ghost use Rattle.line_script.specs.Lines.{without_return};
 
-/// The longest line, without its line feed.
+/// The longest line of a script of commands, without its line feed.
 pub const LONGEST_LINE: usize = 80;
+
+/// The longest line that any player takes, without its line feed.
+pub const LINE_ROOM: usize = 160;
 
 /// The most bytes that are read at once.
 pub const BUFFER: usize = 4096;

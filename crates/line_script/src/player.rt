@@ -3,7 +3,7 @@ ghost use Rattle.std.specs.Prelude.{◌≡◌, ℕ, ◌<◌, ◌≤◌, length, 
 ghost use Rattle.line_script.specs.Script.{Kind, PlaysInto, StopsInto, StopsEnd};
 
 use crate::error::RunError;
-use crate::lines::LONGEST_LINE;
+use crate::lines::LINE_ROOM;
 use std::alloc::Allocator;
 
 /// What the lines of a script mean: the player's state changes from line to line.
@@ -11,8 +11,13 @@ pub trait Player: Drop {
     /// Why a line, or the end of the script, is refused.
     type Refusal: Copy;
 
-    /// Which lines are played and how, and which are refused.
+    /// How long lines may be, which are played and how, and which are refused.
     ghost kind: { Kind Self Self.Refusal };
+
+    /// How many bytes a line may have, without its line feed.
+    fn longest() -> usize
+        ensures value { result ≡ kind.longest }
+        ensures room { result ≤ LINE_ROOM };
 
     /// Plays a line that isn't empty, whose number is given, and puts its text behind `out`.
     fn play<A: Allocator>(
@@ -22,7 +27,6 @@ pub trait Player: Drop {
         out: &mut Vec<u8, A>,
     ) -> Result<(), RunError<Self::Refusal>>
         requires filled { 0 < length line.now }
-        requires short { length line.now ≤ LONGEST_LINE }
         ensures ok { OnOk result (PlaysInto kind self.old line.now out.old.items out.new.items self.new) }
         ensures err { IfErr result (λ e. StopsInto kind self.old number line.now e out.old.items out.new.items) };
 

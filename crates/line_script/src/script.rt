@@ -5,7 +5,7 @@ ghost use Rattle.line_script.specs.Script.{PlaysLine, StopsLine, Writes, WritesA
 ghost use Rattle.line_script.specs.Run.{PlaysOn, StopsWithin, PlaysLastLine, PlaysToEnd, StopsAtEnd};
 
 use crate::error::RunError;
-use crate::lines::{BUFFER, LINE_FEED, LONGEST_LINE, without_return};
+use crate::lines::{BUFFER, LINE_FEED, LINE_ROOM, without_return};
 use crate::player::Player;
 use arrayvec::ArrayVec;
 use byte_writer::write_bytes;
@@ -16,7 +16,7 @@ use std::io::{Read, Write};
 #[derive(Drop)]
 struct Run<P> {
     player: P,
-    line: ArrayVec<u8, LONGEST_LINE>,
+    line: ArrayVec<u8, LINE_ROOM>,
     count: u64,
 }
 
@@ -27,10 +27,10 @@ fn play_line<P: Player, A: Allocator>(
     line: &[u8],
     out: &mut Vec<u8, A>,
 ) -> Result<(), RunError<P::Refusal>>
-    requires { length line.now ≤ LONGEST_LINE }
-    ensures ok { OnOk result ((text : List ℕ) × PlaysLine P.kind player.old line.now text player.new
-        × (out.new.items ≡ out.old.items ++ text)) }
-    ensures err { IfErr result (λ e. StopsLine P.kind player.old number line.now e out.old.items out.new.items) }
+    ensures ok { length line.now ≤ P.kind.longest → OnOk result ((text : List ℕ)
+        × PlaysLine P.kind player.old line.now text player.new × (out.new.items ≡ out.old.items ++ text)) }
+    ensures err { length line.now ≤ P.kind.longest
+        → IfErr result (λ e. StopsLine P.kind player.old number line.now e out.old.items out.new.items) }
 {
     let text = without_return(line);
     if text.is_empty() {
@@ -68,7 +68,7 @@ fn take_byte<P: Player, A: Allocator>(
     if byte == LINE_FEED {
         return end_line(run, out);
     }
-    if run.line.is_full() {
+    if run.line.len() >= P::longest() {
         return Err(RunError::TooLong {
             line: run.count.saturating_add(1),
         });

@@ -9,16 +9,16 @@ use Rattle.pq_types.specs.Asked.{Request}
 use Rattle.pq_types.specs.declared.request.Request.TheVariants.{Push, Pop, Least}
 use Rattle.pq_types.specs.Asked.{Reply}
 use Rattle.pq_types.specs.declared.answer.Reply.TheVariants.{Pushed, Got, Empty, Least as LeastIs}
-use Rattle.pq_types.specs.Item.{not_above}
+use Rattle.pq_types.specs.Item.{item, not_above}
 use Rattle.pq_types.specs.declared.journal.TheConstants.{MOST_LINES}
 use Rattle.pq_types.specs.Asked.{Operation}
-use Rattle.pq_types.specs.Operation.{Asked, ByTicket, Remove, request_of}
+use Rattle.pq_types.specs.Operation.{Asked, ByTicket, Remove, Move, request_of}
 use Rattle.pq_types.specs.Queue.{with_item, content_after, reply_to}
-use Rattle.pq_types.specs.Entry.{Entry, item_of, item_at, without, taken, entries_after, reply_by}
+use Rattle.pq_types.specs.Entry.{Entry, entry, item_of, item_at, without, with_entry, with_moved, entry_not_above, taken, entries_after, reply_by}
 use Rattle.pq_types.specs.History.{left, entries_from, entries_of, IsLegal, IsLegalFrom}
 use Rattle.pq_types.specs.Laws.{LeavesOneMore, EntersOneMore}
 use Rattle.leftist_heap.specs.Store.{first_of, rest_of}
-use Rattle.queue_load.specs.Leftover.{left_after, HoldsFor}
+use Rattle.queue_load.specs.Leftover.{left_after, left_by, moved, HoldsFor}
 use Rattle.queue_load.specs.declared.leftover.Leftover.{Leftover}
 use Rattle.queue_load.proofs.Widths.{so_often, most_parts}
 
@@ -136,19 +136,65 @@ removed l es i reply c e = by_item (item_at i es) refl reply e
         let count = c.count in let sum = c.sum in
         ((omega arith, omega arith), record { count = omega arith; sum = omega arith })
 
+-- an entry more
+entered_more : (e : Entry) (es : List Entry) → (length (map item_of (with_entry e es)) ≡ length (map item_of es) + 1) × (weight (map item_of (with_entry e es)) ≡ weight (map item_of es) + e.priority)
+entered_more e [] = (refl, refl)
+entered_more e (f ∷ fs) = behind (entry_not_above f e) (entered_more e fs)
+  where
+    behind : (before : Bool) → (length (map item_of (with_entry e fs)) ≡ length (map item_of fs) + 1) × (weight (map item_of (with_entry e fs)) ≡ weight (map item_of fs) + e.priority)
+        → (length (map item_of (if before then f ∷ with_entry e fs else e ∷ f ∷ fs)) ≡ length (map item_of (f ∷ fs)) + 1)
+        × (weight (map item_of (if before then f ∷ with_entry e fs else e ∷ f ∷ fs)) ≡ weight (map item_of (f ∷ fs)) + e.priority)
+    behind true h = (
+      omega (arith, h.0),
+      omega (
+        arith,
+        h.1,
+        sum_by-cons (λ (i : Item). i.priority) (item_of f) (map item_of (with_entry e fs)),
+        sum_by-cons (λ (i : Item). i.priority) (item_of f) (map item_of fs),
+      ),
+    )
+    behind false h = (omega arith, omega (arith, sum_by-cons (λ (i : Item). i.priority) (item_of e) (map item_of (f ∷ fs))))
+
+-- what a move is told, and what it leaves
+moved_by : (l : Leftover) (es : List Entry) (n i priority : ℕ) (reply : Reply) → Counts l (map item_of es) → reply ≡ taken (item_at i es)
+    → Counts (moved l priority reply) (map item_of (with_moved n priority (item_at i es) (without i es)))
+moved_by l es n i priority reply c e = by_item (item_at i es) refl reply e
+  where
+    by_item : (found : Option Item) → item_at i es ≡ found → (r : Reply) → r ≡ taken found → Counts (moved l priority r) (map item_of (with_moved n priority found (without i es)))
+    by_item None is Pushed e = absurd (cc)
+    by_item None is (Got x) e = absurd (cc)
+    by_item None is (LeastIs x) e = absurd (cc)
+    by_item None is Empty e = subst (λ fs. Counts l (map item_of fs)) (sym (removed_none i es is)) c
+    by_item (Some y) is Pushed e = absurd (cc)
+    by_item (Some y) is (LeastIs x) e = absurd (cc)
+    by_item (Some y) is Empty e = absurd (cc)
+    by_item (Some y) is (Got x) e =
+        let same : x ≡ y = cc in
+        let old = ap (λ (z : Item). z.priority) same in
+        let less = removed_less i es y is in
+        let more = entered_more (entry n (item priority y.value)) (without i es) in
+        let number = less.0 in let amount = less.1 in let number' = more.0 in let amount' = more.1 in
+        let count = c.count in let sum = c.sum in
+        record { count = omega arith; sum = omega arith }
+
 -- the same of any operation
 holds_by : (l : Leftover) (es : List Entry) (o : Operation) (reply : Reply) → Counts l (map item_of es) → reply ≡ reply_by es o → HoldsFor l (request_of o) reply
 holds_by l es (Asked q) reply c e = holds l (map item_of es) q reply c e
 holds_by l es (ByTicket (Remove i)) reply c e = (removed l es i reply c e).0
+holds_by l es (ByTicket (Move i priority)) reply c e = (removed l es i reply c e).0
 
-counts_more : LeavesOneMore → EntersOneMore → (lines : List Line) (x : Line) (l : Leftover) → Counts l (left lines) → x.reply ≡ reply_by (entries_of lines) x.operation → Counts (left_after l (request_of x.operation) x.reply) (left (lines ++ x ∷ []))
+counts_more : LeavesOneMore → EntersOneMore → (lines : List Line) (x : Line) (l : Leftover) → Counts l (left lines) → x.reply ≡ reply_by (entries_of lines) x.operation → Counts (left_by l x.operation x.reply) (left (lines ++ x ∷ []))
 counts_more leaves enters lines x l c e = by x.operation refl e
   where
-    by : (o : Operation) → x.operation ≡ o → x.reply ≡ reply_by (entries_of lines) o → Counts (left_after l (request_of o) x.reply) (left (lines ++ x ∷ []))
+    by : (o : Operation) → x.operation ≡ o → x.reply ≡ reply_by (entries_of lines) o → Counts (left_by l o x.reply) (left (lines ++ x ∷ []))
     by (Asked q) is e = subst (Counts (left_after l q x.reply)) (sym (leaves lines x q is)) (counts_after l (left lines) q x.reply c e)
     by (ByTicket (Remove i)) is e =
         let now : left (lines ++ x ∷ []) ≡ map item_of (without i (entries_of lines)) = ap (map item_of) (enters lines x ∙ ap (entries_after (entries_of lines) (length lines + 1)) is) in
         subst (Counts (left_after l Pop x.reply)) (sym now) (removed l (entries_of lines) i x.reply c e).1
+    by (ByTicket (Move i priority)) is e =
+        let after = with_moved (length lines + 1) priority (item_at i (entries_of lines)) (without i (entries_of lines)) in
+        let now : left (lines ++ x ∷ []) ≡ map item_of after = ap (map item_of) (enters lines x ∙ ap (entries_after (entries_of lines) (length lines + 1)) is) in
+        subst (Counts (moved l priority x.reply)) (sym now) (moved_by l (entries_of lines) (length lines + 1) i priority x.reply c e)
 
 -- each line of a legal history has the reply of the queue that the lines before it leave
 legal_at : (es : List Entry) (k : ℕ) (lines : List Line) (n : ℕ) (d : Line) → IsLegalFrom es k lines → n < length lines → (get_or lines n d).reply ≡ reply_by (entries_from es k (take n lines)) (get_or lines n d).operation
@@ -157,13 +203,13 @@ legal_at es k (l ∷ ls) zero d h lt = h.0
 legal_at es k (l ∷ ls) (suc n) d h lt = legal_at (entries_after es k l.operation) (k + 1) ls n d h.1 (omega arith)
 
 -- what is left after one line more
-pub leftover_more : {wide : Bool} → LeavesOneMore → EntersOneMore → (lines : List Line) (n : ℕ) (d : Line) (l l' : Leftover) → IsLegal lines → n < length lines → IsLeftover wide n l (take n lines) → l' ≡ left_after l (request_of (get_or lines n d).operation) (get_or lines n d).reply → l'.count ≤ l.count + 1 → l'.sum ≤ l.sum + bound_of wide → IsLeftover wide (n + 1) l' (take (n + 1) lines)
+pub leftover_more : {wide : Bool} → LeavesOneMore → EntersOneMore → (lines : List Line) (n : ℕ) (d : Line) (l l' : Leftover) → IsLegal lines → n < length lines → IsLeftover wide n l (take n lines) → l' ≡ left_by l (get_or lines n d).operation (get_or lines n d).reply → l'.count ≤ l.count + 1 → l'.sum ≤ l.sum + bound_of wide → IsLeftover wide (n + 1) l' (take (n + 1) lines)
 leftover_more {wide = wide} leaves enters lines n d l l' legal lt h e more grown =
     let x = get_or lines n d in
     let counts = counts_more leaves enters (take n lines) x l h.counts (legal_at [] 1 lines n d legal lt) in
     let few = h.few in let small = h.small in
     record {
-      counts = subst (λ u. Counts u (left (take (n + 1) lines))) (sym e) (subst (λ ls. Counts (left_after l (request_of x.operation) x.reply) (left ls)) (sym (take_more lines n d lt)) counts);
+      counts = subst (λ u. Counts u (left (take (n + 1) lines))) (sym e) (subst (λ ls. Counts (left_by l x.operation x.reply) (left ls)) (sym (take_more lines n d lt)) counts);
       few = omega arith;
       small = omega arith;
     }

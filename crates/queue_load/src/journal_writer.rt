@@ -7,7 +7,7 @@ use byte_writer::write_bytes;
 use flat_queue::{Member, Queue};
 use leftist_heap::Store;
 use pq_book::Entry;
-use pq_types::{GREATEST_NUMBER, Item, Line, Part};
+use pq_types::{GREATEST_NUMBER, Line, Part};
 use queue_texts::append_line;
 use std::alloc::{AllocError, Global};
 use std::io::Write;
@@ -26,7 +26,7 @@ pub struct JournalWriter {
 fn text_of_lines<P: Part>(
     alloc: Global,
     number: u64,
-    lines: &[Line<Item<P>>],
+    lines: &[Line<P>],
 ) -> Result<Vec<u8>, AllocError>
     requires number { number ≤ 2 ^ 60 }
     requires few { length lines.now ≤ 2 ^ 60 }
@@ -45,7 +45,7 @@ fn text_of_lines<P: Part>(
 fn put<W: Write, P: Part>(
     alloc: Global,
     written: u64,
-    page: &[Line<Item<P>>],
+    page: &[Line<P>],
     lines: u64,
     writer: &mut W,
 ) -> JournalWriter
@@ -78,7 +78,7 @@ fn lines_behind<S: Store<Entry<P>>, P: Part>(
     queue: &Queue<S, P>,
     member: &mut Member<S, P>,
     written: u64,
-) -> Option<(Vec<Line<Item<P>>>, u64)>
+) -> Option<(Vec<Line<P>>, u64)>
     requires queue { member.old.queue ≡ queue.now }
     ensures stays { StaysIdle member.old member.new }
     ensures some { IfSome result (λ found.

@@ -4,12 +4,12 @@ ghost use Rattle.pq_types.specs.Entry.{item_of};
 ghost use Rattle.pq_types.specs.Item.{bound_of};
 ghost use Rattle.pq_types.specs.History.{left, IsLegal};
 ghost use Rattle.pq_types.specs.Operation.{request_of};
-ghost use Rattle.queue_load.specs.Leftover.{HoldsFor, left_after};
+ghost use Rattle.queue_load.specs.Leftover.{HoldsFor, left_by};
 
 use leftist_heap::Store;
 use pq_book::Entry;
 use pq_types::laws::law_one_more_line;
-use pq_types::{Done, Item, Line, MOST_LINES, Part, Reply};
+use pq_types::{Done, Line, MOST_LINES, Part, Reply};
 
 /// The items that a journal leaves in its queue.
 #[derive(Clone, Copy)]
@@ -20,15 +20,15 @@ pub struct Leftover {
 }
 
 // What is left after one line more, of what was left before it.
-fn after_line<P: Part>(before: Leftover, line: &Line<Item<P>>) -> Leftover
+fn after_line<P: Part>(before: Leftover, line: &Line<P>) -> Leftover
     requires room { (before.count < 2 ^ 60) × (before.sum < 2 ^ 100) }
     requires holds { HoldsFor before (request_of line.now.operation) line.now.reply }
-    ensures after { result ≡ left_after before (request_of line.now.operation) line.now.reply }
+    ensures after { result ≡ left_by before line.now.operation line.now.reply }
     ensures count { result.count ≤ before.count + 1 }
     ensures sum { result.sum ≤ before.sum + bound_of P.wide }
 {
     let Leftover { count, sum } = before;
-    match (line.operation.done, line.reply) {
+    match (&line.operation.done, &line.reply) {
         (Done::Push(item), _) => Leftover {
             count: count + 1,
             sum: sum + u128::from(item.priority.as_u64()),
@@ -37,13 +37,17 @@ fn after_line<P: Part>(before: Leftover, line: &Line<Item<P>>) -> Leftover
             count: count - 1,
             sum: sum - u128::from(item.priority.as_u64()),
         },
+        (Done::Move(priority, _), Reply::Got(item)) => Leftover {
+            count,
+            sum: sum - u128::from(item.priority.as_u64()) + u128::from(priority.as_u64()),
+        },
         _ => before,
     }
 }
 
-/// What the journal leaves, read off its lines: what was pushed, less what was taken out. Takes no
-/// memory.
-pub fn leftover_of<P: Part>(lines: &[Line<Item<P>>]) -> Leftover
+/// What the journal leaves, read off its lines: what was pushed, less what was taken out, each moved item under its last
+/// priority. Takes no memory.
+pub fn leftover_of<P: Part>(lines: &[Line<P>]) -> Leftover
     requires legal { IsLegal lines.now }
     requires few { length lines.now ≤ MOST_LINES }
     ensures count { result.count ≡ length (left lines.now) }

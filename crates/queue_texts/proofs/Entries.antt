@@ -4,7 +4,6 @@ use Rattle.std.specs.Prelude.{◌==◌}
 use Rattle.std.specs.List.{AllByRecursion}
 use Rattle.pq_types.specs.Asked.{Line}
 use Rattle.pq_types.specs.History.{last_serial}
-use Rattle.pq_types.specs.Operation.{request_of}
 use Rattle.pq_types.specs.Laws.{SerialOfOneMore}
 use Rattle.queue_texts.specs.declared.sums.JournalSums.{JournalSums}
 use Rattle.queue_texts.specs.Replay.{MayFollow}
@@ -21,9 +20,9 @@ all_more P (y ∷ ys) x h p = (h.0, all_more P ys x h.1 p)
 
 -- the sums of one more line that was read
 counts_more : SerialOfOneMore → (wide : Bool) (text : List ℕ) (ls : List Line) (l : Line) (t : JournalSums) (new : Bool) → CountUpTo ls t
-    → MayFollow wide ls text l → (counted t new (request_of l.operation) l.reply).sum_in ≤ t.sum_in + 2 ^ 64
-    → (counted t new (request_of l.operation) l.reply).sum_out ≤ t.sum_out + 2 ^ 64 → new ≡ (last_serial l.place ls == 0)
-    → CountUpTo (ls ++ l ∷ []) (counted t new (request_of l.operation) l.reply)
+    → MayFollow wide ls text l → (counted t new l.operation l.reply).sum_in ≤ t.sum_in + 2 ^ 64
+    → (counted t new l.operation l.reply).sum_out ≤ t.sum_out + 2 ^ 64 → new ≡ (last_serial l.place ls == 0)
+    → CountUpTo (ls ++ l ∷ []) (counted t new l.operation l.reply)
 counts_more one_more wide text ls l t new h may small_in small_out is =
     let within = may.0.1 in
     record {
@@ -35,7 +34,7 @@ counts_more one_more wide text ls l t new h may small_in small_out is =
 -- the same, where each part is known by an equation
 pub counts_entered : SerialOfOneMore → (wide : Bool) (text : List ℕ) (ls ls' : List Line) (l : Line) (t t' : JournalSums) (new : Bool)
     → CountUpTo ls t → MayFollow wide ls text l → t'.sum_in ≤ t.sum_in + 2 ^ 64 → t'.sum_out ≤ t.sum_out + 2 ^ 64
-    → new ≡ (last_serial l.place ls == 0) → ls' ≡ ls ++ l ∷ [] → t' ≡ counted t new (request_of l.operation) l.reply → CountUpTo ls' t'
+    → new ≡ (last_serial l.place ls == 0) → ls' ≡ ls ++ l ∷ [] → t' ≡ counted t new l.operation l.reply → CountUpTo ls' t'
 counts_entered one_more wide text ls ls' l t t' new h may small_in small_out is f c =
     let into = subst (λ x. x.sum_in ≤ t.sum_in + 2 ^ 64) c small_in in
     let out = subst (λ x. x.sum_out ≤ t.sum_out + 2 ^ 64) c small_out in

@@ -11,7 +11,7 @@ use Rattle.line_script.specs.declared.error.RunError.{RunError}
 use Rattle.line_script.specs.declared.error.RunError.TheVariants.{Refused, TooLong, NoMemory, Input, Output}
 use Rattle.line_script.specs.Lines.{lines_of, without_return}
 use Rattle.queue_texts.specs.declared.refusal.Breach.{Breach}
-use Rattle.queue_texts.specs.declared.refusal.Breach.TheVariants.{WrongNumber, SerialFalls, WrongReply, WrongRemoval}
+use Rattle.queue_texts.specs.declared.refusal.Breach.TheVariants.{WrongNumber, SerialFalls, WrongReply, WrongRemoval, WrongMove}
 use Rattle.queue_texts.specs.declared.refusal.Unlawful.{Unlawful}
 use Rattle.queue_texts.specs.declared.refusal.Unlawful.TheVariants.{NoLine, Broken}
 use Rattle.queue_texts.specs.declared.refusal.AuditRefusal.{AuditRefusal}
@@ -68,6 +68,7 @@ module _ (wide : Bool) (once : LinesAreReadOnce) where
   no_breach journal number l (WrongReply told due) is reply above (m, rises, t, (q, o, d), other) =
       other (t ∙ reply ∙ ap (λ x. reply_by (entries_of journal) x) o ∙ sym d)
   no_breach journal number l (WrongRemoval ticket told due) is reply above (m, rises, o, t, d, other) = other (t ∙ reply ∙ sym d)
+  no_breach journal number l (WrongMove ticket priority told due) is reply above (m, rises, o, t, d, other) = other (t ∙ reply ∙ sym d)
 
   not_unlawful : (journal : List Line) (text : List ℕ) (l : Line) (why : Unlawful) → IsLineText wide text (length journal + 1) l
       → l.reply ≡ reply_by (entries_of journal) l.operation → last_serial l.place journal < l.serial → ¬ (IsUnlawful wide journal text why)

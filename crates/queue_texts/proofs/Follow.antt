@@ -1,6 +1,6 @@
 -- A kind of script over the states of running code, and the kind that it plays, over states of the
 -- definition.
-use Rattle.std.proofs.Common.{◌≡◌, ℕ, inl, inr, List, [], ◌∷◌, ◌++◌, Option, Some, Result, Ok, Err, refl, sym, subst, arith}
+use Rattle.std.proofs.Common.{◌≡◌, ℕ, ◌<◌, ◌≤◌, inl, inr, length, List, [], ◌∷◌, ◌++◌, Option, Some, Result, Ok, Err, refl, sym, subst, arith}
 use Rattle.std.specs.Io.KnownBytes.{Appends, Consumes}
 use Rattle.std.proofs.KnownBytes.{Appends-nil}
 use Rattle.line_script.specs.declared.error.RunError.{RunError}
@@ -12,6 +12,7 @@ use Rattle.line_script.specs.Script as script
 -- For s p says that the running state s stands for p. What the code does from s, the definition
 -- does from each p that s stands for.
 pub record Follows {S T R : Type 0} (k : Kind S R) (k' : Kind T R) (For : S → T → Type 0) : Type 0 where
+  pub longest : k.longest ≡ k'.longest
   pub plays : (s t : S) (p : T) (line text : List ℕ) → For s p → k.plays s line text t → (q : T) × For t q × k'.plays p line text q
   pub refuses : (s : S) (p : T) (n : ℕ) (line : List ℕ) (reason : R) → For s p → k.refuses s n line reason → k'.refuses p n line reason
   pub ends : (s : S) (p : T) (r : Result (Unit {0}) R) → For s p → k.ends s r → k'.ends p r
@@ -26,11 +27,11 @@ module _ {S T R : Type 0} (k : Kind S R) (k' : Kind T R) (For : S → T → Type
   all_follow s t p (line ∷ lines) text h (mid, first, others, (short, one), rest, split) =
       let here = unless_empty s mid p (without_return line) first h one in
       let there = all_follow mid t here.0 lines others here.1 rest in
-      (there.0, there.1, (here.0, first, others, (short, here.2), there.2, split))
+      (there.0, there.1, (here.0, first, others, (subst (λ n. length line ≤ n) f.longest short, here.2), there.2, split))
 
   line_refused : (s : S) (p : T) (n : ℕ) (line : List ℕ) (e : RunError R) → For s p → script.RefusesLine k s n line e → script.RefusesLine k' p n line e
-  line_refused s p n line (Refused reason) h (short, filled, refused) = (short, filled, f.refuses s p n (without_return line) reason h refused)
-  line_refused s p n line (TooLong number) h long = long
+  line_refused s p n line (Refused reason) h (short, filled, refused) = (subst (λ n. length line ≤ n) f.longest short, filled, f.refuses s p n (without_return line) reason h refused)
+  line_refused s p n line (TooLong number) h (long, at) = (subst (λ n. n < length line) f.longest long, at)
   line_refused s p n line NoMemory h none = none
   line_refused s p n line Input h none = none
   line_refused s p n line Output h none = none
@@ -57,7 +58,7 @@ module _ {S T R : Type 0} (k : Kind S R) (k' : Kind T R) (For : S → T → Type
   reading_follows : (s : S) (p : T) (input : List ℕ) (unread : Option (List ℕ)) (text : List ℕ) → For s p → StopsReading k s input unread text → StopsReading k' p input unread text
   reading_follows s p input unread text h r =
       let all = all_follow s r.state p (cut r.earlier).lines r.first h r.accepted in
-      record { earlier = r.earlier; last = r.last; read = r.read; one_buffer = r.one_buffer; state = all.0; first = r.first; others = r.others; accepted = all.2; written = r.written; under_way = r.under_way }
+      record { earlier = r.earlier; last = r.last; read = r.read; one_buffer = r.one_buffer; state = all.0; first = r.first; others = r.others; accepted = all.2; written = r.written; under_way = subst (λ n. length (cut r.earlier).rest ≤ n) f.longest r.under_way }
 
   pub writes_follow : (s : S) (p : T) (input : List ℕ) (unread : Option (List ℕ)) (r : Result (Unit {0}) (RunError R)) (text : List ℕ) → For s p → Writes k s input unread r text → Writes k' p input unread r text
   writes_follow s p input unread (Ok done) text h ((t, plays, ends), at_end) =

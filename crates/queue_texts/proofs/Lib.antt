@@ -18,4 +18,5 @@ pub mod Spelled
 pub mod WalkLemmas
 pub mod Widened
 pub mod Writing
+pub mod Written
 pub mod WrittenLines

@@ -9,7 +9,7 @@ use Rattle.pq_types.specs.Asked.{Reply}
 use Rattle.pq_types.specs.declared.answer.Reply.TheVariants.{Pushed, Got, Empty, Least as LeastIs}
 use Rattle.pq_types.specs.Asked.{Line}
 use Rattle.pq_types.specs.Asked.{Operation}
-use Rattle.pq_types.specs.Operation.{Asked, ByTicket, Remove}
+use Rattle.pq_types.specs.Operation.{Asked, ByTicket, Remove, Move}
 use Rattle.pq_types.specs.Item.{item}
 use Rattle.queue_texts.specs.ItemText.{SpellsNumber, HasNoSpace}
 use Rattle.queue_texts.specs.LineText.{Leads, LeadsBoth, LeadsAll, SpellsBoth, SpellsReply, AsksFirst, SaysFirst, SpellsLine}
@@ -82,6 +82,16 @@ no_removal text number rest (Push x) e (i, f, l) = omega (arith, first _ _ (sym 
 no_removal text number rest Pop e f = omega (arith, first _ _ (sym e ∙ f))
 no_removal text number rest Least e f = omega (arith, first _ _ (sym e ∙ f))
 
+-- nor as a move is
+pub no_move : (text numbers rest : List ℕ) (q : Request) → text ≡ codes "move " ++ numbers → ¬ (AsksFirst text q rest)
+no_move text numbers rest (Push x) e (i, f, l) = omega (arith, first _ _ (sym e ∙ f))
+no_move text numbers rest Pop e f = omega (arith, first _ _ (sym e ∙ f))
+no_move text numbers rest Least e f = omega (arith, first _ _ (sym e ∙ f))
+
+-- no removal is said as a move is
+pub no_both : (text number numbers : List ℕ) → text ≡ codes "remove " ++ number → ¬ (text ≡ codes "move " ++ numbers)
+no_both text number numbers e f = omega (arith, first _ _ (sym e ∙ f))
+
 -- a text says one operation first
 pub says_once : (text a b : List ℕ) (o p : Operation) → SaysFirst text o a → SaysFirst text p b → (o ≡ p) × (a ≡ b)
 says_once text a b (Asked q) (Asked r) h k = let one = asks_once text a b q r h k in (ap (λ z. Asked z) one.0, one.1)
@@ -91,6 +101,14 @@ says_once text a b (ByTicket (Remove i)) (ByTicket (Remove j)) (number, e, l) (n
     let same = append_cancel_left (codes "remove ") number number' (sym e ∙ f) in
     let one = leads_once number' a b i j (subst (λ t. Leads t i a) same l) k in
     (ap (λ z. ByTicket (Remove z)) one.0, one.1)
+says_once text a b (Asked q) (ByTicket (Move j n)) h (numbers, e, l) = absurd (no_move text numbers a q e h)
+says_once text a b (ByTicket (Move i m)) (Asked r) (numbers, e, l) k = absurd (no_move text numbers b r e k)
+says_once text a b (ByTicket (Remove i)) (ByTicket (Move j n)) (number, e, l) (numbers, f, k) = absurd (no_both text number numbers e f)
+says_once text a b (ByTicket (Move i m)) (ByTicket (Remove j)) (numbers, e, l) (number, f, k) = absurd (no_both text number numbers f e)
+says_once text a b (ByTicket (Move i m)) (ByTicket (Move j n)) (numbers, e, l) (numbers', f, k) =
+    let same = append_cancel_left (codes "move ") numbers numbers' (sym e ∙ f) in
+    let one = leads_both_once numbers' a b i m j n (subst (λ t. LeadsBoth t i m a) same l) k in
+    (ap (λ z. ByTicket (Move z m)) one.0 ∙ ap (λ z. ByTicket (Move j z)) one.1, one.2)
 
 -- a text says one reply
 pub reply_once : (text : List ℕ) (r s : Reply) → SpellsReply text r → SpellsReply text s → r ≡ s

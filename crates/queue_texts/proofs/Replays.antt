@@ -10,7 +10,7 @@ use Rattle.pq_types.specs.Asked.{Line, Operation, Reply}
 use Rattle.pq_types.specs.declared.journal.TheConstants.{GREATEST_NUMBER}
 use Rattle.pq_types.specs.Entry.{reply_by}
 use Rattle.pq_types.specs.History.{entries_of, last_serial}
-use Rattle.pq_types.specs.Operation.{Asked, ByTicket, Remove}
+use Rattle.pq_types.specs.Operation.{Asked, ByTicket, Remove, Move}
 use Rattle.pq_types.specs.Laws.{SerialOfOneMore, StaysLegal, StillRises}
 use Rattle.queue_texts.specs.declared.replay.TheConstants.{PLACES}
 use Rattle.queue_texts.specs.declared.refusal.Breach.{Breach}
@@ -78,3 +78,4 @@ breaks_by journal number l due b next above is other breach = subst (Breaks jour
   by : (o : Operation) → l.operation ≡ o → Breaks journal number l (breach_by o l.reply due)
   by (Asked q) e = (next, above, refl, (q, e, is ∙ ap (reply_by (entries_of journal)) e), other)
   by (ByTicket (Remove ticket)) e = (next, above, e, refl, is, other)
+  by (ByTicket (Move ticket priority)) e = (next, above, e, refl, is, other)

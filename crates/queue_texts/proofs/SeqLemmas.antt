@@ -8,6 +8,7 @@ use Rattle.pq_types.specs.History.{line, last_serial, journal_after}
 use Rattle.pq_types.specs.Laws.{SerialOfOneMore}
 use Rattle.pq_book.specs.Book.{Volume}
 use Rattle.line_script.specs.declared.error.RunError.{RunError}
+use Rattle.line_script.specs.declared.lines.TheConstants.{LONGEST_LINE}
 use Rattle.line_script.specs.Lines.{lines_of}
 use Rattle.line_script.specs.Script.{Kind, PlaysAll, WritesAs}
 use Rattle.queue_texts.specs.declared.faults.Refusal.{Refusal}
@@ -30,6 +31,7 @@ still_numbered last_serial-snoc journal after serial q a next e h =
 module _ {S : Type 0} (wide : Bool) (book : S → Volume) where
   abbrev over_book : Kind S Refusal
   over_book = record {
+    longest = LONGEST_LINE;
     plays = λ s line text t. ((book t).room ≡ (book s).room) × PlaysCommand wide (book s).room (book s).journal line text (book t).journal;
     refuses = λ s. RefusesCommand wide;
     ends = λ s r. r ≡ Ok tt;
@@ -41,6 +43,7 @@ module _ {S : Type 0} (wide : Bool) (book : S → Volume) where
 
   follows : (room : ℕ) → Follows over_book (commands wide room) (HasJournal room)
   follows room = record {
+    longest = refl;
     plays = λ s t journal line text h p. ((book t).journal, (p.0 ∙ h.0, refl), subst (λ n. PlaysCommand wide n journal line text (book t).journal) h.0 (subst (λ j. PlaysCommand wide (book s).room j line text (book t).journal) h.1 p.1));
     refuses = λ s journal n line reason h p. p;
     ends = λ s journal r h p. p;

@@ -14,11 +14,11 @@ use Rattle.pq_types.specs.declared.control.Outcome.{Outcome}
 use Rattle.pq_types.specs.declared.control.Outcome.TheVariants as outcome
 use Rattle.pq_types.specs.Asked.{Line}
 use Rattle.pq_types.specs.Asked.{Operation}
-use Rattle.pq_types.specs.Operation.{Asked, ByTicket, Remove, request_of}
+use Rattle.pq_types.specs.Operation.{Asked, ByTicket, Remove, Move, request_of}
 use Rattle.queue_texts.specs.declared.line_reading.LineError.{LineError}
 use Rattle.queue_texts.specs.declared.line_reading.LineError.TheVariants.{UnknownWord, OutOfRange, NoSuchReply}
+use Rattle.queue_texts.specs.declared.line_reading.NumberedLine.{NumberedLine}
 use Rattle.queue_texts.specs.declared.line_reading.Parts.{Parts}
-use Rattle.queue_texts.specs.declared.line_reading.Named.{Named}
 use Rattle.queue_texts.specs.declared.line_reading.Named.TheVariants as named
 use Rattle.queue_texts.specs.declared.line_reading.Shape.{Shape}
 use Rattle.pq_types.specs.Item.{item, IsItemOf}
@@ -27,25 +27,25 @@ use Rattle.queue_texts.specs.Command.{PushesText}
 use Rattle.pq_types.specs.History.{line_of}
 use Rattle.pq_types.specs.Control.{kind_of, outcome_of, request_with, reply_with}
 use Rattle.queue_texts.specs.LineText.{Leads, LeadsBoth, LeadsAll, SpellsBoth, SpellsReply, AsksFirst, SaysFirst, SpellsLine, IsInRange}
-use Rattle.queue_texts.specs.LineText.{MayReply, HasReplyOfItsKind, IsLineText, IsNoLineFor, NumberedLine, numbered}
+use Rattle.queue_texts.specs.LineText.{MayReply, HasReplyOfItsKind, IsLineText, IsNoLineFor, numbered}
 use Rattle.queue_texts.specs.LineShape.{capped, TellsItem, TellsNone, AsksNone, AreParts, HasReply, HasRequest, HasOperation}
 use Rattle.queue_texts.specs.LineShape.{HasShape}
-use Rattle.queue_texts.proofs.Lines.{leads_once, leads_all_once, no_removal, says_once, line_once}
+use Rattle.queue_texts.proofs.Lines.{leads_once, leads_all_once, no_removal, no_move, no_both, says_once, line_once}
 
 pub if_none : {X : Type 0} (P : Type 0) (r : Option X) → r ≡ None → P → IfNone r P
 if_none P (Some x) e h = absurd (cc)
 if_none P None e h = h
 
 -- behind its first number the text does not go on with one
-pub no_second : (text a : List ℕ) (m : ℕ) → Leads text m a → ((n : ℕ) (rest : List ℕ) → ¬ (Leads a n rest)) → (x : Item) (rest : List ℕ)
-    → ¬ (LeadsBoth text x.priority x.value rest)
-no_second text a m l none x rest (b, k, more) =
-    let one = leads_once text b a x.priority m k l in
-    none x.value rest (subst (λ t. Leads t x.value rest) one.1 more)
+pub no_second : (text a : List ℕ) (m : ℕ) → Leads text m a → ((n : ℕ) (rest : List ℕ) → ¬ (Leads a n rest)) → (p q : ℕ) (rest : List ℕ)
+    → ¬ (LeadsBoth text p q rest)
+no_second text a m l none p q rest (b, k, more) =
+    let one = leads_once text b a p m k l in
+    none q rest (subst (λ t. Leads t q rest) one.1 more)
 
-pub both_led : (text a b : List ℕ) (parts : Parts) → (m : ℕ) × Leads text m a × (parts.priority ≡ capped m) → (n : ℕ) × Leads a n b
-    × (parts.value ≡ capped n) → (x : Item) × LeadsBoth text x.priority x.value b × AreParts parts x
-both_led text a b parts (m, l, e) (n, k, f) = (item m n, (a, l, k), (e, f))
+pub both_led : (text b : List ℕ) (parts : Parts) → (m : ℕ) × (n : ℕ) × LeadsBoth text m n b × (parts.priority ≡ capped m) × (parts.value ≡ capped n)
+    → (x : Item) × LeadsBoth text x.priority x.value b × AreParts parts x
+both_led text b parts (m, n, l, e, f) = (item m n, l, (e, f))
 
 pub no_last : (text a : List ℕ) (m : ℕ) → Leads text m a → ¬ (IsNumeral 10 a) → (x : Item) → ¬ (SpellsBoth text x.priority x.value)
 no_last text a m l none x (b, k, s) =
@@ -136,15 +136,33 @@ pub no_ticket : (text number : List ℕ) → text ≡ codes "remove " ++ number 
 no_ticket text number e none (Asked q) rest asked = no_removal text number rest q e asked
 no_ticket text number e none (ByTicket (Remove ticket)) rest (number', f, l) =
     none ticket rest (subst (λ t. Leads t ticket rest) (append_cancel_left (codes "remove ") number' number (sym f ∙ e)) l)
+no_ticket text number e none (ByTicket (Move ticket priority)) rest (numbers, f, l) = no_both text number numbers e f
+
+-- the text says that this ticket's item is moved to this priority
+pub move_said : (text numbers rest : List ℕ) (t p : ℕ) → text ≡ codes "move " ++ numbers
+    → (ticket : ℕ) × (priority : ℕ) × LeadsBoth numbers ticket priority rest × (t ≡ capped ticket) × (p ≡ capped priority)
+    → (o : Operation) × SaysFirst text o rest × HasOperation (named.Move t p) o
+move_said text numbers rest t p e (ticket, priority, l, c, d) = (ByTicket (Move ticket priority), (numbers, e, l), (c, d))
+
+-- no operation, where no two numbers follow `move `
+pub no_priority : (text numbers : List ℕ) → text ≡ codes "move " ++ numbers → ((m n : ℕ) (rest : List ℕ) → ¬ (LeadsBoth numbers m n rest))
+    → (o : Operation) (rest : List ℕ) → ¬ (SaysFirst text o rest)
+no_priority text numbers e none (Asked q) rest asked = no_move text numbers rest q e asked
+no_priority text numbers e none (ByTicket (Remove ticket)) rest (number, f, l) = no_both text number numbers f e
+no_priority text numbers e none (ByTicket (Move ticket priority)) rest (numbers', f, l) =
+    none ticket priority rest
+    (subst (λ t. LeadsBoth t ticket priority rest) (append_cancel_left (codes "move ") numbers' numbers (sym f ∙ e)) l)
 
 pub request_said : (text rest : List ℕ) (k : Kind) (parts : Parts) → (q : Request) × AsksFirst text q rest × HasRequest k parts q
     → (o : Operation) × SaysFirst text o rest × HasOperation (named.Asked k parts) o
 request_said text rest k parts (q, asked, has) = (Asked q, asked, has)
 
-pub no_operation : (text : List ℕ) → ((number : List ℕ) → ¬ (text ≡ codes "remove " ++ number)) → ((q : Request) (rest : List ℕ) → ¬ (AsksFirst text q rest))
+pub no_operation : (text : List ℕ) → ((number : List ℕ) → ¬ (text ≡ codes "remove " ++ number))
+    → ((numbers : List ℕ) → ¬ (text ≡ codes "move " ++ numbers)) → ((q : Request) (rest : List ℕ) → ¬ (AsksFirst text q rest))
     → (o : Operation) (rest : List ℕ) → ¬ (SaysFirst text o rest)
-no_operation text unsaid none (Asked q) rest asked = none q rest asked
-no_operation text unsaid none (ByTicket (Remove ticket)) rest (number, e, l) = unsaid number e
+no_operation text unremoved unmoved none (Asked q) rest asked = none q rest asked
+no_operation text unremoved unmoved none (ByTicket (Remove ticket)) rest (number, e, l) = unremoved number e
+no_operation text unremoved unmoved none (ByTicket (Move ticket priority)) rest (numbers, e, l) = unmoved numbers e
 
 -- a text whose first words are none of a line's spells none
 pub no_line_asked : (text a : List ℕ) → (n : ℕ) × (p : ℕ) × (s : ℕ) × LeadsAll text n p s a
@@ -209,14 +227,8 @@ outcome_is o parts (Got y) (e, a) = sym e
 outcome_is o parts (LeastIs y) (e, a) = sym e
 outcome_is o parts Empty (e, a) = sym e
 
--- which request its reply is that of
-pub reply_kind : (k : Kind) (s : Named) (o : Operation) → HasOperation s o → ((q : Request) → HasOperation s (Asked q) → kind_of q ≡ k)
-    → ((t : ℕ) → HasOperation s (ByTicket (Remove t)) → kind.Pop ≡ k) → kind_of (request_of o) ≡ k
-reply_kind k s (Asked q) has asked removed = asked q has
-reply_kind k s (ByTicket (Remove t)) has asked removed = removed t has
-
 -- what a text is read as
-abbrev pub IsReadAs : Bool → List ℕ → Result NumberedLine LineError → Type 0
+abbrev pub IsReadAs : {P : Type 0} → Bool → List ℕ → Result (NumberedLine P) LineError → Type 0
 IsReadAs wide text (Ok found) = IsLineText wide text found.number found.line
 IsReadAs wide text (Err e) = IsNoLineFor wide text e
 
@@ -227,7 +239,7 @@ one_line P text m n l k h g p =
     subst (λ z. P n z) same.1 (subst (λ z. P z l) same.0 p)
 
 -- a text is read in one way
-pub read_once : (wide : Bool) (text : List ℕ) (r s : Result NumberedLine LineError) → IsReadAs wide text r → IsReadAs wide text s → r ≡ s
+pub read_once : {P : Type 0} (wide : Bool) (text : List ℕ) (r s : Result (NumberedLine P) LineError) → IsReadAs wide text r → IsReadAs wide text s → r ≡ s
 read_once wide text (Ok x) (Ok y) h g =
     let same = line_once text x.number y.number x.line y.line h.0 g.0 in
     ap (λ n. Ok (numbered n x.line)) same.0 ∙ ap (λ l. Ok (numbered y.number l)) same.1
@@ -249,15 +261,15 @@ read_once wide text (Err NoSuchReply) (Err UnknownWord) (n, l, s, range, none) g
 read_once wide text (Err NoSuchReply) (Err OutOfRange) (m, k, t, range, none) (n, l, s, high) = absurd (high (one_line (IsInRange wide) text m n k l t s range))
 read_once wide text (Err NoSuchReply) (Err NoSuchReply) h g = refl
 
-pub every_line : (wide : Bool) (text : List ℕ) (r : Result NumberedLine LineError) → IsReadAs wide text r → (n : ℕ) (l : Line) → IsLineText wide text n l
+pub every_line : {P : Type 0} (wide : Bool) (text : List ℕ) (r : Result (NumberedLine P) LineError) → IsReadAs wide text r → (n : ℕ) (l : Line) → IsLineText wide text n l
     → r ≡ Ok (numbered n l)
 every_line wide text r h n l g = read_once wide text r (Ok (numbered n l)) h g
 
-pub every_refusal : (wide : Bool) (text : List ℕ) (r : Result NumberedLine LineError) → IsReadAs wide text r → (e : LineError) → IsNoLineFor wide text e → r ≡ Err e
+pub every_refusal : {P : Type 0} (wide : Bool) (text : List ℕ) (r : Result (NumberedLine P) LineError) → IsReadAs wide text r → (e : LineError) → IsNoLineFor wide text e → r ≡ Err e
 every_refusal wide text r h e g = read_once wide text r (Err e) h g
 
 -- a shape in range whose reply no such request has
-pub no_such_reply : (wide : Bool) (text : List ℕ) (s : Shape) (found : NumberedLine) (k : Kind) (b : Bool) → (n : ℕ) × (l : Line) × SpellsLine text n l × HasShape s n l
+pub no_such_reply : {P : Type 0} (wide : Bool) (text : List ℕ) (s : Shape) (found : NumberedLine P) (k : Kind) (b : Bool) → (n : ℕ) × (l : Line) × SpellsLine text n l × HasShape s n l
     → ((n : ℕ) (l : Line) → HasShape s n l → (found.number ≡ n) × (found.line ≡ l) × IsInRange wide n l)
     → ((o : Operation) → HasOperation s.named o → kind_of (request_of o) ≡ k)
     → ((q : Request) (r : Reply) → kind_of q ≡ k → outcome_of r ≡ s.outcome → IsTrue b ↔ MayReply q r) → b ≡ false → IsNoLineFor wide text NoSuchReply
@@ -271,7 +283,7 @@ no_such_reply wide text s found k b (n, l, spells, has) range kinds may e = (
 )
 
 -- the line that is found
-pub the_line : (wide : Bool) (text : List ℕ) (s : Shape) (found : NumberedLine) (k : Kind) (b : Bool) → (n : ℕ) × (l : Line) × SpellsLine text n l × HasShape s n l
+pub the_line : {P : Type 0} (wide : Bool) (text : List ℕ) (s : Shape) (found : NumberedLine P) (k : Kind) (b : Bool) → (n : ℕ) × (l : Line) × SpellsLine text n l × HasShape s n l
     → ((n : ℕ) (l : Line) → HasShape s n l → (found.number ≡ n) × (found.line ≡ l) × IsInRange wide n l)
     → ((o : Operation) → HasOperation s.named o → kind_of (request_of o) ≡ k)
     → ((q : Request) (r : Reply) → kind_of q ≡ k → outcome_of r ≡ s.outcome → IsTrue b ↔ MayReply q r) → b ≡ true
@@ -287,5 +299,5 @@ pub one_reading : (wide : Bool) (text : List ℕ) (m : ℕ) (l : Line) → IsLin
     × ((e : LineError) → ¬ (IsNoLineFor wide text e))
 one_reading wide text m l h = (
   λ n k g. line_once text m n l k h.0 g.0,
-  λ e no. let same : Ok (numbered m l) ≡ Err e = read_once wide text (Ok (numbered m l)) (Err e) h no in absurd (cc),
+  λ e no. let same : Ok (numbered {P = ℕ} m l) ≡ Err e = read_once wide text (Ok (numbered {P = ℕ} m l)) (Err e) h no in absurd (cc),
 )

@@ -8,6 +8,7 @@ use Rattle.line_script.specs.declared.error.RunError.TheVariants.{Refused, TooLo
 use Rattle.line_script.specs.Lines.{lines_of, without_return}
 use Rattle.line_script.specs.Script.{Kind, WritesAs}
 use Rattle.line_script.specs.Script as script
+use Rattle.queue_texts.specs.declared.line_text.TheConstants.{LONGEST_ENTRY}
 use Rattle.queue_texts.specs.declared.refusal.AuditRefusal.{AuditRefusal}
 use Rattle.queue_texts.specs.Audit.{SpellsFrom, IsLawful, IsFirst, IsRefused, Audits, PlaysEntry, RefusesEntry}
 use Rattle.queue_texts.proofs.Replays.{lawful_none, lawful_more}
@@ -15,6 +16,7 @@ use Rattle.queue_texts.proofs.Replays.{lawful_none, lawful_more}
 module _ {S : Type 0} (wide : Bool) (journal : S → List Line) (legal_more : StaysLegal) (rise_more : StillRises) where
   abbrev over_journal : Kind S AuditRefusal
   over_journal = record {
+    longest = LONGEST_ENTRY;
     plays = λ s line text t. PlaysEntry wide (journal s) line text (journal t);
     refuses = λ s n line refusal. RefusesEntry wide (journal s) n line refusal;
     ends = λ s r. r ≡ Ok tt;
@@ -34,7 +36,7 @@ module _ {S : Type 0} (wide : Bool) (journal : S → List Line) (legal_more : St
     lawful : IsLawful (journal t)
 
   step : (s mid t : S) (text out others : List ℕ) (texts : List (List ℕ))
-      → ((m : S) → script.PlaysAll over_journal m texts others t → IsLawful (journal m) → Spelled m texts t) → length text ≤ 80
+      → ((m : S) → script.PlaysAll over_journal m texts others t → IsLawful (journal m) → Spelled m texts t) → length text ≤ LONGEST_ENTRY
       → ((without_return text ≡ []) × (mid ≡ s))
       ⊎ ((0 < length (without_return text)) × PlaysEntry wide (journal s) (without_return text) out (journal mid))
       → script.PlaysAll over_journal mid texts others t → IsLawful (journal s) → Spelled s (text ∷ texts) t

@@ -3,6 +3,7 @@ use Rattle.std.proofs.Common.{◌≡◌, ℕ, inl, true, List, [], ◌∷◌, �
 use Rattle.split_core.specs.declared.trail_machine.TrailMachine.{TrailMachine}
 use Rattle.split_core.specs.declared.seen.Seen.{Seen}
 use Rattle.queue_texts.specs.EventText.{event_text}
+use Rattle.line_script.specs.declared.lines.TheConstants.{LONGEST_LINE}
 use Rattle.line_script.specs.declared.error.RunError.{RunError}
 use Rattle.line_script.specs.declared.error.RunError.TheVariants.{Refused, TooLong, NoMemory, Input, Output}
 use Rattle.line_script.specs.Script.{Kind, Writes, StopsInto}
@@ -34,6 +35,7 @@ move_plays kind what id ids old before after out out' seen grown opens made = (
 module _ {S : Type 0} (For : S → Schedule → Type 0) (kind_of : S → ScanKind) where
   abbrev over_walk : Kind S Refusal
   over_walk = record {
+    longest = LONGEST_LINE;
     plays = λ s line text t. (kind_of t ≡ kind_of s) × ((p : Schedule) → For s p → (q : Schedule) × For t q × PlaysWalk (kind_of s) p line text q);
     refuses = λ s n line refusal. (p : Schedule) → For s p → RefusesWalk (kind_of s) p n line refusal;
     ends = λ s r. (p : Schedule) → For s p → EndsWalk p r;
@@ -45,6 +47,7 @@ module _ {S : Type 0} (For : S → Schedule → Type 0) (kind_of : S → ScanKin
 
   follows : (kind : ScanKind) → Follows over_walk (orders kind) (Stays kind)
   follows kind = record {
+    longest = refl;
     plays = λ s t p line text h plays.
         let after = plays.1 p h.1 in (after.0, (plays.0 ∙ h.0, after.1), subst (λ k. PlaysWalk k p line text after.0) h.0 after.2);
     refuses = λ s p n line refusal h refused. subst (λ k. RefusesWalk k p n line refusal) h.0 (refused p h.1);

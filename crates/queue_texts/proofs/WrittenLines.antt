@@ -9,7 +9,7 @@ use Rattle.pq_types.specs.Asked.{Reply}
 use Rattle.pq_types.specs.declared.answer.Reply.TheVariants.{Pushed, Got, Empty, Least as LeastIs}
 use Rattle.pq_types.specs.Asked.{Line}
 use Rattle.pq_types.specs.Asked.{Operation}
-use Rattle.pq_types.specs.Operation.{Asked, ByTicket, Remove}
+use Rattle.pq_types.specs.Operation.{Asked, ByTicket, Remove, Move}
 use Rattle.pq_types.specs.Item.{IsItemOf}
 use Rattle.queue_texts.specs.ItemText.{item_text}
 use Rattle.pq_types.specs.Queue.{IsProperRequestOf, IsProperReplyOf}
@@ -47,9 +47,14 @@ request wide Least rest p = refl
 operation : (wide : Bool) (o : Operation) (rest : List ℕ) → IsOperationInRange wide o → SaysFirst (operation_text o ++ 32 ∷ rest) o rest
 operation wide (Asked q) rest p = request wide q rest p
 operation wide (ByTicket (Remove ticket)) rest p = (decimal ticket ++ 32 ∷ rest, simp append_assoc, leads ticket rest p)
+operation wide (ByTicket (Move ticket priority)) rest p = (
+  decimal ticket ++ 32 ∷ (decimal priority ++ 32 ∷ rest),
+  simp append_assoc,
+  (decimal priority ++ 32 ∷ rest, leads ticket (decimal priority ++ 32 ∷ rest) p.0, leads priority rest (below_bound wide priority p.1)),
+)
 
 -- the parts of a line's text, each behind the one before
-regroup : (number : ℕ) (l : Line)
+pub regroup : (number : ℕ) (l : Line)
     → line_text number l ≡ decimal number
     ++ 32 ∷ (decimal l.place ++ 32 ∷ (decimal l.serial ++ 32 ∷ (operation_text l.operation ++ 32 ∷ reply_text l.reply)))
 regroup number l = simp append_assoc

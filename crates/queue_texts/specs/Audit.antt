@@ -5,26 +5,26 @@ use Rattle.pq_types.specs.Asked.{Line}
 use Rattle.pq_types.specs.Queue.{reply_to}
 use Rattle.pq_types.specs.Entry.{reply_by}
 use Rattle.pq_types.specs.History.{left, entries_of, IsLegal, SerialsRise, last_serial}
-use Rattle.pq_types.specs.Operation.{Asked, ByTicket, Remove}
+use Rattle.pq_types.specs.Operation.{Asked, ByTicket, Remove, Move}
 use Rattle.pq_types.specs.Asked.{Request, Reply, Operation}
 use Rattle.queue_texts.specs.LineText.{IsLineText, IsNoLineFor}
-use Rattle.line_script.specs.declared.lines.TheConstants.{LONGEST_LINE}
+use Rattle.queue_texts.specs.declared.line_text.TheConstants.{LONGEST_ENTRY}
 use Rattle.line_script.specs.declared.error.RunError.{RunError}
 use Rattle.line_script.specs.declared.error.RunError.TheVariants.{Refused, TooLong, NoMemory, Input, Output}
 use Rattle.line_script.specs.Lines.{lines_of, without_return, count_of}
 use Rattle.queue_texts.specs.declared.refusal.Breach.{Breach}
-use Rattle.queue_texts.specs.declared.refusal.Breach.TheVariants.{WrongNumber, SerialFalls, WrongReply, WrongRemoval}
+use Rattle.queue_texts.specs.declared.refusal.Breach.TheVariants.{WrongNumber, SerialFalls, WrongReply, WrongRemoval, WrongMove}
 use Rattle.queue_texts.specs.declared.refusal.Unlawful.{Unlawful}
 use Rattle.queue_texts.specs.declared.refusal.Unlawful.TheVariants.{NoLine, Broken}
 use Rattle.queue_texts.specs.declared.refusal.AuditRefusal.{AuditRefusal}
 use Rattle.queue_texts.specs.declared.report.AuditReport.{AuditReport}
 use Rattle.queue_texts.specs.Report.{IsReportOf}
 
--- The texts are those of the journal's lines, which are numbered from n on. Each has at most 80
+-- The texts are those of the journal's lines, which are numbered from n on. Each has at most 160
 -- bytes; a carriage return at its end is dropped, and an empty one skipped.
 abbrev pub SpellsFrom : Bool → ℕ → List (List ℕ) → List Line → Type 0
 SpellsFrom wide n [] journal = journal ≡ []
-SpellsFrom wide n (text ∷ texts) journal = (length text ≤ LONGEST_LINE)
+SpellsFrom wide n (text ∷ texts) journal = (length text ≤ LONGEST_ENTRY)
     × (((without_return text ≡ []) × SpellsFrom wide n texts journal)
     ⊎ ((l : Line) × (rest : List Line) × (0 < length (without_return text)) × (journal ≡ l ∷ rest)
     × IsLineText wide (without_return text) n l × SpellsFrom wide (n + 1) texts rest))
@@ -35,8 +35,8 @@ pub record IsLawful (journal : List Line) : Type 0 where
   pub rise : SerialsRise journal
 
 -- How the line with this number breaks the law behind this journal: its number isn't due; or its
--- serial isn't above the last of its place; or its reply, to a request or to a removal, isn't the
--- one-thread queue's.
+-- serial isn't above the last of its place; or its reply, to a request, a removal or a move, isn't
+-- the one-thread queue's.
 abbrev pub Breaks : List Line → ℕ → Line → Breach → Type 0
 Breaks journal number l (WrongNumber told due) = (told ≡ number) × (due ≡ length journal + 1) × (told ≢ due)
 Breaks journal number l (SerialFalls place serial last) =
@@ -48,11 +48,15 @@ Breaks journal number l (WrongReply told due) =
 Breaks journal number l (WrongRemoval ticket told due) =
     (number ≡ length journal + 1) × (last_serial l.place journal < l.serial) × (l.operation ≡ ByTicket (Remove ticket))
     × (told ≡ l.reply) × (due ≡ reply_by (entries_of journal) l.operation) × (told ≢ due)
+Breaks journal number l (WrongMove ticket priority told due) =
+    (number ≡ length journal + 1) × (last_serial l.place journal < l.serial) × (l.operation ≡ ByTicket (Move ticket priority))
+    × (told ≡ l.reply) × (due ≡ reply_by (entries_of journal) l.operation) × (told ≢ due)
 
 -- how a line with this operation and this reply breaks the law, where another reply is due
 abbrev pub breach_by : Operation → Reply → Reply → Breach
 breach_by (Asked q) told due = WrongReply told due
 breach_by (ByTicket (Remove ticket)) told due = WrongRemoval ticket told due
+breach_by (ByTicket (Move ticket priority)) told due = WrongMove ticket priority told due
 
 -- why this text is no lawful line behind this journal
 abbrev pub IsUnlawful : Bool → List Line → List ℕ → Unlawful → Type 0
@@ -63,9 +67,9 @@ IsUnlawful wide journal text (Broken breach) =
 -- why this line of the input is no lawful one behind this journal: it is too long, or unlawful
 abbrev pub IsRefused : Bool → List Line → ℕ → List ℕ → RunError AuditRefusal → Type 0
 IsRefused wide journal n text (Refused refusal) =
-    (length text ≤ LONGEST_LINE) × (0 < length (without_return text))
+    (length text ≤ LONGEST_ENTRY) × (0 < length (without_return text))
     × (refusal.line ≡ n) × IsUnlawful wide journal (without_return text) refusal.reason
-IsRefused wide journal n text (TooLong line) = (LONGEST_LINE < length text) × (line ≡ n)
+IsRefused wide journal n text (TooLong line) = (LONGEST_ENTRY < length text) × (line ≡ n)
 IsRefused wide journal n text NoMemory = ⊥
 IsRefused wide journal n text Input = ⊥
 IsRefused wide journal n text Output = ⊥

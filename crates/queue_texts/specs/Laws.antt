@@ -1,5 +1,5 @@
 -- What the laws about texts say, for whoever builds on them (src/laws.rt proves them).
-use Rattle.std.specs.Prelude.{◌≡◌, ℕ, Bool, List, ◌++◌, codes, Option, Result, Ok, Err}
+use Rattle.std.specs.Prelude.{◌≡◌, ℕ, ◌+◌, Bool, List, [], ◌∷◌, ◌++◌, codes, Option, Result, Ok, Err}
 use Rattle.line_script.specs.declared.error.RunError.{RunError}
 use Rattle.line_script.specs.declared.error.RunError.TheVariants.{Refused, TooLong, NoMemory, Input, Output}
 use Rattle.queue_texts.specs.declared.faults.Refusal.{Refusal}
@@ -11,8 +11,9 @@ use Rattle.pq_types.specs.declared.request.Request.TheVariants.{Push}
 use Rattle.queue_texts.specs.declared.line_reading.LineError.{LineError}
 use Rattle.queue_texts.specs.ItemText.{item_text}
 use Rattle.queue_texts.specs.Command.{Spells}
-use Rattle.queue_texts.specs.LineText.{line_text, IsInRange, HasReplyOfItsKind, IsLineText, IsNoLineFor}
-use Rattle.queue_texts.specs.Audit.{IsLawful}
+use Rattle.line_script.specs.Lines.{lines_of}
+use Rattle.queue_texts.specs.LineText.{line_text, journal_text, IsInRange, HasReplyOfItsKind, IsLineText, IsNoLineFor}
+use Rattle.queue_texts.specs.Audit.{SpellsFrom, IsLawful}
 
 -- the run ended as its script says: no fault came, and memory was not refused
 abbrev pub IsPlayedOrRefused : {R : Type 0} → Result (Unit {0}) (RunError R) → Type 0
@@ -44,6 +45,16 @@ LinesAreReadBack = (wide : Bool) (number : ℕ) (l : Line) → IsInRange wide nu
 abbrev pub LinesAreReadOnce : Type 0
 LinesAreReadOnce = (wide : Bool) (text : List ℕ) (m : ℕ) (l : Line) → IsLineText wide text m l
     → ((n : ℕ) (k : Line) → IsLineText wide text n k → (m ≡ n) × (l ≡ k)) × ((e : LineError) → ¬ (IsNoLineFor wide text e))
+
+-- each line is in range, of which the first has this number, and has a reply that its operation may have
+abbrev pub AreWritable : Bool → ℕ → List Line → Type 0
+AreWritable wide n [] = Unit {0}
+AreWritable wide n (l ∷ ls) = IsInRange wide n l × HasReplyOfItsKind l × AreWritable wide (n + 1) ls
+
+-- what is written of a journal spells it: no line is too long for it, either
+abbrev pub WrittenIsSpelled : Type 0
+WrittenIsSpelled = (wide : Bool) (n : ℕ) (journal : List Line) → AreWritable wide n journal
+    → SpellsFrom wide n (lines_of (journal_text n journal)) journal
 
 -- the first lines of a lawful journal, however many, are a lawful one
 abbrev pub PrefixIsLawful : Type 0

@@ -7,7 +7,7 @@ use Rattle.pq_types.specs.Asked.{Reply}
 use Rattle.pq_types.specs.declared.answer.Reply.TheVariants as reply
 use Rattle.pq_types.specs.Asked.{Line}
 use Rattle.pq_types.specs.Asked.{Operation}
-use Rattle.pq_types.specs.Operation.{Asked, ByTicket, Remove}
+use Rattle.pq_types.specs.Operation.{Asked, ByTicket, Remove, Move}
 use Rattle.pq_types.specs.declared.control.Kind.{Kind}
 use Rattle.pq_types.specs.declared.control.Kind.TheVariants as kind
 use Rattle.pq_types.specs.declared.control.Outcome.{Outcome}
@@ -62,12 +62,17 @@ HasRequest k parts (request.Push x) = (k ≡ kind.Push) × AreParts parts x
 HasRequest k parts request.Pop = (k ≡ kind.Pop) × AreNone parts
 HasRequest k parts request.Least = (k ≡ kind.Least) × AreNone parts
 
--- the same of operations: of a removal there is the ticket, of which those with more than 64 bits are not told apart
+-- the same of operations: of a removal there is the ticket, and of a move the ticket and the new priority, of which those with
+-- more than 64 bits are not told apart
 abbrev pub HasOperation : Named → Operation → Type 0
 HasOperation (named.Asked k parts) (Asked q) = HasRequest k parts q
 HasOperation (named.Asked k parts) (ByTicket t) = ⊥
 HasOperation (named.Remove number) (Asked q) = ⊥
 HasOperation (named.Remove number) (ByTicket (Remove ticket)) = number ≡ capped ticket
+HasOperation (named.Remove number) (ByTicket (Move ticket priority)) = ⊥
+HasOperation (named.Move number to) (Asked q) = ⊥
+HasOperation (named.Move number to) (ByTicket (Remove ticket)) = ⊥
+HasOperation (named.Move number to) (ByTicket (Move ticket priority)) = (number ≡ capped ticket) × (to ≡ capped priority)
 
 -- what is found of this line under this number
 pub record HasShape (s : Shape) (number : ℕ) (l : Line) : Type 0 where

@@ -7,12 +7,12 @@ use Rattle.pq_types.specs.Asked.{Reply}
 use Rattle.pq_types.specs.declared.answer.Reply.TheVariants.{Pushed, Got, Empty, Least as LeastIs}
 use Rattle.pq_types.specs.Asked.{Line}
 use Rattle.pq_types.specs.Asked.{Operation}
-use Rattle.pq_types.specs.Operation.{Asked, ByTicket, Remove, request_of}
+use Rattle.pq_types.specs.Operation.{Asked, ByTicket, Remove, Move, request_of}
 use Rattle.queue_texts.specs.declared.line_reading.LineError.{LineError}
 use Rattle.queue_texts.specs.declared.line_reading.LineError.TheVariants.{UnknownWord, OutOfRange, NoSuchReply}
-use Rattle.queue_texts.specs.declared.line_reading.NumberedLine.{NumberedLine as NumberedLineOf}
+use Rattle.queue_texts.specs.declared.line_reading.NumberedLine.{NumberedLine}
 use Rattle.queue_texts.specs.ItemText.{space, item_text, SpellsNumber}
-use Rattle.pq_types.specs.Item.{Item}
+use Rattle.pq_types.specs.Item.{bound_of}
 use Rattle.pq_types.specs.Queue.{IsProperRequestOf, IsProperReplyOf}
 use Rattle.pq_types.specs.Mail.{IsLineNumber, IsSerial}
 use Rattle.queue_texts.specs.Text.{reply_text}
@@ -23,10 +23,11 @@ request_text (Push item) = codes "push " ++ item_text item
 request_text Pop = codes "pop"
 request_text Least = codes "least"
 
--- what an operation says: its request, or which ticket's item it removes
+-- what an operation says: its request, or which ticket's item it removes, or moves and to which priority
 abbrev pub operation_text : Operation → List ℕ
 operation_text (Asked request) = request_text request
 operation_text (ByTicket (Remove ticket)) = codes "remove " ++ decimal ticket
+operation_text (ByTicket (Move ticket priority)) = codes "move " ++ decimal ticket ++ codes " " ++ decimal priority
 
 -- the text of a journal line, without a line feed: its number, place, serial, operation and reply,
 -- with one space between
@@ -69,10 +70,16 @@ AsksFirst text Least rest = text ≡ codes "least " ++ rest
 abbrev pub RemovesFirst : List ℕ → ℕ → List ℕ → Type 0
 RemovesFirst text ticket rest = (number : List ℕ) × (text ≡ codes "remove " ++ number) × Leads number ticket rest
 
+-- the text says that the item of this ticket is moved to this priority, and these bytes follow a space
+abbrev pub MovesFirst : List ℕ → ℕ → ℕ → List ℕ → Type 0
+MovesFirst text ticket priority rest =
+    (numbers : List ℕ) × (text ≡ codes "move " ++ numbers) × LeadsBoth numbers ticket priority rest
+
 -- the text says this operation, and these bytes follow a space
 abbrev pub SaysFirst : List ℕ → Operation → List ℕ → Type 0
 SaysFirst text (Asked request) rest = AsksFirst text request rest
 SaysFirst text (ByTicket (Remove ticket)) rest = RemovesFirst text ticket rest
+SaysFirst text (ByTicket (Move ticket priority)) rest = MovesFirst text ticket priority rest
 
 -- the text begins with a number, a place and a serial, a space behind each
 pub record LeadsAll (text : List ℕ) (number place serial : ℕ) (rest : List ℕ) : Type 0 where
@@ -91,10 +98,11 @@ pub record SpellsLine (text : List ℕ) (number : ℕ) (l : Line) : Type 0 where
   pub operation_is : SaysFirst from_operation l.operation from_reply
   pub reply_is : SpellsReply from_reply l.reply
 
--- an operation whose item is in its range, or whose ticket has 64 bits
+-- an operation whose item, or whose new priority, is in its range, and whose ticket has 64 bits
 abbrev pub IsOperationInRange : Bool → Operation → Type 0
 IsOperationInRange wide (Asked request) = IsProperRequestOf wide request
 IsOperationInRange wide (ByTicket (Remove ticket)) = ticket < 2 ^ 64
+IsOperationInRange wide (ByTicket (Move ticket priority)) = (ticket < 2 ^ 64) × (priority < bound_of wide)
 
 -- a line number and a line whose place, serial, ticket and items, wide or narrow, are in their ranges
 pub record IsInRange (wide : Bool) (number : ℕ) (l : Line) : Type 0 where
@@ -119,15 +127,11 @@ MayReply Least (Got y) = ⊥
 MayReply Least (LeastIs y) = Unit {0}
 MayReply Least Empty = Unit {0}
 
--- a line and its number, whatever the width of its items
-abbrev pub NumberedLine : Type 0
-NumberedLine = NumberedLineOf Item
-
 -- the line with its number
-abbrev pub numbered : ℕ → Line → NumberedLine
+abbrev pub numbered : {P : Type 0} → ℕ → Line → NumberedLine P
 numbered number l = record { number = number; line = l }
 
--- The line's operation may have its reply: a removal is replied to as a pop is.
+-- The line's operation may have its reply: a removal and a move are replied to as a pop is.
 abbrev pub HasReplyOfItsKind : Line → Type 0
 HasReplyOfItsKind l = MayReply (request_of l.operation) l.reply
 

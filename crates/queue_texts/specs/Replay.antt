@@ -3,10 +3,8 @@ use Rattle.std.specs.Prelude.{◌≡◌, ℕ, ◌+◌, ◌-◌, ◌<◌, Bool, L
 use Rattle.pq_types.specs.Asked.{Line, Answer}
 use Rattle.pq_types.specs.declared.answer.Answer.TheVariants as answer
 use Rattle.pq_types.specs.declared.journal.TheConstants.{GREATEST_NUMBER}
-use Rattle.pq_types.specs.Queue.{IsPush}
 use Rattle.pq_types.specs.Entry.{Entry, item_of, reply_by}
-use Rattle.pq_types.specs.History.{left, line_of, entries_of, last_serial}
-use Rattle.pq_types.specs.Operation.{request_of}
+use Rattle.pq_types.specs.History.{left, line_of, entries_of, last_serial, PutsIn}
 use Rattle.pq_book.specs.declared.limit.TheConstants.{LONG_PAGE}
 use Rattle.queue_texts.specs.declared.replay.TheConstants.{PLACES}
 use Rattle.queue_texts.specs.declared.replay.ReplayError.{ReplayError}
@@ -33,9 +31,9 @@ MayFollow wide journal text l = IsLineText wide text (length journal + 1) l × F
 abbrev pub TakesText : Bool → List Line → List ℕ → List Line → Type 0
 TakesText wide journal text after = (l : Line) × MayFollow wide journal text l × (after ≡ journal ++ l ∷ [])
 
--- the line of this text may stand behind this journal, a push, for whose item memory is refused
+-- the line of this text may stand behind this journal, a push or a move, for whose item memory is refused
 abbrev pub LacksMemory : Bool → List Line → List ℕ → Type 0
-LacksMemory wide journal text = (l : Line) × MayFollow wide journal text l × IsPush (request_of l.operation)
+LacksMemory wide journal text = (l : Line) × MayFollow wide journal text l × PutsIn l.operation
 
 -- Why this text is not replayed behind this journal: it is no line that may stand there; or it is one, and memory is refused.
 abbrev pub RefusesText : Bool → List Line → List ℕ → ReplayError → Type 0
@@ -43,12 +41,12 @@ RefusesText wide journal text (Unlawful why) = IsUnlawful wide journal text why
 RefusesText wide journal text NoMemory = LacksMemory wide journal text
 
 -- What a Book with this room and journal answers where it carries out what this line did, and its journal then: the line is
--- entered with the due reply; or the journal is full; or memory for the item of a push is refused.
+-- entered with the due reply; or the journal is full; or memory for the item of a push or a move is refused.
 abbrev pub IsCarriedOut : ℕ → List Line → Line → Answer → List Line → Type 0
 IsCarriedOut room journal l (answer.Entered number reply) after =
     (reply ≡ reply_by (entries_of journal) l.operation) × (after ≡ journal ++ line_of l.place l.serial l.operation reply ∷ [])
 IsCarriedOut room journal l answer.BookFull after = (length journal ≡ room) × (after ≡ journal)
-IsCarriedOut room journal l answer.NoMemory after = IsPush (request_of l.operation) × (after ≡ journal)
+IsCarriedOut room journal l answer.NoMemory after = PutsIn l.operation × (after ≡ journal)
 
 -- What a lawful journal is read back as: the items that it leaves in the queue, how many lines came before those that are
 -- kept, and these, its last 65,536.

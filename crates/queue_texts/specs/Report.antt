@@ -3,7 +3,6 @@ use Rattle.std.specs.Prelude.{◌≡◌, ℕ, ◌+◌, List, ◌++◌, length, c
 use Rattle.byte_writer.specs.Rows.{row}
 use Rattle.pq_types.specs.Asked.{Line}
 use Rattle.pq_types.specs.History.{left}
-use Rattle.pq_types.specs.Operation.{request_of}
 use Rattle.queue_texts.specs.declared.report.AuditReport.{AuditReport}
 use Rattle.queue_texts.specs.Sums.{sum_over, places_of, pushes, gots, empties, priority_in, priority_out, sum_priorities}
 
@@ -11,13 +10,13 @@ use Rattle.queue_texts.specs.Sums.{sum_over, places_of, pushes, gots, empties, p
 pub record IsReportOf (journal : List Line) (r : AuditReport) : Type 0 where
   pub lines : r.lines ≡ length journal
   pub places : r.places ≡ places_of journal
-  pub pushed : r.pushed ≡ sum_over (λ l. pushes (request_of l.operation)) journal
-  pub got : r.got ≡ sum_over (λ l. gots (request_of l.operation) l.reply) journal
-  pub empty : r.empty ≡ sum_over (λ l. empties (request_of l.operation) l.reply) journal
+  pub pushed : r.pushed ≡ sum_over (λ l. pushes l.operation) journal
+  pub got : r.got ≡ sum_over (λ l. gots l.operation l.reply) journal
+  pub empty : r.empty ≡ sum_over (λ l. empties l.operation l.reply) journal
   pub left_is : r.left ≡ length (left journal)
-  pub sum_in : r.sum_in ≡ sum_over (λ l. priority_in (request_of l.operation)) journal
+  pub sum_in : r.sum_in ≡ sum_over (λ l. priority_in l.operation l.reply) journal
   pub sum_out_and_left : r.sum_out_and_left
-      ≡ sum_over (λ l. priority_out (request_of l.operation) l.reply) journal + sum_priorities (left journal)
+      ≡ sum_over (λ l. priority_out l.operation l.reply) journal + sum_priorities (left journal)
 
 -- the nine lines of a report
 unfoldable pub audit_text : AuditReport → List ℕ

@@ -9,6 +9,7 @@ use Rattle.queue_texts.specs.Command.{Spells, IsRefusedFor}
 use Rattle.pq_types.specs.History.{journal_after, MayAnswer}
 use Rattle.queue_texts.specs.Text.{answer_text}
 use Rattle.pq_book.specs.Book.{Volume}
+use Rattle.line_script.specs.declared.lines.TheConstants.{LONGEST_LINE}
 use Rattle.line_script.specs.declared.error.RunError.{RunError}
 use Rattle.line_script.specs.Script.{Kind, FinishesAs, Writes}
 use Rattle.queue_texts.specs.declared.faults.Refusal.{Refusal}
@@ -28,7 +29,12 @@ RefusesCommand wide n line refusal = (reason : ScriptError) × IsRefusedFor wide
 -- commands over a journal with room for so many lines; the end of input is always met
 abbrev pub commands : Bool → ℕ → Kind (List Line) Refusal
 commands wide room =
-    record { plays = PlaysCommand wide room; refuses = λ journal. RefusesCommand wide; ends = λ journal r. r ≡ Ok tt }
+    record {
+      longest = LONGEST_LINE;
+      plays = PlaysCommand wide room;
+      refuses = λ journal. RefusesCommand wide;
+      ends = λ journal r. r ≡ Ok tt;
+    }
 
 -- What `seq` with a journal of so many lines writes over this input: where the whole script is played, the Book that it leaves
 -- has the journal of all its commands, and nothing is unread.

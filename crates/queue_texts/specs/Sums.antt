@@ -2,14 +2,14 @@
 use Rattle.std.specs.Prelude.{◌≡◌, ℕ, ◌+◌, ◌*◌, ◌<◌, ◌≤◌, ◌^◌, Bool, ◌==◌, if◌then◌else◌, List, [], ◌∷◌, length}
 use Rattle.std.specs.List.{AllByRecursion}
 use Rattle.pq_types.specs.Item.{Item}
-use Rattle.pq_types.specs.Asked.{Request}
+use Rattle.pq_types.specs.Asked.{Operation}
 use Rattle.pq_types.specs.declared.request.Request.TheVariants.{Push, Pop, Least}
 use Rattle.pq_types.specs.Asked.{Reply}
 use Rattle.pq_types.specs.declared.answer.Reply.TheVariants.{Pushed, Got, Empty, Least as LeastIs}
 use Rattle.pq_types.specs.Asked.{Line}
 use Rattle.pq_types.specs.declared.journal.TheConstants.{GREATEST_NUMBER}
 use Rattle.pq_types.specs.History.{last_serial}
-use Rattle.pq_types.specs.Operation.{request_of}
+use Rattle.pq_types.specs.Operation.{Asked, ByTicket, Remove, Move}
 use Rattle.queue_texts.specs.declared.sums.JournalSums.{JournalSums}
 
 -- what a line counts, added up over lines
@@ -18,43 +18,68 @@ sum_over f [] = 0
 sum_over f (l ∷ ls) = f l + sum_over f ls
 
 -- 1 for a push
-abbrev pub pushes : Request → ℕ
-pushes (Push x) = 1
-pushes Pop = 0
-pushes Least = 0
+abbrev pub pushes : Operation → ℕ
+pushes (Asked (Push x)) = 1
+pushes (Asked Pop) = 0
+pushes (Asked Least) = 0
+pushes (ByTicket t) = 0
 
--- the priority that is pushed
-abbrev pub priority_in : Request → ℕ
-priority_in (Push x) = x.priority
-priority_in Pop = 0
-priority_in Least = 0
+-- 1 where an item was found, and its priority
+abbrev pub found : Reply → ℕ
+found Pushed = 0
+found (Got x) = 1
+found (LeastIs x) = 0
+found Empty = 0
 
--- 1 for a pop that took an item out; a removal is counted as a pop
-abbrev pub gots : Request → Reply → ℕ
-gots (Push x) r = 0
-gots Pop Pushed = 0
-gots Pop (Got x) = 1
-gots Pop (LeastIs x) = 0
-gots Pop Empty = 0
-gots Least r = 0
+abbrev pub priority_found : Reply → ℕ
+priority_found Pushed = 0
+priority_found (Got x) = x.priority
+priority_found (LeastIs x) = 0
+priority_found Empty = 0
 
--- the priority that a pop took out
-abbrev pub priority_out : Request → Reply → ℕ
-priority_out (Push x) r = 0
-priority_out Pop Pushed = 0
-priority_out Pop (Got x) = x.priority
-priority_out Pop (LeastIs x) = 0
-priority_out Pop Empty = 0
-priority_out Least r = 0
+-- 1 where none was
+abbrev pub none_found : Reply → ℕ
+none_found Pushed = 0
+none_found (Got x) = 0
+none_found (LeastIs x) = 0
+none_found Empty = 1
 
--- 1 for a pop that found no item
-abbrev pub empties : Request → Reply → ℕ
-empties (Push x) r = 0
-empties Pop Pushed = 0
-empties Pop (Got x) = 0
-empties Pop (LeastIs x) = 0
-empties Pop Empty = 1
-empties Least r = 0
+-- the priority to which an item is moved, where it was found
+abbrev pub priority_moved : ℕ → Reply → ℕ
+priority_moved priority Pushed = 0
+priority_moved priority (Got x) = priority
+priority_moved priority (LeastIs x) = 0
+priority_moved priority Empty = 0
+
+-- 1 for a pop or a removal that took an item out
+abbrev pub gots : Operation → Reply → ℕ
+gots (Asked (Push x)) r = 0
+gots (Asked Pop) r = found r
+gots (Asked Least) r = 0
+gots (ByTicket (Remove i)) r = found r
+gots (ByTicket (Move i priority)) r = 0
+
+-- 1 for a pop, a removal or a move that found no item
+abbrev pub empties : Operation → Reply → ℕ
+empties (Asked (Push x)) r = 0
+empties (Asked Pop) r = none_found r
+empties (Asked Least) r = 0
+empties (ByTicket t) r = none_found r
+
+-- the priority that is put in: of a push, or the new one of a move that found its item
+abbrev pub priority_in : Operation → Reply → ℕ
+priority_in (Asked (Push x)) r = x.priority
+priority_in (Asked Pop) r = 0
+priority_in (Asked Least) r = 0
+priority_in (ByTicket (Remove i)) r = 0
+priority_in (ByTicket (Move i priority)) r = priority_moved priority r
+
+-- the priority that is taken out: of a pop or a removal, or the old one of a move that found its item
+abbrev pub priority_out : Operation → Reply → ℕ
+priority_out (Asked (Push x)) r = 0
+priority_out (Asked Pop) r = priority_found r
+priority_out (Asked Least) r = 0
+priority_out (ByTicket t) r = priority_found r
 
 -- how many places have a line: each is counted at its last one
 abbrev pub places_of : List Line → ℕ
@@ -66,16 +91,16 @@ abbrev pub sum_priorities : List Item → ℕ
 sum_priorities [] = 0
 sum_priorities (x ∷ xs) = x.priority + sum_priorities xs
 
--- the sums with one more request and its reply, of a new place or not
-abbrev pub counted : JournalSums → Bool → Request → Reply → JournalSums
-counted t new_place q r =
+-- the sums with one more operation and its reply, of a new place or not
+abbrev pub counted : JournalSums → Bool → Operation → Reply → JournalSums
+counted t new_place o r =
     record {
       places = t.places + (if new_place then 1 else 0);
-      pushed = t.pushed + pushes q;
-      got = t.got + gots q r;
-      empty = t.empty + empties q r;
-      sum_in = t.sum_in + priority_in q;
-      sum_out = t.sum_out + priority_out q r;
+      pushed = t.pushed + pushes o;
+      got = t.got + gots o r;
+      empty = t.empty + empties o r;
+      sum_in = t.sum_in + priority_in o r;
+      sum_out = t.sum_out + priority_out o r;
     }
 
 -- far less than the sums have room for
@@ -87,14 +112,14 @@ pub record HasRoom (t : JournalSums) : Type 0 where
   pub sum_in : t.sum_in < 2 ^ 125
   pub sum_out : t.sum_out < 2 ^ 125
 
--- the sums of these lines, removals among them as pops, whose sums are no more than so many wide priorities
+-- the sums of these lines, whose sums are no more than so many wide priorities
 pub record AreSumsOf (journal : List Line) (t : JournalSums) : Type 0 where
   pub places : t.places ≡ places_of journal
-  pub pushed : t.pushed ≡ sum_over (λ l. pushes (request_of l.operation)) journal
-  pub got : t.got ≡ sum_over (λ l. gots (request_of l.operation) l.reply) journal
-  pub empty : t.empty ≡ sum_over (λ l. empties (request_of l.operation) l.reply) journal
-  pub sum_in : t.sum_in ≡ sum_over (λ l. priority_in (request_of l.operation)) journal
-  pub sum_out : t.sum_out ≡ sum_over (λ l. priority_out (request_of l.operation) l.reply) journal
+  pub pushed : t.pushed ≡ sum_over (λ l. pushes l.operation) journal
+  pub got : t.got ≡ sum_over (λ l. gots l.operation l.reply) journal
+  pub empty : t.empty ≡ sum_over (λ l. empties l.operation l.reply) journal
+  pub sum_in : t.sum_in ≡ sum_over (λ l. priority_in l.operation l.reply) journal
+  pub sum_out : t.sum_out ≡ sum_over (λ l. priority_out l.operation l.reply) journal
   pub few_places : t.places ≤ length journal
   pub few_pushed : t.pushed ≤ length journal
   pub few_got : t.got ≤ length journal

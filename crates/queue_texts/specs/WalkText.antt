@@ -9,6 +9,7 @@ use Rattle.split_core.specs.declared.ids.IdError.{IdError}
 use Rattle.split_core.specs.declared.ids.IdError.TheVariants.{TooManyComers}
 use Rattle.split_core.specs.declared.seen.Seen.{Seen}
 use Rattle.split_core.specs.declared.seen.StepError.{StepError}
+use Rattle.line_script.specs.declared.lines.TheConstants.{LONGEST_LINE}
 use Rattle.line_script.specs.declared.error.RunError.{RunError}
 use Rattle.line_script.specs.Script.{Kind, Writes}
 use Rattle.queue_texts.specs.declared.faults.Refusal.{Refusal}
@@ -90,7 +91,7 @@ EndsWalk p (Err refusal) = NoGrid p.ids refusal
 
 -- the lines of a walk with scans of this kind
 abbrev pub orders : ScanKind → Kind Schedule Refusal
-orders kind = record { plays = PlaysWalk kind; refuses = RefusesWalk kind; ends = EndsWalk }
+orders kind = record { longest = LONGEST_LINE; plays = PlaysWalk kind; refuses = RefusesWalk kind; ends = EndsWalk }
 
 -- what `walk` with scans of this kind writes over this input
 abbrev pub WalkWrites : ScanKind → List ℕ → Option (List ℕ) → Result (Unit {0}) (RunError Refusal) → List ℕ → Type 0

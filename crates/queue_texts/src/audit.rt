@@ -6,6 +6,7 @@ ghost use Rattle.queue_texts.specs.Report.{IsReportOf};
 ghost use Rattle.queue_texts.specs.Sums.{CountUpTo};
 
 use crate::content::sum_of;
+use crate::line_text::LONGEST_ENTRY;
 use crate::owned::Owned;
 use crate::refusal::{AuditRefusal, Unlawful};
 use crate::replay::{Replay, ReplayError};
@@ -22,7 +23,7 @@ use std::alloc::{AllocError, Allocator};
 use std::io::Read;
 
 /// How many tickets have a place in the table: those of the longest short journal, from 0 on. In a longer one a removal
-/// looks at every item.
+/// or a move looks at every item.
 const TICKETS: usize = MOST_LINES as usize + 1;
 
 /// What keeps the items.
@@ -39,13 +40,19 @@ struct Audit<S: TicketStore<Entry<P>>, A: Allocator, P: Part = u32> {
 impl<S: TicketStore<Entry<P>>, A: Allocator, P: Part> Player for Audit<S, A, P> {
     type Refusal = AuditRefusal;
 
+    ghost use Rattle.queue_texts.specs.declared.line_text.TheConstants.{LONGEST_ENTRY};
     ghost use Rattle.queue_texts.specs.Audit.{PlaysEntry, RefusesEntry};
 
     ghost kind = { record {
+      longest = LONGEST_ENTRY;
       plays = λ s line text t. PlaysEntry P.wide s.replay.value.journal line text t.replay.value.journal;
       refuses = λ s n line refusal. RefusesEntry P.wide s.replay.value.journal n line refusal;
       ends = λ s r. r ≡ Ok tt;
     } };
+
+    fn longest() -> usize {
+        LONGEST_ENTRY
+    }
 
     fn play<B: Allocator>(
         &mut self,
@@ -57,8 +64,8 @@ impl<S: TicketStore<Entry<P>>, A: Allocator, P: Part> Player for Audit<S, A, P> 
         let Audit { replay, sums } = self;
         match replay.value.play(line) {
             Ok(played) => {
-                let line = played.line;
-                sums.count(played.is_new_place, line.operation, line.reply);
+                let line = &played.line;
+                sums.count(played.is_new_place, &line.operation, &line.reply);
                 Ok(())
             }
             Err(ReplayError::Unlawful(reason)) => Err(refused(number, reason)),
@@ -132,7 +139,7 @@ fn report_of<S: TicketStore<Entry<P>>, A: Allocator, P: Part>(
 ///
 /// It keeps the items that are in the queue, one serial for each of 65,536 places, the last 65,536 lines, and 4 bytes for each
 /// of the first 1,048,577 tickets; how many lines there are makes no difference to that. Behind line 1,048,576 each removal
-/// looks at every item.
+/// and each move looks at every item.
 pub fn run_audit<P: Part, A: Allocator + Clone, R: Read>(
     alloc: A,
     reader: &mut R,

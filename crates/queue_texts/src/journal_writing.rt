@@ -8,7 +8,7 @@ use crate::answer_text::LONGEST;
 use crate::line_text::text_of;
 use arrayvec::ArrayVec;
 use byte_writer::write_bytes;
-use pq_types::{Item, Line, Part};
+use pq_types::{Line, Part};
 use std::io;
 use std::io::Write;
 
@@ -19,7 +19,7 @@ const PAGE: usize = 4096;
 fn put_line<P: Part, W: Write>(
     page: &mut ArrayVec<u8, PAGE>,
     number: u64,
-    line: &Line<Item<P>>,
+    line: &Line<P>,
     writer: &mut W,
 ) -> io::Result<()>
     ensures ok { OnOk result (IsWritten (W.contents writer.old) page.old.items (line_text number line.now ++ codes "\n")
@@ -37,7 +37,7 @@ fn put_line<P: Part, W: Write>(
 
 /// Writes the lines of a journal, numbered from 1, each ended by a line feed, as `append_line`
 /// spells them. After a fault the writer holds a beginning of them. Takes no memory.
-pub fn write_journal<P: Part, W: Write>(lines: &[Line<Item<P>>], writer: &mut W) -> io::Result<()>
+pub fn write_journal<P: Part, W: Write>(lines: &[Line<P>], writer: &mut W) -> io::Result<()>
     ensures ok { OnOk result (Appends (W.contents writer.old) (W.contents writer.new) (journal_text 1 lines.now)) }
     ensures err { OnErr result (AppendsPart (W.contents writer.old) (W.contents writer.new) (journal_text 1 lines.now)) }
 {

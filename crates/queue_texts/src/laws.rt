@@ -1,6 +1,6 @@
 // What holds of the definitions alone, whatever code there is. A call of a law runs nothing: it
 // hands the law's facts to the proof of its caller.
-ghost use Rattle.queue_texts.specs.Laws.{ItemsAreReadBack, LinesAreReadBack, LinesAreReadOnce, OneTextOfAWalk, PrefixIsLawful};
+ghost use Rattle.queue_texts.specs.Laws.{ItemsAreReadBack, LinesAreReadBack, LinesAreReadOnce, OneTextOfAWalk, PrefixIsLawful, WrittenIsSpelled};
 ghost use Rattle.queue_texts.specs.Audit.{LawfulIsNotRefused, NarrowIsWide};
 
 /// An item that is written is read back.
@@ -12,6 +12,12 @@ pub fn law_items_are_read_back()
 /// number.
 pub fn law_lines_are_read_back()
     ensures { LinesAreReadBack }
+{}
+
+/// What is written of a journal spells it, whatever its lines do and however large their numbers are: so an audit takes what
+/// `write_journal` wrote of a lawful one.
+pub fn law_written_is_spelled()
+    ensures { WrittenIsSpelled }
 {}
 
 /// A text is read as one journal line, or as none.

@@ -37,7 +37,7 @@ pub use faults::{Refusal, code_of, status_of, write_fault};
 pub use item_text::read_item;
 pub use journal_writing::write_journal;
 pub use line_reading::{LineError, NumberedLine, read_line};
-pub use line_text::append_line;
+pub use line_text::{LONGEST_ENTRY, append_line};
 pub use number::{NumberError, read_number};
 pub use orders::{OrderError, ScanKind};
 pub use owned::Owned;

@@ -7,7 +7,7 @@ ghost use Rattle.pq_types.specs.Asked.{Request};
 ghost use Rattle.pq_types.specs.Asked.{Reply};
 ghost use Rattle.pq_types.specs.Asked.{Operation as OperationSeen};
 ghost use Rattle.pq_types.specs.Operation.{request_of};
-ghost use Rattle.pq_types.specs.Item.{IsItemOf};
+ghost use Rattle.pq_types.specs.Item.{IsItemOf, bound_of};
 ghost use Rattle.pq_types.specs.Control.{kind_of, outcome_of};
 ghost use Rattle.queue_texts.specs.LineText.{Leads, LeadsAll, LeadsBoth, SpellsBoth, SpellsReply};
 ghost use Rattle.queue_texts.specs.LineText.{AsksFirst, SaysFirst, SpellsLine, IsInRange, IsOperationInRange, MayReply};
@@ -29,7 +29,7 @@ pub enum LineError {
     UnknownWord,
     /// One of its numbers is out of its range: of the line's number and the serial 1 to
     /// 72,057,594,037,927,936, of the place 0 to 65,535, of an item's parts 0 to 4,294,967,295,
-    /// or, where items are wide, to 18,446,744,073,709,551,615, as of a ticket.
+    /// or, where items are wide, to 18,446,744,073,709,551,615, as of a ticket; the new priority of a move is as an item's.
     #[error("number out of range")]
     OutOfRange,
     /// No such operation has such a reply.
@@ -73,6 +73,8 @@ enum Named {
     Asked(Kind, Parts),
     /// The removal of the item that has this ticket.
     Remove(u128),
+    /// The move of the item that has this ticket to this priority.
+    Move(u128, u128),
 }
 
 /// What a text spells, whether or not its numbers are in their ranges. Those from 2^64 on are told as
@@ -169,13 +171,23 @@ fn plain_request(text: &[u8]) -> Option<(Kind, &[u8])>
 }
 
 // The two numbers that the text begins with, and what follows a space.
+fn lead_both(text: &[u8]) -> Option<(u128, u128, &[u8])>
+    ensures some { IfSome result (λ found. (m n : ℕ) × LeadsBoth text.now m n found.2.now
+        × (found.0 ≡ capped m) × (found.1 ≡ capped n)) }
+    ensures none { IfNone result ((m n : ℕ) (rest : List ℕ) → ¬ (LeadsBoth text.now m n rest)) }
+{
+    let (first, second_on) = lead(text)?;
+    let (second, rest) = lead(second_on)?;
+    Some((first, second, rest))
+}
+
+// The numbers of an item that the text begins with, and what follows a space.
 fn lead_parts(text: &[u8]) -> Option<(Parts, &[u8])>
     ensures some { IfSome result (λ found.
         (x : ItemSeen) × LeadsBoth text.now x.priority x.value found.1.now × AreParts found.0 x) }
     ensures none { IfNone result ((x : ItemSeen) (rest : List ℕ) → ¬ (LeadsBoth text.now x.priority x.value rest)) }
 {
-    let (priority, value_on) = lead(text)?;
-    let (value, rest) = lead(value_on)?;
+    let (priority, value, rest) = lead_both(text)?;
     Some((Parts { priority, value }, rest))
 }
 
@@ -204,6 +216,17 @@ fn removed_text(text: &[u8]) -> Option<&[u8]>
     }
 }
 
+// The text behind `move `, where the text begins so.
+fn moved_text(text: &[u8]) -> Option<&[u8]>
+    ensures some { IfSome result (λ numbers. text.now ≡ codes "move " ++ numbers.now) }
+    ensures none { IfNone result ((numbers : List ℕ) → ¬ (text.now ≡ codes "move " ++ numbers)) }
+{
+    match text {
+        [b'm', b'o', b'v', b'e', b' ', numbers @ ..] => Some(numbers),
+        _ => None,
+    }
+}
+
 // The operation that the text says first, and what follows a space.
 fn read_operation(text: &[u8]) -> Option<(Named, &[u8])>
     ensures some { IfSome result (λ found.
@@ -213,6 +236,10 @@ fn read_operation(text: &[u8]) -> Option<(Named, &[u8])>
     if let Some(number) = removed_text(text) {
         let (ticket, rest) = lead(number)?;
         return Some((Named::Remove(ticket), rest));
+    }
+    if let Some(numbers) = moved_text(text) {
+        let (ticket, priority, rest) = lead_both(numbers)?;
+        return Some((Named::Move(ticket, priority), rest));
     }
     let (kind, parts, rest) = read_request(text)?;
     Some((Named::Asked(kind, parts), rest))
@@ -296,8 +323,19 @@ fn ticket_of(number: u128) -> Option<u64>
     Some(number as u64)
 }
 
+// The priority, where it is in the range of its width.
+fn priority_of<P: Part>(number: u128) -> Option<P>
+    ensures some { IfSome result (λ part. (n : ℕ) → number ≡ capped n → (P.number part ≡ n) × (n < bound_of P.wide)) }
+    ensures none { IfNone result ((n : ℕ) → number ≡ capped n → ¬ (n < bound_of P.wide)) }
+{
+    if number > u128::from(greatest::<P>()) {
+        return None;
+    }
+    Some(P::of_u64(number as u64))
+}
+
 // The operation of these numbers, where they are in their ranges.
-fn operation_of<P: Part>(named: Named) -> Option<Operation<Item<P>>>
+fn operation_of<P: Part>(named: Named) -> Option<Operation<P>>
     ensures some { IfSome result (λ found. (o : OperationSeen) → HasOperation named o
         → (found ≡ o) × IsOperationInRange P.wide o) }
     ensures none { IfNone result ((o : OperationSeen) → HasOperation named o → ¬ (IsOperationInRange P.wide o)) }
@@ -311,21 +349,26 @@ fn operation_of<P: Part>(named: Named) -> Option<Operation<Item<P>>>
             let ticket = ticket_of(number)?;
             Some(Operation::remove(ticket))
         }
+        Named::Move(number, to) => {
+            let ticket = ticket_of(number)?;
+            let priority = priority_of(to)?;
+            Some(Operation::reschedule(ticket, priority))
+        }
     }
 }
 
-// The kind of the request to which the queue replies as to this operation: to a removal as to a pop.
+// The kind of the request to which the queue replies as to this operation: to a removal and to a move as to a pop.
 fn reply_kind(named: Named) -> Kind
     ensures { (o : OperationSeen) → HasOperation named o → kind_of (request_of o) ≡ result }
 {
     match named {
         Named::Asked(kind, _) => kind,
-        Named::Remove(_) => Kind::Pop,
+        Named::Remove(_) | Named::Move(_, _) => Kind::Pop,
     }
 }
 
 // The line of this shape, where its numbers are in their ranges.
-fn line_in_range<P: Part>(shape: &Shape) -> Option<NumberedLine<Item<P>>>
+fn line_in_range<P: Part>(shape: &Shape) -> Option<NumberedLine<P>>
     ensures some { IfSome result (λ found. (n : ℕ) (l : LineSeen) → HasShape shape.now n l
         → (found.number ≡ n) × (found.line ≡ l) × IsInRange P.wide n l) }
     ensures none { IfNone result ((n : ℕ) (l : LineSeen) → HasShape shape.now n l → ¬ (IsInRange P.wide n l)) }
@@ -348,16 +391,16 @@ fn line_in_range<P: Part>(shape: &Shape) -> Option<NumberedLine<Item<P>>>
 
 /// A journal line and its number.
 #[derive(Clone, Copy, Debug, PartialEq, Eq)]
-pub struct NumberedLine<I = Item> {
+pub struct NumberedLine<P: Part = u32> {
     pub number: u64,
-    pub line: Line<I>,
+    pub line: Line<P>,
 }
 
 /// The journal line that a text without its line feed spells, with its number: number, place,
 /// serial, operation and reply, with one space between. Numbers are one or more decimal digits;
-/// leading zeros are read, a sign, a further space or a capital letter isn't. Those of items are in the
-/// range of their width; a ticket has 64 bits.
-pub fn read_line<P: Part>(text: &[u8]) -> Result<NumberedLine<Item<P>>, LineError>
+/// leading zeros are read, a sign, a further space or a capital letter isn't. Those of items, and the new priority of a move, are
+/// in the range of their width; a ticket has 64 bits.
+pub fn read_line<P: Part>(text: &[u8]) -> Result<NumberedLine<P>, LineError>
     ensures ok { IfOk result (λ found. IsLineText P.wide text.now found.number found.line) }
     ensures err { IfErr result (λ error. IsNoLineFor P.wide text.now error) }
     // Nothing that spells a line is refused, and no text is refused for two reasons.

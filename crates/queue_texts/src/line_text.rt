@@ -5,11 +5,14 @@ ghost use Rattle.queue_texts.specs.LineText.{line_text, operation_text};
 use crate::answer_text::{LONGEST, append, append_number, append_reply};
 use crate::item_text::text_of_item;
 use arrayvec::ArrayVec;
-use pq_types::{Done, Item, Line, Operation, Part};
+use pq_types::{Done, Line, Operation, Part};
 use std::alloc::{AllocError, Allocator};
 
-// Puts what the line did behind the line so far: a request, or a removal.
-fn append_operation<P: Part>(line: &mut ArrayVec<u8, LONGEST>, operation: &Operation<Item<P>>)
+/// The longest line of a journal, without its line feed.
+pub const LONGEST_ENTRY: usize = 160;
+
+// Puts what the line did behind the line so far: a request, a removal or a move.
+fn append_operation<P: Part>(line: &mut ArrayVec<u8, LONGEST>, operation: &Operation<P>)
     requires { length line.old.items + 46 ≤ LONGEST }
     ensures text { line.new.items ≡ line.old.items ++ operation_text operation.now }
     ensures room { length line.new.items ≤ length line.old.items + 46 }
@@ -25,11 +28,17 @@ fn append_operation<P: Part>(line: &mut ArrayVec<u8, LONGEST>, operation: &Opera
             append(line, b"remove ");
             append_number(line, *ticket);
         }
+        Done::Move(priority, ticket) => {
+            append(line, b"move ");
+            append_number(line, *ticket);
+            append(line, b" ");
+            append_number(line, priority.as_u64());
+        }
     }
 }
 
 // The text of the line with this number, and a line feed.
-pub(crate) fn text_of<P: Part>(number: u64, line: &Line<Item<P>>) -> ArrayVec<u8, LONGEST>
+pub(crate) fn text_of<P: Part>(number: u64, line: &Line<P>) -> ArrayVec<u8, LONGEST>
     ensures { result.items ≡ line_text number line.now ++ codes "\n" }
 {
     let mut text = ArrayVec::new();
@@ -48,10 +57,11 @@ pub(crate) fn text_of<P: Part>(number: u64, line: &Line<Item<P>>) -> ArrayVec<u8
 
 /// Puts the text of the journal line with this number behind what is there, ended by a line feed:
 /// number, place, serial, operation and reply, with one space between, as `7 3 2 push 5 1 pushed`,
-/// `9 0 5 pop empty` or `12 0 6 remove 7 got 5 1`. Where memory for it is refused, nothing is put there.
+/// `9 0 5 pop empty`, `12 0 6 remove 7 got 5 1` or `13 0 7 move 8 9 got 5 1`, which moves the item with ticket 8, of
+/// priority 5 so far, to priority 9. Where memory for it is refused, nothing is put there.
 pub fn append_line<P: Part, A: Allocator>(
     number: u64,
-    line: &Line<Item<P>>,
+    line: &Line<P>,
     text: &mut Vec<u8, A>,
 ) -> Result<(), AllocError>
     ensures ok { OnOk result (text.new.items ≡ text.old.items ++ (line_text number line.now ++ codes "\n")) }

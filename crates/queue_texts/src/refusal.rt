@@ -34,6 +34,13 @@ pub enum Breach {
         told: Reply<Item<u64>>,
         due: Reply<Item<u64>>,
     },
+    /// It moves the item of this ticket to this priority, and its reply isn't the one that the queue of one thread gives there.
+    WrongMove {
+        ticket: u64,
+        priority: u64,
+        told: Reply<Item<u64>>,
+        due: Reply<Item<u64>>,
+    },
 }
 
 // The reply as one of wide items.
@@ -84,7 +91,13 @@ impl fmt::Display for Breach {
                     _ => write!(f, " where the queue was empty"),
                 }
             }
-            Breach::WrongRemoval { ticket, told, due } => {
+            Breach::WrongRemoval { ticket, told, due }
+            | Breach::WrongMove {
+                ticket,
+                priority: _,
+                told,
+                due,
+            } => {
                 write_reply(*told, f)?;
                 match due {
                     Reply::Got(item) => {

@@ -1,9 +1,7 @@
 // A replay: each text is read as a journal line, and what it did is carried out on a Book.
 ghost use Rattle.std.specs.Prelude.{◌≡◌, ◌+◌, ◌<◌, ◌++◌, ◌∷◌, ◌==◌, [], length, IfOk, IfErr, IfSome, IfNone, OnOk, OnErr, IsSome};
-ghost use Rattle.pq_types.specs.Queue.{IsPush};
 ghost use Rattle.pq_types.specs.Entry.{item_at, taken, reply_by};
-ghost use Rattle.pq_types.specs.History.{entries_of, last_serial};
-ghost use Rattle.pq_types.specs.Operation.{request_of};
+ghost use Rattle.pq_types.specs.History.{entries_of, last_serial, PutsIn};
 ghost use Rattle.pq_types.specs.declared.journal.TheConstants.{GREATEST_NUMBER};
 ghost use Rattle.queue_texts.specs.Audit.{Breaks, IsLawful, breach_by};
 ghost use Rattle.queue_texts.specs.Replay.{AreLastSerials, Follows, IsCarriedOut, IsReplayed, Leaves, MayFollow, RefusesText, TakesText};
@@ -14,7 +12,9 @@ use crate::refusal::{Breach, Unlawful, widened};
 use leftist_heap::TicketStore;
 use pq_book::{Book, Entry};
 use pq_types::laws::law_one_more_line;
-use pq_types::{Answer, Done, GREATEST_NUMBER, Item, Line, Operation, Part, Reply, Request};
+use pq_types::{
+    Answer, Done, GREATEST_NUMBER, Item, Line, Operation, Part, Reply, Request, Ticketed,
+};
 use std::alloc::{AllocError, Allocator};
 use std::marker::Model;
 use thiserror::Error;
@@ -36,11 +36,11 @@ pub enum ReplayError {
 /// A line that was replayed, and whether its place had none before.
 #[derive(Clone, Copy)]
 pub(crate) struct PlayedLine<P: Part> {
-    pub line: Line<Item<P>>,
+    pub line: Line<P>,
     pub is_new_place: bool,
 }
 
-/// A journal that is read back from its text: what the lines so far did was carried out on an empty queue, removals too. A contract
+/// A journal that is read back from its text: what the lines so far did was carried out on an empty queue, removals and moves too. A contract
 /// sees them all as a journal, which is a lawful one. Memory has the items that they leave, the last 65,536 lines, and one serial for
 /// each of 65,536 places.
 #[derive(Drop)]
@@ -59,8 +59,8 @@ impl<S: TicketStore<Entry<P>>, A: Allocator, P: Part> Model for Replay<S, A, P> 
     ghost invariant = { λ r. IsReplayed r.book.value.room r.book.value.journal r.last.items };
 }
 
-// The reply that the queue of one thread gives to the removal of the item with this ticket, behind the lines of the book.
-fn due_removal<S: TicketStore<Entry<P>>, A: Allocator, P: Part>(
+// The reply that the queue of one thread gives to the use of this ticket, behind the lines of the book.
+fn due_by_ticket<S: TicketStore<Entry<P>>, A: Allocator, P: Part>(
     book: &Book<S, A, P>,
     ticket: u64,
 ) -> Reply<Item<P>>
@@ -75,7 +75,7 @@ fn due_removal<S: TicketStore<Entry<P>>, A: Allocator, P: Part>(
 // The reply that it gives to this operation.
 fn due_reply<S: TicketStore<Entry<P>>, A: Allocator, P: Part>(
     book: &Book<S, A, P>,
-    operation: &Operation<Item<P>>,
+    operation: &Operation<P>,
 ) -> Reply<Item<P>>
     ensures { result ≡ reply_by (entries_of book.now.journal) operation.now }
 {
@@ -84,18 +84,24 @@ fn due_reply<S: TicketStore<Entry<P>>, A: Allocator, P: Part>(
         (Done::Pop, Some(first)) => Reply::Got(first),
         (Done::Least, Some(first)) => Reply::Least(first),
         (Done::Pop | Done::Least, None) => Reply::Empty,
-        (Done::Remove(ticket), _) => due_removal(book, *ticket),
+        (Done::Remove(ticket) | Done::Move(_, ticket), _) => due_by_ticket(book, *ticket),
     }
 }
 
 // How the line breaks the law where this reply is due, and it has another.
-fn wrong_reply<P: Part>(line: &Line<Item<P>>, due: Reply<Item<P>>) -> Breach
+fn wrong_reply<P: Part>(line: &Line<P>, due: Reply<Item<P>>) -> Breach
     ensures { result ≡ breach_by line.now.operation line.now.reply due }
 {
     let told = widened(line.reply);
     let due = widened(due);
     match line.operation.done {
         Done::Remove(ticket) => Breach::WrongRemoval { ticket, told, due },
+        Done::Move(priority, ticket) => Breach::WrongMove {
+            ticket,
+            priority: priority.as_u64(),
+            told,
+            due,
+        },
         _ => Breach::WrongReply { told, due },
     }
 }
@@ -104,7 +110,7 @@ fn wrong_reply<P: Part>(line: &Line<Item<P>>, due: Reply<Item<P>>) -> Breach
 fn breach_of<S: TicketStore<Entry<P>>, A: Allocator, P: Part>(
     book: &Book<S, A, P>,
     last: &[u64],
-    found: &NumberedLine<Item<P>>,
+    found: &NumberedLine<P>,
 ) -> Option<Breach>
     requires { AreLastSerials last.now book.now.journal }
     ensures some { IfSome result (λ breach. Breaks book.now.journal found.now.number found.now.line breach) }
@@ -136,26 +142,30 @@ fn breach_of<S: TicketStore<Entry<P>>, A: Allocator, P: Part>(
 // Carries out what the line did, for its place and under its serial.
 fn carried_out<S: TicketStore<Entry<P>>, A: Allocator, P: Part>(
     book: &mut Book<S, A, P>,
-    line: &Line<Item<P>>,
+    line: &Line<P>,
 ) -> Answer<Item<P>>
     requires { last_serial line.now.place book.old.journal < line.now.serial }
     ensures answer { IsCarriedOut book.old.room book.old.journal line.now result book.new.journal }
     ensures room { book.new.room ≡ book.old.room }
 {
-    let request = match line.operation.done {
-        Done::Push(item) => Request::Push(item),
-        Done::Pop => Request::Pop,
-        Done::Least => Request::Least,
-        Done::Remove(ticket) => return book.remove(line.place, line.serial, ticket),
-    };
-    book.apply(line.place, line.serial, request)
+    let place = line.place;
+    let serial = line.serial;
+    match &line.operation.done {
+        Done::Push(item) => book.apply(place, serial, Request::Push(*item)),
+        Done::Pop => book.apply(place, serial, Request::Pop),
+        Done::Least => book.apply(place, serial, Request::Least),
+        Done::Remove(ticket) => book.apply_by_ticket(place, serial, Ticketed::remove(*ticket)),
+        Done::Move(priority, ticket) => {
+            book.apply_by_ticket(place, serial, Ticketed::reschedule(*ticket, *priority))
+        }
+    }
 }
 
 // Carries out what a line did that may come next, and so enters the line; where memory for its item is refused, nothing changes.
 fn entered<S: TicketStore<Entry<P>>, A: Allocator, P: Part>(
     book: &mut Book<S, A, P>,
     last: &mut Vec<u64, A>,
-    line: &Line<Item<P>>,
+    line: &Line<P>,
 ) -> Result<(), AllocError>
     requires kept { IsReplayed book.old.room book.old.journal last.old.items }
     requires next { Follows book.old.journal (length book.old.journal + 1) line.now }
@@ -163,7 +173,7 @@ fn entered<S: TicketStore<Entry<P>>, A: Allocator, P: Part>(
     ensures kept { IsReplayed book.new.room book.new.journal last.new.items }
     ensures ok { OnOk result (book.new.journal ≡ book.old.journal ++ line.now ∷ []) }
     ensures err { OnErr result (book.new.journal ≡ book.old.journal) }
-    ensures refused { OnErr result (IsPush (request_of line.now.operation)) }
+    ensures refused { OnErr result (PutsIn line.now.operation) }
 {
     law_one_more_line();
     match carried_out(book, line) {
@@ -228,7 +238,7 @@ impl<S: TicketStore<Entry<P>>, A: Allocator, P: Part> Replay<S, A, P> {
     /// Reads a text without its line feed as the line that comes next, and carries out what it did. The journal gains that line,
     /// and stays a lawful one; where the text is refused, it is as it was. `Unlawful` says why the text is no line that may
     /// come next: no line; or one whose number isn't due, whose serial isn't above the last of its place, or whose reply isn't that of
-    /// the queue of one thread. `NoMemory` refuses one that may, a push.
+    /// the queue of one thread. `NoMemory` refuses one that may, a push or a move.
     pub fn play_line(&mut self, text: &[u8]) -> Result<(), ReplayError>
         ensures ok { OnOk result (TakesText P.wide self.old.journal text.now self.new.journal) }
         ensures err { IfErr result (λ error. RefusesText P.wide self.old.journal text.now error) }
@@ -263,7 +273,7 @@ impl<S: TicketStore<Entry<P>>, A: Allocator, P: Part> Replay<S, A, P> {
 
     /// What the lines leave: the store, which holds the items that are in the queue then, how many lines came before those that
     /// are kept, and these, the last 65,536. The replay is handed over in a place, which is empty then, as a Book is.
-    pub fn take_parts(place: &mut Option<Self>) -> (S, u64, Vec<Line<Item<P>>, A>)
+    pub fn take_parts(place: &mut Option<Self>) -> (S, u64, Vec<Line<P>, A>)
         requires { IsSome place.old }
         ensures { IfSome place.old (λ replay. Leaves replay.journal (S.content result.0) result.1 result.2.items) }
     {

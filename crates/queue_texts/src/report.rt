@@ -21,11 +21,11 @@ pub struct AuditReport {
     pub pushed: u64,
     /// How many pops and removals took an item out.
     pub got: u64,
-    /// How many pops and removals found no item.
+    /// How many pops, removals and moves found no item.
     pub empty: u64,
     /// How many items it leaves in the queue.
     pub left: u64,
-    /// The priorities pushed, added up.
+    /// The priorities put in, by pushes and moves, added up.
     pub sum_in: u128,
     /// Those taken out and those left.
     pub sum_out_and_left: u128,

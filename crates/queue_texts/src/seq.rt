@@ -10,7 +10,7 @@ use crate::command::read_command;
 use crate::faults::Refusal;
 use crate::owned::Owned;
 use leftist_heap::{AnyStore, Store, StoreKind};
-use line_script::{Player, RunError, play_script};
+use line_script::{LONGEST_LINE, Player, RunError, play_script};
 use pq_book::{Book, Entry};
 use pq_types::Part;
 use pq_types::laws::law_one_more_line;
@@ -31,15 +31,21 @@ struct Commands<S: Store<Entry<P>>, A: Allocator, P: Part = u32> {
 impl<S: Store<Entry<P>>, A: Allocator, P: Part> Player for Commands<S, A, P> {
     type Refusal = Refusal;
 
+    ghost use Rattle.line_script.specs.declared.lines.TheConstants.{LONGEST_LINE};
     ghost use Rattle.queue_texts.specs.SeqText.{PlaysCommand, RefusesCommand};
 
     ghost kind = { record {
+      longest = LONGEST_LINE;
       plays =
           λ s line text t. (t.book.value.room ≡ s.book.value.room)
           × PlaysCommand P.wide s.book.value.room s.book.value.journal line text t.book.value.journal;
       refuses = λ s. RefusesCommand P.wide;
       ends = λ s r. r ≡ Ok tt;
     } };
+
+    fn longest() -> usize {
+        LONGEST_LINE
+    }
 
     fn play<B: Allocator>(
         &mut self,

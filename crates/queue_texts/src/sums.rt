@@ -1,7 +1,6 @@
 // What the lines of a journal add up to.
 ghost use Rattle.std.specs.Prelude.{◌≡◌, ◌+◌, ◌<◌, ◌≤◌, ◌^◌, length};
 ghost use Rattle.pq_types.specs.Asked.{Line};
-ghost use Rattle.pq_types.specs.Operation.{request_of};
 ghost use Rattle.queue_texts.specs.Sums.{HasRoom, counted};
 
 use pq_types::{Done, Item, Operation, Part, Reply};
@@ -15,11 +14,11 @@ pub struct JournalSums {
     pub pushed: u64,
     /// Pops and removals that took an item out.
     pub got: u64,
-    /// Pops and removals that found no item.
+    /// Pops, removals and moves that found no item.
     pub empty: u64,
-    /// The priorities pushed, added up.
+    /// The priorities put in, by pushes and moves, added up.
     pub sum_in: u128,
-    /// Those taken out.
+    /// Those taken out, by pops, removals and moves.
     pub sum_out: u128,
 }
 
@@ -34,22 +33,23 @@ pub const NOTHING: JournalSums = JournalSums {
 };
 
 impl JournalSums {
-    /// Counts an operation and its reply, and its place, if it is a new one; a removal counts as a pop.
+    /// Counts an operation and its reply, and its place, if it is a new one. A move that found its item is no push and no pop: it
+    /// takes a priority out and puts another in.
     pub(crate) fn count<P: Part>(
         &mut self,
         new_place: bool,
-        operation: Operation<Item<P>>,
-        reply: Reply<Item<P>>,
+        operation: &Operation<P>,
+        reply: &Reply<Item<P>>,
     )
         requires { HasRoom self.old }
-        ensures counted { self.new ≡ counted self.old new_place (request_of operation) reply }
+        ensures counted { self.new ≡ counted self.old new_place operation.now reply.now }
         ensures small_in { self.new.sum_in ≤ self.old.sum_in + 2 ^ 64 }
         ensures small_out { self.new.sum_out ≤ self.old.sum_out + 2 ^ 64 }
     {
         if new_place {
             self.places += 1;
         }
-        match (operation.done, reply) {
+        match (&operation.done, reply) {
             (Done::Push(item), _) => {
                 self.pushed += 1;
                 self.sum_in += u128::from(item.priority.as_u64());
@@ -58,7 +58,11 @@ impl JournalSums {
                 self.got += 1;
                 self.sum_out += u128::from(item.priority.as_u64());
             }
-            (Done::Pop | Done::Remove(_), Reply::Empty) => self.empty += 1,
+            (Done::Move(priority, _), Reply::Got(item)) => {
+                self.sum_in += u128::from(priority.as_u64());
+                self.sum_out += u128::from(item.priority.as_u64());
+            }
+            (Done::Pop | Done::Remove(_) | Done::Move(_, _), Reply::Empty) => self.empty += 1,
             _ => {}
         }
     }

@@ -13,7 +13,7 @@ use crate::events::event_line;
 use crate::faults::Refusal;
 use crate::orders::{Move, Order, ScanKind, Verb, read_order};
 use arrayvec::ArrayVec;
-use line_script::{Player, RunError, run_script};
+use line_script::{LONGEST_LINE, Player, RunError, run_script};
 use split_core::ids::IdError;
 use split_core::places::MAX_COMERS;
 use split_core::seen::{Seen, StepError};
@@ -172,16 +172,22 @@ fn add<A: Allocator + Clone>(
 impl<A: Allocator + Clone> Player for Walk<A> {
     type Refusal = Refusal;
 
+    ghost use Rattle.line_script.specs.declared.lines.TheConstants.{LONGEST_LINE};
     ghost use Rattle.queue_texts.specs.WalkText.{Schedule, PlaysWalk, RefusesWalk, EndsWalk};
     ghost use Rattle.queue_texts.specs.WalkSteps.{IsWalk};
 
     ghost kind = { record {
+      longest = LONGEST_LINE;
       plays =
           λ s line text t. (t.kind ≡ s.kind) × ((p : Schedule) → IsWalk s.ids.items s.machine p
           → (q : Schedule) × IsWalk t.ids.items t.machine q × PlaysWalk s.kind p line text q);
       refuses = λ s n line e. (p : Schedule) → IsWalk s.ids.items s.machine p → RefusesWalk s.kind p n line e;
       ends = λ s r. (p : Schedule) → IsWalk s.ids.items s.machine p → EndsWalk p r;
     } };
+
+    fn longest() -> usize {
+        LONGEST_LINE
+    }
 
     fn play<B: Allocator>(
         &mut self,

@@ -3,6 +3,7 @@ mod drops;
 mod lasting;
 mod many_items;
 mod memory;
+mod moves;
 mod openings;
 mod regions;
 mod removals;

@@ -1,4 +1,4 @@
-// Heaps from which items are removed by their tickets: random runs beside a list in order.
+// Heaps whose items are removed and moved by their tickets: random runs beside a list in order.
 use leftist_heap::{
     FlatPlaces, Level, MOST_ITEMS, Places, Store, TicketHeap, TicketStore, TreePlaces,
 };
@@ -9,13 +9,13 @@ use test_aids::Refusing;
 
 // Numbers that look random.
 #[derive(Drop)]
-struct Numbers {
-    last: u64,
+pub struct Numbers {
+    pub last: u64,
 }
 
 impl Numbers {
     // The next number below this one.
-    fn below(&mut self, bound: u64) -> u64 {
+    pub fn below(&mut self, bound: u64) -> u64 {
         self.last ^= self.last << 13;
         self.last ^= self.last >> 7;
         self.last ^= self.last << 17;
@@ -23,7 +23,7 @@ impl Numbers {
     }
 }
 
-// A heap, and a list in order of the entries that it should have. Of two pushes the later one's ticket is higher by `step`.
+// A heap, and a list in order of the entries that it should have. Of two entries the later one's ticket is higher by `step`.
 #[derive(Drop)]
 struct Pair<P: Places> {
     heap: TicketHeap<Entry, P, Global>,
@@ -42,17 +42,22 @@ impl<P: Places> Pair<P> {
         }
     }
 
-    // Pushes an entry of some priority under the next ticket: whether both took it.
-    fn pushes(&mut self, numbers: &mut Numbers) -> bool {
+    // Pushes this item under the next ticket: whether both took it.
+    fn puts(&mut self, item: Item) -> bool {
         self.last = self.last.saturating_add(self.step);
-        let priority = numbers.below(20) as u32;
-        let value = numbers.below(3) as u32;
-        let entry = Entry::of(Item { priority, value }, self.last);
+        let entry = Entry::of(item, self.last);
         let place = self.list.partition_point(|other| *other <= entry);
         place <= self.list.len()
             && self.list.insert(place, entry).is_ok()
             && self.heap.len() < MOST_ITEMS as usize
             && self.heap.push(entry).is_ok()
+    }
+
+    // Pushes an item of some priority.
+    fn pushes(&mut self, numbers: &mut Numbers) -> bool {
+        let priority = numbers.below(20) as u32;
+        let value = numbers.below(3) as u32;
+        self.puts(Item { priority, value })
     }
 
     // Pops: whether the heap gives the first of the list.
@@ -61,13 +66,31 @@ impl<P: Places> Pair<P> {
         self.heap.pop() == first
     }
 
-    // Removes by some ticket, of an entry that is there or not: whether the heap finds and gives the first of the list that has it.
-    fn removes(&mut self, numbers: &mut Numbers) -> bool {
+    // The ticket of an entry that is there or not.
+    fn ticket(&self, numbers: &mut Numbers) -> u64 {
         let back = numbers.below(400).saturating_mul(self.step);
-        let ticket = self.last.saturating_sub(back) + numbers.below(2);
+        self.last.saturating_sub(back) + numbers.below(2)
+    }
+
+    // Removes by this ticket: whether the heap finds and gives the first of the list that has it.
+    fn removes(&mut self, ticket: u64) -> bool {
         let place = self.list.iter().position(|it| it.line == ticket);
         let there = place.map(|it| self.list.remove(it));
         self.heap.find(ticket).copied() == there && self.heap.remove(ticket) == there
+    }
+
+    // Moves by this ticket to some priority, as a Book does: the item is pushed under the next ticket, and then the old entry removed.
+    fn moves(&mut self, ticket: u64, numbers: &mut Numbers) -> bool {
+        let found = self.heap.find(ticket).copied();
+        if self.list.iter().find(|it| it.line == ticket).copied() != found {
+            return false;
+        }
+        let Some(entry) = found else {
+            return true;
+        };
+        let priority = numbers.below(20) as u32;
+        let value = entry.value;
+        self.puts(Item { priority, value }) && self.removes(ticket)
     }
 
     // Makes so many calls: whether each has the right answer, and the heap's length and least item are right behind it.
@@ -77,7 +100,14 @@ impl<P: Places> Pair<P> {
             let is_so = match numbers.below(10) {
                 0..4 if self.list.len() < 300 => self.pushes(&mut numbers),
                 4 | 5 => self.pops(),
-                _ => self.removes(&mut numbers),
+                6 | 7 => {
+                    let ticket = self.ticket(&mut numbers);
+                    self.moves(ticket, &mut numbers)
+                }
+                _ => {
+                    let ticket = self.ticket(&mut numbers);
+                    self.removes(ticket)
+                }
             };
             if !is_so
                 || self.heap.len() != self.list.len()

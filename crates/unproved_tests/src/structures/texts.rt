@@ -32,7 +32,7 @@ fn a_journal_is_written_and_read_back(rt: HostRuntime) {
 
 #[test]
 fn a_wide_line_is_written_and_read_back_as_a_wide_one(rt: HostRuntime) {
-    let line: Line<Item<u64>> = Line {
+    let line: Line<u64> = Line {
         serial: 72_057_594_037_927_936,
         operation: Operation::asked(Request::Push(Item {
             priority: 18_446_744_073_709_551_615,
@@ -71,4 +71,48 @@ fn a_removal_is_written_and_read_back(rt: HostRuntime) {
         read_line::<u32>(b"9 0 5 remove 18446744073709551616 empty") == Err(LineError::OutOfRange)
     );
     assert!(rt; read_line::<u32>(b"9 0 5 remove  7 empty") == Err(LineError::UnknownWord));
+}
+
+#[test]
+fn a_move_is_written_and_read_back(rt: HostRuntime) {
+    let line: Line = Line {
+        serial: 5,
+        operation: Operation::reschedule(7, 9),
+        reply: Reply::Got(Item {
+            priority: 3,
+            value: 1,
+        }),
+        place: 0,
+    };
+    let read = NumberedLine { number: 9, line };
+    let mut text = Vec::new(rt.alloc());
+    append_line(9, &line, &mut text).expect(&rt, "there is memory");
+    assert!(rt; text.as_slice() == b"9 0 5 move 7 9 got 3 1\n".as_slice());
+    assert!(rt; read_line::<u32>(b"9 0 5 move 7 9 got 3 1") == Ok(read));
+    assert!(rt; read_line::<u32>(b"9 0 5 move 7 9 pushed") == Err(LineError::NoSuchReply));
+    assert!(rt; read_line::<u32>(b"9 0 5 move 7 4294967296 empty") == Err(LineError::OutOfRange));
+    assert!(rt; read_line::<u64>(b"9 0 5 move 7 4294967296 empty").is_ok());
+    assert!(rt;
+        read_line::<u64>(b"9 0 5 move 18446744073709551616 9 empty") == Err(LineError::OutOfRange)
+    );
+    assert!(rt; read_line::<u32>(b"9 0 5 move 7 empty") == Err(LineError::UnknownWord));
+    assert!(rt; read_line::<u32>(b"9 0 5 move 7  9 empty") == Err(LineError::UnknownWord));
+}
+
+// The longest line that can be written has 134 bytes, and a line feed.
+#[test]
+fn the_longest_line_fits(rt: HostRuntime) {
+    let greatest = 18_446_744_073_709_551_615;
+    let line: Line<u64> = Line {
+        serial: 72_057_594_037_927_936,
+        operation: Operation::reschedule(greatest, greatest),
+        reply: Reply::Got(Item {
+            priority: greatest,
+            value: greatest,
+        }),
+        place: 65_535,
+    };
+    let mut text = Vec::new(rt.alloc());
+    append_line(72_057_594_037_927_936, &line, &mut text).expect(&rt, "there is memory");
+    assert!(rt; text.len() == 135);
 }

@@ -97,7 +97,7 @@ fn a_wide_book_gives_wide_items_in_their_order(rt: HostRuntime) {
 #[test]
 fn entries_and_lines_have_their_sizes(rt: HostRuntime) {
     assert!(rt; size_of::<Entry>() == 16 && size_of::<Entry<u64>>() == 24);
-    assert!(rt; size_of::<Line<Item<u64>>>() == 64);
+    assert!(rt; size_of::<Line<u64>>() == 64);
 }
 
 // The members of the first two newcomers.

@@ -1,7 +1,7 @@
 use Rattle.std.proofs.Common.{◌∙◌, ap, sym, subst}
 use Rattle.pq_types.specs.Asked.{Line}
 use Rattle.pq_types.specs.Operation.{request_of}
-use Rattle.queue_load.specs.Leftover.{left_after, HoldsFor}
+use Rattle.queue_load.specs.Leftover.{left_by, HoldsFor}
 use Rattle.queue_load.proofs.Leftovers.{leftover_more, still_holds, still_roomy, all_left}
 use Rattle.queue_load.proofs.leftover.leftover_of.Goals as goal
 
@@ -13,7 +13,7 @@ after_line-leftover-requires-clause-holds g c =
 pub loop-line-preserved : goal.loop-line-preserved
 loop-line-preserved g c =
     let step = c.after_line-leftover.ensures in
-    let after = step.after ∙ ap (λ (x : Line). left_after c.loop-line.leftover (request_of x.operation) x.reply) c.line-item.is in
+    let after = step.after ∙ ap (λ (x : Line). left_by c.loop-line.leftover x.operation x.reply) c.line-item.is in
     leftover_more c.law_one_more_line.ensures.left c.law_one_more_line.ensures.entries c.args.lines.now c.loop-line.line-index c.line-item.result c.loop-line.leftover c.after_line-leftover.result c.requires.legal
     c.loop-line-test.true c.loop-line.invariant after step.count step.sum
 

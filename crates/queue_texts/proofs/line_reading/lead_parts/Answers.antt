@@ -1,12 +1,8 @@
-use Rattle.queue_texts.proofs.Shapes.{if_none, no_second, both_led}
+use Rattle.queue_texts.proofs.Shapes.{if_none, both_led}
 use Rattle.queue_texts.proofs.line_reading.lead_parts.Goals as goal
 
 pub returns-in_err-priority-clause-none : goal.returns-in_err-priority-clause-none
-returns-in_err-priority-clause-none c = if_none _ _ c.from_residual.ensures (λ x rest h. c.in_err-priority.ensures.none x.priority h.0 h.1)
-
-pub returns-in_err-value-clause-none : goal.returns-in_err-value-clause-none
-returns-in_err-value-clause-none c =
-    if_none _ _ c.from_residual-in_err-value.ensures (no_second _ _ _ c.in_ok-priority.ensures.some.1 c.in_err-value.ensures.none)
+returns-in_err-priority-clause-none c = if_none _ _ c.from_residual.ensures (λ x rest h. c.in_err-priority.ensures.none x.priority x.value rest h)
 
 pub returns-clause-some : goal.returns-clause-some
-returns-clause-some c = both_led _ _ _ _ c.in_ok-priority.ensures.some c.in_ok-value.ensures.some
+returns-clause-some c = both_led _ _ _ c.in_ok-priority.ensures.some

@@ -24,7 +24,7 @@ returns-in_default-line_in_range-clause-every_refusal g c = every_refusal g.P.Pa
 
 told : (g : _) (c : goal.Then-not-may_reply g) → IsNoLineFor g.P.Part.wide c.args.text.now NoSuchReply
 told g c =
-    no_such_reply g.P.Part.wide _ c.in-Some.shape _ _ _ c.in-Some.ensures.some c.in-Some-line_in_range.ensures.some c.reply_kind.ensures c.may_reply.ensures
+    no_such_reply g.P.Part.wide _ c.in-Some.shape c.in-Some-line_in_range.found _ _ c.in-Some.ensures.some c.in-Some-line_in_range.ensures.some c.reply_kind.ensures c.may_reply.ensures
     c.if-not-may_reply.true
 
 pub returns-then-not-may_reply-clause-err : goal.returns-then-not-may_reply-clause-err
@@ -38,7 +38,7 @@ returns-then-not-may_reply-clause-every_refusal g c = every_refusal g.P.Part.wid
 
 read : (g : _) (c : goal.Else-not-may_reply g) → IsReadAs g.P.Part.wide c.args.text.now (Ok c.in-Some-line_in_range.found)
 read g c =
-    the_line g.P.Part.wide _ c.in-Some.shape _ _ _ c.in-Some.ensures.some c.in-Some-line_in_range.ensures.some c.reply_kind.ensures c.may_reply.ensures
+    the_line g.P.Part.wide _ c.in-Some.shape c.in-Some-line_in_range.found _ _ c.in-Some.ensures.some c.in-Some-line_in_range.ensures.some c.reply_kind.ensures c.may_reply.ensures
     c.if-not-may_reply.false
 
 pub returns-clause-ok : goal.returns-clause-ok

@@ -13,7 +13,7 @@ pub mod Turns
 pub mod Misses
 pub mod OwnRequests
 pub mod UpTos
-pub mod Removings
+pub mod TicketUses
 pub mod Together
 pub mod Lookings
 pub mod Countings

@@ -1,9 +1,8 @@
 -- The lines of a member's calls rise.
-use Rattle.std.proofs.Common.{◌≡◌, ◌∙◌, ℕ, ◌+◌, ◌<◌, ◌++◌, ap, subst, List, [], ◌∷◌}
+use Rattle.std.proofs.Common.{◌∙◌, ℕ, ◌+◌, ◌<◌, ◌++◌, ap, subst, List, [], ◌∷◌}
 use Rattle.desk_core.specs.Calls.{call}
 use Rattle.desk_core.specs.declared.model.Call.{Call}
 use Rattle.announce_board.specs.Asking.{IsAboveAll}
-use Rattle.flat_queue.specs.Members.{Joined}
 use Rattle.flat_queue.specs.Calling.{LinesRise}
 
 above_one : (n : ℕ) (xs ys : List Call) (c : Call) → IsAboveAll n ((xs ++ c ∷ []) ++ ys) → c.number < n

@@ -1,5 +1,5 @@
 -- What tries that found the lock held leave of a member, and a call behind such tries.
-use Rattle.std.proofs.Common.{◌≡◌, ◌∙◌, ℕ, zero, suc, ◌+◌, ◌<◌, ◌≤◌, sym, ap, subst, refl, arith, true, List}
+use Rattle.std.proofs.Common.{◌≡◌, ◌∙◌, ℕ, zero, suc, ◌+◌, ◌<◌, sym, ap, subst, refl, arith, true, List}
 use Rattle.std.specs.Prelude.{Option, Some, Result, Ok, Err, IfOk, IfErr}
 use Rattle.pq_types.specs.Asked.{Request, Operation}
 use Rattle.pq_types.specs.Operation.{Asked}

@@ -1,12 +1,11 @@
 -- A call that was answered before a note was written has its line before each call that is made once the note is heard.
-use Rattle.std.proofs.Common.{◌≡◌, ◌∙◌, ℕ, ◌+◌, ◌-◌, ◌<◌, ◌≤◌, ◌++◌, ap, subst, List, [], ◌∷◌, length, arith, length-append}
+use Rattle.std.proofs.Common.{◌∙◌, ◌+◌, ◌<◌, ◌≤◌, ◌++◌, ap, subst, List, [], ◌∷◌, length, arith, length-append}
 use Rattle.std.specs.List.{AllByRecursion}
 use Rattle.pq_types.specs.Asked.{Line}
 use Rattle.desk_core.specs.CallLines.{IsLineOf}
 use Rattle.desk_core.specs.Calls.{call}
 use Rattle.desk_core.specs.Rule.{StartsWith}
 use Rattle.desk_core.specs.declared.model.Call.{Call}
-use Rattle.flat_queue.specs.Members.{Joined}
 use Rattle.flat_queue.specs.Notes.{NotesKeepOrder}
 
 of_one : (P : Call → Type 0) (xs ys : List Call) (c : Call) → AllByRecursion P ((xs ++ c ∷ []) ++ ys) → P c

@@ -1,10 +1,10 @@
 -- What a member keeps and gains that carries its own request out, and a call behind a missed try.
 use Rattle.std.proofs.Common.{◌≡◌, ◌∙◌, ℕ, zero, suc, ◌+◌, ◌-◌, ◌<◌, ◌≤◌, ◌++◌, inl, inr, sym, ap, subst, refl, arith, true, false, Bool, List, [], ◌∷◌, length, length-append}
-use Rattle.std.specs.Prelude.{Option, Some, None, Result, Ok, Err, IfOk, IfErr, IsErrOf, ◌≢◌}
+use Rattle.std.specs.Prelude.{Option, Some, None, Result, Err, IsErrOf, ◌≢◌}
 use Rattle.std.proofs.lemmas.List.{append-nil}
 use Rattle.pq_types.specs.Item.{Item}
 use Rattle.pq_types.specs.Asked.{Request, Operation}
-use Rattle.pq_types.specs.Operation.{Asked, request_of}
+use Rattle.pq_types.specs.Operation.{Asked}
 use Rattle.pq_types.specs.Asked.{Reply}
 use Rattle.pq_types.specs.Asked.{Answer}
 use Rattle.pq_types.specs.declared.answer.Answer.TheVariants.{Entered}
@@ -12,17 +12,17 @@ use Rattle.pq_types.specs.declared.answer.Answer.TheVariants as answer
 use Rattle.pq_types.specs.declared.control.Control.{Control}
 use Rattle.pq_types.specs.declared.control.Control.TheVariants.{Nothing, Posted, Answered}
 use Rattle.pq_types.specs.Control.{is_posted}
-use Rattle.pq_types.specs.History.{journal_after}
+use Rattle.pq_types.specs.History.{journal_by}
 use Rattle.pq_book.specs.Book.{Volume}
 use Rattle.desk_core.specs.Calls.{gained_by}
-use Rattle.desk_core.specs.Pen.{due_at, after_miss}
+use Rattle.desk_core.specs.Pen.{due_at}
 use Rattle.desk_core.specs.Rule.{StartsWith}
 use Rattle.desk_core.specs.declared.model.Due.{Due}
 use Rattle.desk_core.specs.declared.model.PenState.{PenState}
 use Rattle.desk_core.specs.declared.model.Standing.{Standing}
 use Rattle.desk_core.specs.declared.model.Standing.TheVariants.{Idle}
 use Rattle.desk_core.specs.declared.model.Call.{Call}
-use Rattle.announce_board.specs.Asking.{IsAnswerTo, IsAboveAll}
+use Rattle.announce_board.specs.Asking.{IsAnswerBy, IsAnswerTo, IsAboveAll}
 use Rattle.announce_board.specs.Serving.{ServesWhereBy, Wins, found_posted_by, laid_and_answered_by, due_of}
 use Rattle.flat_queue.specs.Limits.{most_posts}
 use Rattle.flat_queue.specs.Memory.{HasSpareRoom}
@@ -30,10 +30,10 @@ use Rattle.flat_queue.specs.Members.{Joined, StaysAtPlace}
 use Rattle.flat_queue.specs.Sweeping.{SweepsBy}
 use Rattle.flat_queue.specs.TrailSweeping.{IsTrailSweptBy}
 use Rattle.flat_queue.specs.Turns.{FindsLockHeld, Misses}
-use Rattle.flat_queue.specs.Calling.{KeepsTimes, HasPostedOne, IsEntered, IsRefused, MakesCall, PostsAndWaitsBy, ended, told_by}
-use Rattle.flat_queue.specs.OwnRequest.{SweepsWhereBy, ReleasesOperation, ReleasesWith, CarriesOutOperationBy, CarriesOutBy, EntersAtOnceBy, TriesOrWaitsBy, EntersOrWaitsBy}
+use Rattle.flat_queue.specs.Calling.{KeepsTimes, HasPostedOne, IsEntered, MakesCall, PostsAndWaitsBy, ended, told_by}
+use Rattle.flat_queue.specs.OwnRequest.{SweepsWhereBy, ReleasesOperation, CarriesOutOperationBy, CarriesOutBy, EntersAtOnceBy, TriesOrWaitsBy, EntersOrWaitsBy}
 use Rattle.flat_queue.specs.declared.error.CallError.{CallError}
-use Rattle.flat_queue.specs.declared.error.CallError.TheVariants.{NoMemory, BookFull, Spent, GaveUp}
+use Rattle.flat_queue.specs.declared.error.CallError.TheVariants.{NoMemory, Spent}
 use Rattle.flat_queue.proofs.Misses.{HasMissed, missed_none, missed_on, call_behind}
 use Rattle.flat_queue.proofs.Waits.{starts_trans, starts_by, sweeps_start}
 
@@ -178,7 +178,7 @@ beyond_own words a c operation number reply h =
 
 -- an operation that it carried out and that has a line was entered: its answer is one to such an operation
 pub entered_own : (words : ℕ) (a c : Joined) (operation : Operation) (number : ℕ) (reply : Reply) → CarriesOutOperationBy words a operation (Entered number reply) c
-    → IsAnswerTo a.queue.room (request_of operation) (Entered number reply) → IsEntered a operation number reply c
+    → IsAnswerBy a.queue.room operation (Entered number reply) → IsEntered a operation number reply c
 entered_own words a c operation number reply h fits =
     record {
       member = gained_own words (Entered number reply) a c operation h;
@@ -193,6 +193,10 @@ entered_own words a c operation number reply h fits =
 -- and one that was refused left the member without a call
 pub refused_own : (words : ℕ) (a c : Joined) (operation : Operation) → CarriesOutOperationBy words a operation answer.BookFull c → HasPostedOne a (Idle None) a.pen.mine c
 refused_own words a c operation h = no_more a c (Idle None) a.pen.mine (gained_own words answer.BookFull a c operation h)
+
+-- so did one for which there was no memory
+pub unfit_own : (words : ℕ) (a c : Joined) (operation : Operation) → CarriesOutOperationBy words a operation answer.NoMemory c → HasPostedOne a (Idle None) a.pen.mine c
+unfit_own words a c operation h = no_more a c (Idle None) a.pen.mine (gained_own words answer.NoMemory a c operation h)
 
 -- what a call comes to that carried its request out: its answer is one to it
 pub called_own : (words : ℕ) (x : Answer) (a c : Joined) (request : Request) (has_room : Type 0) → CarriesOutBy words a request x c → IsAnswerTo a.queue.room request x
@@ -221,7 +225,7 @@ called_own words answer.BookFull a c request has_room h fits few memory =
 called_own words answer.NoMemory a c request has_room h fits few memory =
     record {
       ok = tt;
-      err = (fits, no_more a c (Idle None) a.pen.mine (gained_own words answer.NoMemory a c (Asked request) h));
+      err = (fits, unfit_own words a c (Asked request) h);
       full = λ e. absurd (cc e);
       spent = (λ e. absurd (cc e), λ le. absurd (omega (arith, le, few)));
       turns = λ f. own_turns words answer.NoMemory a c request h;
@@ -306,14 +310,14 @@ tried_behind words a b c request has_room result held few call =
     (λ r t. inr (b, held, t)) call
 
 -- A member that was refused for want of memory knows the journal that it had in its hand.
-refused_knows : (a c : Joined) (request : Request) (x : Answer) → ReleasesWith a request x c → x ≡ answer.NoMemory → c.pen.known ≡ a.pen.hand
-refused_knows a c request x h e =
-    ap (λ (z : Joined). z.pen.known) h.after_is ∙ ap (journal_after a.pen.hand a.pen.place (a.pen.posts + 1) request) e
+refused_knows : (a c : Joined) (operation : Operation) (x : Answer) → ReleasesOperation a operation x c → x ≡ answer.NoMemory → c.pen.known ≡ a.pen.hand
+refused_knows a c operation x h e =
+    ap (λ (z : Joined). z.pen.known) h.after_is ∙ ap (journal_by a.pen.hand a.pen.place (a.pen.posts + 1) operation) e
 
 -- So what is said of the journal in its hand is said of the one that it knows.
-pub spare_own : {S : Type 0} (room : S → ℕ) (a c : Joined) (request : Request) (x : Answer) → ReleasesWith a request x c
+pub spare_own : {S : Type 0} (room : S → ℕ) (a c : Joined) (operation : Operation) (x : Answer) → ReleasesOperation a operation x c
     → (HasSpareRoom room a.pen.hand → x ≢ answer.NoMemory) → HasSpareRoom room c.pen.known → x ≢ answer.NoMemory
-spare_own room a c request x h never all e = never (subst (HasSpareRoom room) (refused_knows a c request x h e) all) e
+spare_own room a c operation x h never all e = never (subst (HasSpareRoom room) (refused_knows a c operation x h e) all) e
 
 -- a call is refused for want of memory only where its request was
 pub refused_as : (x : Answer) → IsErrOf (ended (Some x)) NoMemory → x ≡ answer.NoMemory

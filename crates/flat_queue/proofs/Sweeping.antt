@@ -1,5 +1,5 @@
 -- What serving one place after the other makes of the leader.
-use Rattle.std.proofs.Common.{◌≡◌, ◌∙◌, ℕ, ◌+◌, ◌≤◌, ◌++◌, ◌==◌, if◌then◌else◌, arith, sym, ap, subst, refl, true, false, Bool, List, [], ◌∷◌, length, get_or, inl, inr, ◌⊎◌}
+use Rattle.std.proofs.Common.{◌≡◌, ◌∙◌, ℕ, ◌+◌, ◌≤◌, ◌++◌, ◌==◌, if◌then◌else◌, arith, sym, ap, subst, refl, true, false, Bool, List, [], ◌∷◌, get_or, inl, inr, ◌⊎◌}
 use Rattle.split_grid.specs.Tokens.{Resting}
 use Rattle.split_grid.specs.Calls.{IsStill}
 use Rattle.flat_queue.specs.declared.waiting.DeskTag.{DeskTag}

@@ -1,11 +1,9 @@
 -- What a call tells by an item or a number alone, told with the reply.
-use Rattle.std.proofs.Common.{◌≡◌, ◌∙◌, ℕ, ⊎_elim, sym, ap, subst, refl, inl, inr}
-use Rattle.std.specs.Prelude.{Option, Some, None, Result, Ok, Err}
-use Rattle.pq_types.specs.Item.{Item}
+use Rattle.std.proofs.Common.{◌≡◌, ◌∙◌, ℕ, ⊎_elim, sym, ap, subst}
+use Rattle.std.specs.Prelude.{Result, Ok}
 use Rattle.pq_types.specs.Asked.{Request}
-use Rattle.pq_types.specs.declared.request.Request.TheVariants.{Push, Pop, Least}
+use Rattle.pq_types.specs.declared.request.Request.TheVariants.{Pop, Least}
 use Rattle.pq_types.specs.Asked.{Reply}
-use Rattle.pq_types.specs.declared.answer.Reply.TheVariants.{Pushed}
 use Rattle.pq_types.specs.Control.{reply_item}
 use Rattle.desk_core.specs.Knows.{IsReplyTo}
 use Rattle.flat_queue.specs.Members.{Joined}

@@ -1,5 +1,5 @@
 -- Calls stand in the journal in the order in which they were made in time.
-use Rattle.std.proofs.Common.{◌≡◌, ◌∙◌, ℕ, ◌+◌, zero, suc, ◌++◌, ap, List, [], ◌∷◌, length, refl}
+use Rattle.std.proofs.Common.{◌≡◌, ◌∙◌, ◌+◌, ◌++◌, ap, List, [], ◌∷◌, length, refl}
 use Rattle.std.specs.Prelude.{Some, slice_get}
 use Rattle.desk_core.specs.Calls.{call}
 use Rattle.desk_core.specs.Witnessed.{LinearizedFollowTime}

@@ -1,5 +1,5 @@
 -- What a call comes to that takes the first item out up to a bound.
-use Rattle.std.proofs.Common.{◌≡◌, ◌∙◌, ℕ, zero, suc, ◌+◌, ◌<◌, ◌≤◌, sym, ap, subst, refl, arith, true, false, Bool, List, [], ◌∷◌}
+use Rattle.std.proofs.Common.{◌≡◌, ◌∙◌, ℕ, ◌<◌, ◌≤◌, sym, ap, subst, refl, arith, true, false, Bool, List, [], ◌∷◌}
 use Rattle.std.specs.Prelude.{Option, Some, None, nat_le, if◌then◌else◌}
 use Rattle.std.proofs.lemmas.Bool.Decides.{nat_tests}
 use Rattle.pq_types.specs.Item.{Item}
@@ -13,14 +13,10 @@ use Rattle.pq_types.specs.declared.answer.Answer.TheVariants as answer
 use Rattle.pq_types.specs.Queue.{IsPush, reply_to}
 use Rattle.pq_types.specs.History.{left}
 use Rattle.leftist_heap.specs.Store.{first_of}
-use Rattle.desk_core.specs.declared.model.Call.{Call}
-use Rattle.desk_core.specs.declared.model.Standing.{Standing}
 use Rattle.desk_core.specs.declared.model.Word.{Word}
-use Rattle.desk_core.specs.declared.model.Word.TheVariants as word
 use Rattle.flat_queue.specs.Limits.{most_posts}
 use Rattle.flat_queue.specs.Members.{Joined}
-use Rattle.flat_queue.specs.Turns.{Misses}
-use Rattle.flat_queue.specs.Calling.{HasPostedOne, IsCalled, MakesCall, ended}
+use Rattle.flat_queue.specs.Calling.{IsCalled, MakesCall, ended}
 use Rattle.flat_queue.specs.OwnRequest.{EntersAtOnceBy}
 use Rattle.flat_queue.specs.UpTo.{request_up_to, told_up_to, ended_up_to, CarriesOutUpToBy, TellsUpTo, IsUpTo, MissesThenCarriesOutBy, PopsUpToBy}
 use Rattle.flat_queue.specs.declared.error.CallError.TheVariants.{Spent}

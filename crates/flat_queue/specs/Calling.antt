@@ -55,7 +55,7 @@ pub record KeepsTimes (before after : PenState) : Type 0 where
   pub begins : after.begins ≡ before.begins ++ (before.posts + 1, began) ∷ []
   pub ends : after.ends ≡ before.ends ++ (before.posts + 1, ended) ∷ []
 
--- The operation, a request or a removal by a ticket, was entered in the journal on the line of this number, for which the
+-- The operation, a request or the use of a ticket, was entered in the journal on the line of this number, for which the
 -- journal has room, and
 -- which is behind those of all its calls before, and behind the whole journal that it knew: that of its last release,
 -- and of the notes that it wrote and heard since,

@@ -13,7 +13,7 @@ pub mod Calling
 pub mod TimeOrder
 pub mod OwnRequest
 pub mod UpTo
-pub mod Removing
+pub mod Tickets
 pub mod Batches
 pub mod Limits
 pub mod Memory

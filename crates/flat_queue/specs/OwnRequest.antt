@@ -22,7 +22,7 @@ abbrev pub SweepsWhereBy : ℕ → Bool → Joined → Joined → Type 0
 SweepsWhereBy words true before after = (answers doors : ℕ) × IsTrailSweptBy words before answers doors after
 SweepsWhereBy words false before after = after ≡ before
 
--- The leader released the lock with this operation of its own, a request or a removal by a ticket, which was so answered as
+-- The leader released the lock with this operation of its own, a request or the use of a ticket, which was so answered as
 -- the one-thread queue may with the journal in its hand: on a line behind those of all its calls before, and BookFull
 -- where that journal was full. It posted nothing.
 pub record ReleasesOperation (before : Joined) (operation : Operation) (answer : Answer) (after : Joined) : Type 0 where

@@ -134,8 +134,8 @@ impl<S: Store<Entry<P>>, P: Part> Queue<S, P> {
         self.call_by(rt, member, request, &Open)
     }
 
-    /// Puts an item into the queue: the number of the push's journal line, which is the item's ticket: by it `remove` finds
-    /// the item. Where it finds the lock
+    /// Puts an item into the queue: the number of the push's journal line, which is the item's ticket: by it `remove` and
+    /// `reschedule` find the item. Where it finds the lock
     /// free it carries the request out at once, as `try_call` does; else it posts and waits, as `call`
     /// does. It is refused as `call` is, and takes memory where the store has to grow. Over stores that
     /// all have room for as many items as the journal has lines it is never refused for want of memory.

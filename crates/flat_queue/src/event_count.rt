@@ -192,7 +192,22 @@ impl EventCount {
     /// push, or for all, where the journal has no line left.
     pub(crate) fn count_own<P: Part>(&self, answer: &Answer<Item<P>>, room: u64) {
         if self.is_awaited() {
-            self.count(wakes_behind(answer, room));
+            let puts_in = matches!(answer, Answer::Entered(_, Reply::Pushed));
+            self.count(wakes_behind(puts_in, answer, room));
+        }
+    }
+
+    /// The same with the use of a ticket: an event, where that is a move that found its item, since another item may be the
+    /// first one now.
+    pub(crate) fn count_by_ticket<P: Part>(
+        &self,
+        moves: bool,
+        answer: &Answer<Item<P>>,
+        room: u64,
+    ) {
+        if self.is_awaited() {
+            let puts_in = moves && matches!(answer, Answer::Entered(_, Reply::Got(_)));
+            self.count(wakes_behind(puts_in, answer, room));
         }
     }
 
@@ -251,13 +266,13 @@ fn low_half(seen: u64) -> u32 {
     (seen & 0xffff_ffff) as u32
 }
 
-// How many may be woken behind a request that was so answered.
-fn wakes_behind<P: Part>(answer: &Answer<Item<P>>, room: u64) -> u64 {
+// How many may be woken behind what was so answered, and put an item in or didn't.
+fn wakes_behind<P: Part>(puts_in: bool, answer: &Answer<Item<P>>, room: u64) -> u64 {
     match answer {
         Answer::BookFull => u64::MAX,
         Answer::NoMemory => 0,
         Answer::Entered(number, _) if *number >= room => u64::MAX,
-        Answer::Entered(_, reply) => u64::from(matches!(reply, Reply::Pushed)),
+        Answer::Entered(_, _) => u64::from(puts_in),
     }
 }
 

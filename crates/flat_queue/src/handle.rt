@@ -241,7 +241,7 @@ impl<'q, S: Store<Entry<P>>, P: Part> Handle<'q, S, P> {
     pub fn archive<B: Allocator>(
         &mut self,
         archived: u64,
-        archive: &mut Vec<Line<Item<P>>, B>,
+        archive: &mut Vec<Line<P>, B>,
     ) -> Option<Result<u64, LinesError>>
         ensures queue { self.new.queue ≡ self.old.queue }
         ensures settles { IfSome result (λ _. Settles self.old (length self.new.pen.known) self.new) }

@@ -33,8 +33,9 @@
 //!   waits until it has the lock, chooses its request under it, and posts nothing. `Queue::take_first` looks so too, and
 //!   makes no request where the first item stays or there is none: a look in vain has no line.
 //! - `Queue::remove` removes an item by its ticket, the number of the journal line that put it in, wherever it waits, in a queue
-//!   whose stores can (`TicketStore`). It waits until it has the lock, and posts nothing; `Queue::carry_out_removal` does so
-//!   where it finds the lock free, and wakes nobody.
+//!   whose stores can (`TicketStore`). `Queue::reschedule` moves it so to another priority, by one line, whose number is its new
+//!   ticket. Both wait until they have the lock, and post nothing; `Queue::carry_out_by_ticket` does so where it finds the lock
+//!   free, and wakes nobody.
 //! - `Queue::count_items` counts the items under the lock, and makes no request. `Queue::carry_out_push_within` pushes only while
 //!   the queue has fewer items than a bound: it is refused exactly where as many are there.
 //! - `Queue::push_all` puts many items into the queue under one lock, and `Queue::pop_all_up_to` takes many out that are due
@@ -71,12 +72,12 @@
 //! - Over the product of the two machines, grid and desk, for every interleaving: a request that
 //!   was posted before a round began has its answer when the round ends (`laws::law_product_runs`).
 //!
-//! But for the opening only a sweep and a request of one's own take memory, for a push alone, and so a
+//! But for the opening only a sweep and an operation of one's own take memory, for a push or a move alone, and so a
 //! call that makes rounds. What the hint that somebody has posted says is beside all that is proved: its
 //! load and its store, with a post, a sweep and an own request, are no steps of the machine. So is the count
 //! of those who have joined, by which they nap, the event count by which takes sleep (that one is woken is no clause), and the
 //! backlog of an archive, which refuses nobody here.
-//! Only the four calls, `call_by`, `push_unless_shut`, `pop_up_to`, `remove`, `push_all`, `pop_all_up_to`, the six takes, `Pending::wait`,
+//! Only the four calls, `call_by`, `push_unless_shut`, `pop_up_to`, `remove`, `reschedule`, `push_all`, `pop_all_up_to`, the six takes, `Pending::wait`,
 //! `Rest::rest` and the sleeps of an `EventCount` may wait; that they return is not promised.
 //!
 //! That a sweep finds the posts of other members is proved of the product machine, and is no clause
@@ -108,13 +109,13 @@ mod others;
 mod own_request;
 pub mod pending;
 pub mod queue;
-pub mod removing;
 pub mod resting;
 mod searching;
 mod settling;
 mod shutting;
 pub mod taking;
 pub mod testimony;
+pub mod tickets;
 pub mod time_source;
 pub mod times;
 mod until_end;

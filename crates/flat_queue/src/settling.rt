@@ -36,7 +36,7 @@ impl<S: Store<Entry<P>>, P: Part> Queue<S, P> {
         &self,
         member: &mut Member<S, P>,
         archived: u64,
-        archive: &mut Vec<Line<Item<P>>, B>,
+        archive: &mut Vec<Line<P>, B>,
     ) -> Option<Result<u64, LinesError>>
         requires queue { member.old.queue ≡ self.now }
         ensures queue { member.new.queue ≡ member.old.queue }
@@ -65,7 +65,7 @@ pub(crate) fn law_one_room<S: Store<Entry<P>>, P: Part>(member: &Member<S, P>)
 fn archive_from<S: Store<Entry<P>>, B: Allocator, P: Part>(
     lead: &Lead<S, P>,
     archived: u64,
-    archive: &mut Vec<Line<Item<P>>, B>,
+    archive: &mut Vec<Line<P>, B>,
 ) -> Result<u64, LinesError>
     ensures { Archives lead.now.book.room archived lead.now.book.journal archive.old.items archive.new.items result }
 {

@@ -1,4 +1,4 @@
-use Rattle.std.proofs.Common.{◌≡◌, ◌∙◌, ◌+◌, ◌≤◌, sym, ap, subst, arith, true, false, None}
+use Rattle.std.proofs.Common.{◌≡◌, ◌∙◌, ◌+◌, ◌≤◌, sym, ap, subst, arith, true, false}
 use Rattle.std.specs.Prelude.{IfNone}
 use Rattle.split_grid.specs.Opening.{places_of}
 use Rattle.split_grid.specs.Tokens.{Resting}

@@ -1,5 +1,5 @@
 -- Each pen that was put away is that of its place, at the desk that the tag names.
-use Rattle.std.proofs.Common.{◌≡◌, ◌<◌, ◌∙◌, ap, sym, subst, length}
+use Rattle.std.proofs.Common.{◌≡◌, ◌<◌, ◌∙◌, sym, subst, length}
 use Rattle.std.proofs.lemmas.Option.{slice_get_within}
 use Rattle.announce_board.specs.Opening.{pen_of_place}
 use Rattle.flat_queue.proofs.opening.opened.Goals as goal

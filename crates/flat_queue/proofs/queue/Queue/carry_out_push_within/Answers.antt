@@ -1,4 +1,4 @@
-use Rattle.std.proofs.Common.{◌≡◌, ◌∙◌, ◌<◌, ◌≤◌, length, ap, subst, sym}
+use Rattle.std.proofs.Common.{◌∙◌, ◌<◌, ◌≤◌, length, ap, subst, sym}
 use Rattle.pq_types.specs.History.{left}
 use Rattle.pq_book.specs.Book.{Volume}
 use Rattle.flat_queue.specs.Counting.{items_known}

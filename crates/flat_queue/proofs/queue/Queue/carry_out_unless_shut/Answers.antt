@@ -1,3 +1,4 @@
+use Rattle.pq_types.specs.Operation.{Asked}
 use Rattle.flat_queue.proofs.OwnRequests.{is_ready, spare_own}
 use Rattle.flat_queue.proofs.queue.Queue.carry_out_unless_shut.Goals as goal
 
@@ -8,5 +9,5 @@ release_with-requires-clause-due g c =
 
 pub returns-clause-spare : goal.returns-clause-spare
 returns-clause-spare g c =
-    λ all e. spare_own g.S.Store.room c.serve_others-served.new.member c.release_with.new.member c.args.request c.release_with.result
+    λ all e. spare_own g.S.Store.room c.serve_others-served.new.member c.release_with.new.member (Asked c.args.request) c.release_with.result
     c.release_with.ensures.releases c.release_with.ensures.spare all (cc e)

@@ -1,5 +1,4 @@
-use Rattle.std.proofs.Common.{◌≡◌, ◌∙◌, List, length, ap, sym}
-use Rattle.pq_types.specs.Asked.{Line}
+use Rattle.std.proofs.Common.{◌∙◌, length, ap, sym}
 use Rattle.pq_types.specs.History.{left}
 use Rattle.pq_book.specs.Book.{Volume}
 use Rattle.flat_queue.specs.Counting.{items_known}

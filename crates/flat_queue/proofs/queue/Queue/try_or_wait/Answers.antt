@@ -2,7 +2,7 @@ use Rattle.std.proofs.Common.{◌≡◌, ◌<◌, arith, subst, sym}
 use Rattle.desk_core.specs.Words.{word_number}
 use Rattle.flat_queue.specs.Limits.{most_posts}
 use Rattle.flat_queue.specs.Members.{HasRoomForAll}
-use Rattle.flat_queue.proofs.OwnRequests.{HasTried, all_left, one_less, entered_later, waited_later}
+use Rattle.flat_queue.proofs.OwnRequests.{HasTried, one_less, entered_later, waited_later}
 use Rattle.flat_queue.proofs.queue.Queue.try_or_wait.Goals as goal
 
 pub returns-in-Some : goal.returns-in-Some

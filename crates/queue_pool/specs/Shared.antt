@@ -3,6 +3,7 @@ use Rattle.std.specs.Prelude.{◌≡◌, ℕ, ◌<◌, ◌≤◌, true, false, L
 use Rattle.std.specs.List.{All}
 use Rattle.pq_types.specs.Item.{Item}
 use Rattle.pq_types.specs.Asked.{Request}
+use Rattle.pq_types.specs.Operation.{Ticketed, Remove, Move}
 use Rattle.pq_types.specs.Control.{is_answer}
 use Rattle.announce_board.specs.Tokens.{is_idle}
 use Rattle.announce_board.specs.Asking.{LooksBy, IsAnswerTo}
@@ -12,7 +13,7 @@ use Rattle.flat_queue.specs.OwnRequest.{CarriesOutBy}
 use Rattle.flat_queue.specs.Ending.{IsShutOut}
 use Rattle.flat_queue.specs.Turns.{FindsLockHeld}
 use Rattle.flat_queue.specs.UpTo.{CarriesOutUpToBy, TellsUpTo}
-use Rattle.flat_queue.specs.Removing.{CarriesOutRemovalBy, TellsRemoval}
+use Rattle.flat_queue.specs.Tickets.{CarriesOutByTicket, TellsFound}
 use Rattle.flat_queue.specs.Looking.{LooksFirstBy}
 use Rattle.flat_queue.specs.declared.looking.Wanted.{Wanted}
 use Rattle.flat_queue.specs.Counting.{CountsBy, PushesWithinBy, IsUnpushedBy}
@@ -86,15 +87,23 @@ TriesUpToBy words bound before (tried.Answered answer) after =
     MayCall before × CarriesOutUpToBy words bound before answer after × TellsUpTo bound answer
 
 -- The last request is not answered yet, or no serial is left, and nothing was done; or the member found
--- the lock held; or it carried a removal by this ticket out itself, and this is the answer.
-abbrev pub TriesRemovalBy : ℕ → ℕ → Joined → Tried → Joined → Type 0
-TriesRemovalBy words ticket before tried.Waits after = (is_idle before.pen.standing ≡ false) × (after ≡ before)
-TriesRemovalBy words ticket before tried.Spent after =
+-- the lock held; or it carried this use of a ticket out itself, and this is the answer. A queue that is shut lets it through.
+abbrev pub TriesTicketBy : ℕ → Ticketed → Joined → Tried → Joined → Type 0
+TriesTicketBy words ticketed before tried.Waits after = (is_idle before.pen.standing ≡ false) × (after ≡ before)
+TriesTicketBy words ticketed before tried.Spent after =
     (is_idle before.pen.standing ≡ true) × (most_posts before.queue.room ≤ before.pen.posts) × (after ≡ before)
-TriesRemovalBy words ticket before tried.LockHeld after = MayCall before × FindsLockHeld before after
-TriesRemovalBy words ticket before tried.Shut after = ⊥
-TriesRemovalBy words ticket before (tried.Answered answer) after =
-    MayCall before × CarriesOutRemovalBy words ticket before answer after × TellsRemoval answer
+TriesTicketBy words ticketed before tried.LockHeld after = MayCall before × FindsLockHeld before after
+TriesTicketBy words ticketed before tried.Shut after = ⊥
+TriesTicketBy words ticketed before (tried.Answered answer) after =
+    MayCall before × CarriesOutByTicket words ticketed before answer after × TellsFound ticketed answer
+
+-- the same of a removal by this ticket
+abbrev pub TriesRemovalBy : (words ticket : ℕ) → Joined → Tried → Joined → Type 0
+TriesRemovalBy words ticket before tried after = TriesTicketBy words (Remove ticket) before tried after
+
+-- and of a move of the item with this ticket to this priority
+abbrev pub TriesMoveBy : (words ticket priority : ℕ) → Joined → Tried → Joined → Type 0
+TriesMoveBy words ticket priority before tried after = TriesTicketBy words (Move ticket priority) before tried after
 
 -- The last request is not answered yet, or no serial is left, and nothing was done; or the member found
 -- the lock held; or it looked at the first item, and took it out where it wanted it.

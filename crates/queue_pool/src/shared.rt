@@ -14,14 +14,14 @@ ghost use Rattle.flat_queue.specs.Memory.{HasSpareRoom};
 ghost use Rattle.flat_queue.specs.Settling.{Archives, Settles};
 ghost use Rattle.flat_queue.specs.TrailSweeping.{MakesTrailRoundBy};
 ghost use Rattle.queue_pool.specs.Shared.{SeesBy, TriesBy, TriesUpToBy, TriesFirstBy, TriesPushesBy, TriesPopsBy};
-ghost use Rattle.queue_pool.specs.Shared.{TriesCountBy, TriesPushWithinBy, TriesRemovalBy};
+ghost use Rattle.queue_pool.specs.Shared.{TriesCountBy, TriesPushWithinBy, TriesTicketBy, TriesRemovalBy, TriesMoveBy};
 
 use flat_queue::{
     Backlog, Batch, EventCount, Looked, Member, Queue, Round, Shut, Unpushed, Wanted,
 };
 use leftist_heap::{Store, TicketStore};
 use pq_book::{Entry, LinesError};
-use pq_types::{Answer, Item, Line, Part, Request};
+use pq_types::{Answer, Item, Line, Part, Request, Ticketed};
 use std::alloc::{Allocator, Global};
 use std::marker::Model;
 use std::sync::Arc;
@@ -373,7 +373,7 @@ impl<S: Store<Entry<P>>, P: Part> SharedHandle<S, P> {
     pub fn archive<B: Allocator>(
         &mut self,
         archived: u64,
-        archive: &mut Vec<Line<Item<P>>, B>,
+        archive: &mut Vec<Line<P>, B>,
     ) -> Option<Result<u64, LinesError>>
         ensures queue { self.new.queue ≡ self.old.queue }
         ensures settles { IfSome result (λ _. Settles self.old (length self.new.pen.known) self.new) }
@@ -402,13 +402,34 @@ impl<S: TicketStore<Entry<P>>, P: Part> SharedHandle<S, P> {
     pub fn try_remove(&mut self, ticket: u64) -> Tried<Item<P>>
         ensures { TriesRemovalBy (word_number P.wide) ticket self.old result self.new }
     {
+        self.try_ticket(Ticketed::remove(ticket))
+    }
+
+    /// Moves the item with this ticket to this priority itself, wherever it waits, where the last request is answered, not all
+    /// serials are spent, and it finds the lock free, as `Queue::reschedule` does: the answer is `Got` with the item as it was,
+    /// and its line is the item's new ticket; or `Empty` where it no longer waits. A queue that is shut lets it through, as
+    /// nothing new comes in. Takes memory where the store has to grow, and never waits.
+    pub fn try_reschedule(&mut self, ticket: u64, priority: P) -> Tried<Item<P>>
+        ensures moves { TriesMoveBy (word_number P.wide) ticket (P.number priority) self.old result self.new }
+        ensures memory { HasRoomForAll S.room self.old.queue → result ≢ Tried.Answered Answer.NoMemory }
+        ensures spare { HasSpareRoom S.room self.new.pen.known → result ≢ Tried.Answered Answer.NoMemory }
+    {
+        self.try_ticket(Ticketed::reschedule(ticket, priority))
+    }
+
+    /// What `try_remove` and `try_reschedule` do, of which this says the one.
+    pub fn try_ticket(&mut self, ticketed: Ticketed<P>) -> Tried<Item<P>>
+        ensures tries { TriesTicketBy (word_number P.wide) ticketed self.old result self.new }
+        ensures memory { HasRoomForAll S.room self.old.queue → result ≢ Tried.Answered Answer.NoMemory }
+        ensures spare { HasSpareRoom S.room self.new.pen.known → result ≢ Tried.Answered Answer.NoMemory }
+    {
         if !self.member.is_idle() {
             return Tried::Waits;
         }
         if self.member.posts() >= self.queue.most_posts() {
             return Tried::Spent;
         }
-        if let Some(answer) = self.queue.carry_out_removal(&mut self.member, ticket) {
+        if let Some(answer) = self.queue.carry_out_by_ticket(&mut self.member, ticketed) {
             return Tried::Answered(answer);
         }
         Tried::LockHeld

@@ -18,13 +18,13 @@ use pq_types::{Answer, Deed, Item, Line, Operation, Part, Reply, Ticketed};
 use std::alloc::Allocator;
 
 impl<S: TicketStore<Entry<P>>, A: Allocator, P: Part> Book<S, A, P> {
-    /// Takes the item out that has this ticket, the number of the line that put it in, where it still waits; or puts it behind
-    /// all of another priority, where this line's number is its ticket from then on. Enters that in the journal: the reply is
-    /// the item as it was, or Empty where it was popped, removed or moved before or no such line put one in, and then the
-    /// content stays as it was. It answers BookFull exactly where the journal is full, and NoMemory only to a move of an item
-    /// that waits: one for which the store could not grow, or which found 4,294,967,295 items in it. After these two nothing
-    /// has changed. Where `apply` never answers NoMemory to a push, this never does. The serial is above each one that the
-    /// place has in the journal.
+    /// Uses a ticket, the number of the line that put an item in, and enters that in the journal. A removal takes the item out,
+    /// where it still waits. A move puts it behind all of another priority, and this line's number is its ticket from then on.
+    /// The reply is the item as it was. Where it was popped, removed or moved before, or no such line put one in, the reply is
+    /// Empty, and the content stays as it was. It answers BookFull exactly where the journal is full, and NoMemory only to a
+    /// move of an item that waits: the store could not grow, or had 4,294,967,295 items. After these two nothing has changed.
+    /// Where `apply` never answers NoMemory to a push, this never does. The serial is above each one that the place has in
+    /// the journal.
     pub fn apply_by_ticket(
         &mut self,
         place: u16,
@@ -140,8 +140,8 @@ fn found<S: TicketStore<Entry<P>>, P: Part>(store: &S, ticket: u64) -> Option<It
     }
 }
 
-// Puts the item in behind all of its priority, as an entry of this line, and takes that of the ticket out: or does nothing,
-// where memory was refused. The new entry goes in first, so that a refusal has nothing to mend.
+// Puts the item in behind all of its priority, as an entry of this line, and takes the ticket's entry out. Where memory is
+// refused, it does nothing: the new entry goes in first, so that a refusal has nothing to mend.
 fn put_behind<S: TicketStore<Entry<P>>, P: Part>(
     store: &mut S,
     line: u64,

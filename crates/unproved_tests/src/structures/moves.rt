@@ -1,6 +1,6 @@
 // Books whose items are popped, removed and moved: random calls beside a list in order, and the audit of their journals.
 use crate::structures::removals::Numbers;
-use leftist_heap::{TicketHeap, TreePlaces};
+use leftist_heap::{Level, TicketHeap, TreePlaces};
 use line_script::RunError;
 use pq_book::{Book, Entry};
 use pq_types::{Answer, Item, Reply, Request, Ticketed};
@@ -108,7 +108,7 @@ impl Pair {
     }
 }
 
-fn pair(alloc: Global) -> Option<Pair> {
+fn opened(alloc: Global) -> Option<Pair> {
     let store = TicketHeap::new(alloc, TreePlaces::bare(alloc));
     match Book::new(alloc, store, 300_000) {
         Ok(book) => Some(Pair {
@@ -122,7 +122,7 @@ fn pair(alloc: Global) -> Option<Pair> {
 
 #[test]
 fn a_book_moves_and_removes_as_a_list_does(rt: HostRuntime) {
-    let mut pair = pair(rt.alloc()).expect(&rt, "there is memory");
+    let mut pair = opened(rt.alloc()).expect(&rt, "there is memory");
     assert!(rt; pair.agrees(300_000, 23));
 }
 
@@ -133,7 +133,7 @@ fn audited(alloc: Global, text: &[u8]) -> Result<AuditReport, RunError<AuditRefu
 
 #[test]
 fn the_journal_of_random_calls_is_lawful(rt: HostRuntime) {
-    let mut pair = pair(rt.alloc()).expect(&rt, "there is memory");
+    let mut pair = opened(rt.alloc()).expect(&rt, "there is memory");
     assert!(rt; pair.agrees(20_000, 29));
     let mut text = Vec::new(rt.alloc());
     write_journal(pair.book.lines().older, &mut text).expect(&rt, "there is memory");

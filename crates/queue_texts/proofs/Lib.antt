@@ -15,6 +15,7 @@ pub mod SeqLemmas
 pub mod Shapes
 pub mod SingleWalk
 pub mod Spelled
+pub mod SumsAgree
 pub mod WalkLemmas
 pub mod Widened
 pub mod Writing

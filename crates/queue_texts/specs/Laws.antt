@@ -13,6 +13,9 @@ use Rattle.queue_texts.specs.ItemText.{item_text}
 use Rattle.queue_texts.specs.Command.{Spells}
 use Rattle.line_script.specs.Lines.{lines_of}
 use Rattle.queue_texts.specs.LineText.{line_text, journal_text, IsInRange, HasReplyOfItsKind, IsLineText, IsNoLineFor}
+use Rattle.pq_types.specs.History.{IsLegal}
+use Rattle.queue_texts.specs.declared.report.AuditReport.{AuditReport}
+use Rattle.queue_texts.specs.Report.{IsReportOf}
 use Rattle.queue_texts.specs.Audit.{SpellsFrom, IsLawful}
 
 -- the run ended as its script says: no fault came, and memory was not refused
@@ -55,6 +58,11 @@ AreWritable wide n (l ∷ ls) = IsInRange wide n l × HasReplyOfItsKind l × Are
 abbrev pub WrittenIsSpelled : Type 0
 WrittenIsSpelled = (wide : Bool) (n : ℕ) (journal : List Line) → AreWritable wide n journal
     → SpellsFrom wide n (lines_of (journal_text n journal)) journal
+
+-- In the report of a legal history the two sums are equal, and each item that was pushed was popped, removed or left.
+abbrev pub SumsAgree : Type 0
+SumsAgree = (journal : List Line) (r : AuditReport) → IsLegal journal → IsReportOf journal r
+    → (r.sum_in ≡ r.sum_out_and_left) × (r.pushed ≡ r.got + r.left)
 
 -- the first lines of a lawful journal, however many, are a lawful one
 abbrev pub PrefixIsLawful : Type 0

@@ -1,6 +1,6 @@
 // What holds of the definitions alone, whatever code there is. A call of a law runs nothing: it
 // hands the law's facts to the proof of its caller.
-ghost use Rattle.queue_texts.specs.Laws.{ItemsAreReadBack, LinesAreReadBack, LinesAreReadOnce, OneTextOfAWalk, PrefixIsLawful, WrittenIsSpelled};
+ghost use Rattle.queue_texts.specs.Laws.{ItemsAreReadBack, LinesAreReadBack, LinesAreReadOnce, OneTextOfAWalk, PrefixIsLawful, SumsAgree, WrittenIsSpelled};
 ghost use Rattle.queue_texts.specs.Audit.{LawfulIsNotRefused, NarrowIsWide};
 
 /// An item that is written is read back.
@@ -43,6 +43,11 @@ pub fn law_lawful_is_not_refused()
 {
     law_lines_are_read_once();
 }
+
+/// The sums of a report agree: what was put in, by pushes and moves, was taken out, by pops, removals and moves, or is left.
+pub fn law_sums_agree()
+    ensures { SumsAgree }
+{}
 
 /// A prefix of a lawful journal is a lawful one.
 pub fn law_prefix_is_lawful()

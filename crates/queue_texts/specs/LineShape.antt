@@ -62,8 +62,8 @@ HasRequest k parts (request.Push x) = (k ≡ kind.Push) × AreParts parts x
 HasRequest k parts request.Pop = (k ≡ kind.Pop) × AreNone parts
 HasRequest k parts request.Least = (k ≡ kind.Least) × AreNone parts
 
--- the same of operations: of a removal there is the ticket, and of a move the ticket and the new priority, of which those with
--- more than 64 bits are not told apart
+-- The same of operations: of a removal there is the ticket, of a move the ticket and the new priority. Those with more than 64
+-- bits are not told apart.
 abbrev pub HasOperation : Named → Operation → Type 0
 HasOperation (named.Asked k parts) (Asked q) = HasRequest k parts q
 HasOperation (named.Asked k parts) (ByTicket t) = ⊥

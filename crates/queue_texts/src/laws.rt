@@ -14,8 +14,8 @@ pub fn law_lines_are_read_back()
     ensures { LinesAreReadBack }
 {}
 
-/// What is written of a journal spells it, whatever its lines do and however large their numbers are: so an audit takes what
-/// `write_journal` wrote of a lawful one.
+/// What is written of a journal spells it, however large its numbers are. So an audit takes what `write_journal` wrote of a
+/// lawful one.
 pub fn law_written_is_spelled()
     ensures { WrittenIsSpelled }
 {}

@@ -57,8 +57,8 @@ pub(crate) fn text_of<P: Part>(number: u64, line: &Line<P>) -> ArrayVec<u8, LONG
 
 /// Puts the text of the journal line with this number behind what is there, ended by a line feed:
 /// number, place, serial, operation and reply, with one space between, as `7 3 2 push 5 1 pushed`,
-/// `9 0 5 pop empty`, `12 0 6 remove 7 got 5 1` or `13 0 7 move 8 9 got 5 1`, which moves the item with ticket 8, of
-/// priority 5 so far, to priority 9. Where memory for it is refused, nothing is put there.
+/// `9 0 5 pop empty`, `12 0 6 remove 7 got 5 1` or `13 0 7 move 8 9 got 5 1`. The last
+/// moves the item with ticket 8, of priority 5 so far, to priority 9. Where memory for it is refused, nothing is put there.
 pub fn append_line<P: Part, A: Allocator>(
     number: u64,
     line: &Line<P>,

@@ -1,9 +1,8 @@
 /*
  * flatpq: a priority queue that threads share, for C, C++ and any language that can call C.
  *
- * An item has a priority and a value, of 64 bits each. The item with the smallest priority comes out first; items of equal priority come
- * out in the order in which they were pushed. Each request that takes effect has an entry in the queue's journal. Entries are numbered in
- * the order in which the requests took effect.
+ * An item has a priority and a value, of 64 bits each. The smallest priority comes out first, and equal ones in the order in which they were
+ * pushed or moved there. Each request that takes effect has an entry in the queue's journal. Entries are numbered in the order of effect.
  *
  *     pq_queue *queue;
  *     pq_item item = { 3, 7 };
@@ -15,13 +14,12 @@
  * Most calls take `until`, the time until which they may wait for other threads: a time of pq_now, PQ_NOW (never wait), or PQ_FOREVER. A
  * call that returns PQ_TIMED_OUT has done nothing, and nothing of it happens later. No call is a cancellation point, except pq_write.
  *
- * All that a thread does before it pushes an item happens before whatever a thread does after a call that returned this item. So a value
- * may be a pointer.
+ * All that a thread does before it pushes or moves an item happens before what another does after a call that returned it. So a value may be
+ * a pointer.
  *
- * Nothing checks these duties of the caller. Pointers are valid. A member that was joined is in one call at a time. No call is
- * made from a signal handler, and none is left by longjmp. A queue, member or journal is not used after it was freed. A queue itself, and
- * pq_own(queue), may be in calls of many threads at once.
- * A thread that dies inside a call may hold the queue's lock for ever. Then calls with a deadline time out, and the others hang.
+ * Nothing checks these duties of the caller. Pointers are valid. A member that was joined is in one call at a time; a queue, and
+ * pq_own(queue), may be in calls of many threads. No call is made from a signal handler, or left by longjmp. Nothing is used after it was
+ * freed. A thread that dies in a call may hold the queue's lock for ever: calls with a deadline time out then, and the others hang.
  */
 #ifndef FLATPQ_H
 #define FLATPQ_H
@@ -73,7 +71,7 @@ typedef enum pq_code {
     PQ_NOT_READ = 56,     /* a read failed */
     PQ_NO_TIMER = 57,     /* the descriptor is no timerfd */
     PQ_GONE = 58,         /* no item waits under this ticket */
-    PQ_NO_TICKETS = 59,   /* the queue was not opened for removals by ticket */
+    PQ_NO_TICKETS = 59,   /* the queue was not opened with tickets */
     PQ_FORKED = 60,       /* this process is a forked child of one that had opened a queue */
     PQ_PROCESSOR = 61,    /* the processor has no SSE4.1 */
     PQ_TIMED_OUT = 62,    /* other threads had the lock, or all members, until then: nothing was done */
@@ -86,12 +84,10 @@ const char *pq_code_text(uint32_t code);
 /* The version of the library. Library and header fit together if both have the same major and minor version. */
 uint32_t pq_version(void);
 
-/* Times are nanoseconds of CLOCK_MONOTONIC. */
+/* Times are nanoseconds of CLOCK_MONOTONIC. pq_after: so many from now; PQ_FOREVER where there is no such time. */
 #define PQ_NOW 0u
 #define PQ_FOREVER UINT64_MAX
 uint64_t pq_now(void);
-
-/* The time so many nanoseconds from now; PQ_FOREVER where there is no such time. */
 uint64_t pq_after(uint64_t nanoseconds);
 
 typedef struct pq_item {
@@ -99,9 +95,7 @@ typedef struct pq_item {
     uint64_t value;
 } pq_item;
 
-/*
- * Opening and ending a queue. Any thread may make these calls at any time.
- */
+/* Opening and ending a queue. Any thread may make these calls at any time. */
 
 /* What happens to the journal's older entries. */
 enum pq_keeping {
@@ -115,7 +109,7 @@ typedef struct pq_options {
     uint32_t members; /* how many members there may be at once: 1 to 64; 0 is 64 */
     uint32_t keeping; /* of enum pq_keeping */
     uint32_t entries;
-    uint32_t tickets;    /* 1: items can be removed by ticket (pq_remove), and pushes and pops take a little longer; 0: they can't */
+    uint32_t tickets;    /* 1: items can be removed or moved by ticket (pq_remove), and pushes and pops take a little longer; 0: they can't */
     uint64_t time_zero;  /* for what is due: the priority of the time 0 of pq_now */
     uint64_t time_unit;  /* for what is due: how many nanoseconds a priority is later than the one before it; 0 is 1 */
     uint64_t most_items; /* how many items the queue may have: a push waits until there are fewer (pq_push); 0: no bound */
@@ -139,15 +133,12 @@ PQ_CHECKED pq_code pq_close(pq_queue *queue, pq_journal **journal);
    thread that frees the memory. queue may be NULL. */
 void pq_free(pq_queue *queue, void (*left)(void *context, pq_item item), void *context);
 
-/*
- * Members.
- */
+/* Members. */
 
-/* The calling thread's own member, as a pointer that all threads may share. A thread gets a member of its own at its first call, and gives
-   it back when it ends. Where all members are in use, the call takes over one that another thread has and does not use. If there is none,
-   it waits for one until its `until`. So more threads than members may call. A thread that waits for an item, or for room, keeps its member
-   meanwhile. So open a queue for more members than there are threads that wait: else the call that would end their wait may itself wait for
-   ever. */
+/* The calling thread's own member, as a pointer that all threads may share. A thread gets its member at its first call, and gives it back when
+   it ends. Where all members are in use, a call takes over one that its thread does not use, or waits for one until its `until`. So more
+   threads than members may call. A thread that waits for an item, or for room, keeps its member meanwhile. So open a queue for more members
+   than threads that wait: else the call that would end their wait may itself wait for ever. */
 pq_member *pq_own(pq_queue *queue);
 
 /* Gives the calling thread's own member back now, if the thread has one. */
@@ -170,8 +161,8 @@ uint32_t pq_place(pq_member *member);
  * may be NULL; else *number is the number of the journal entry, if there is one.
  */
 
-/* Puts an item in. Where the queue has as many items as pq_options allow it, the call waits until a pop makes room, and keeps its member
-   meanwhile. PQ_OK; PQ_FULL: there was no room until then; PQ_SHUT, PQ_NO_MEMORY. */
+/* Puts an item in. Where the queue has as many items as pq_options allow, the call waits until one goes out, and keeps its member meanwhile.
+   PQ_OK; PQ_FULL: there was no room until then; PQ_SHUT, PQ_NO_MEMORY. */
 PQ_CHECKED pq_code pq_push(pq_member *member, pq_item item, uint64_t until, uint64_t *number);
 
 /* Take the first item out, or only return it. They don't wait for an item. PQ_OK; PQ_EMPTY, which has an entry too. */
@@ -191,9 +182,9 @@ PQ_CHECKED pq_code pq_take_due(pq_member *member, pq_item *item, uint64_t until,
 
 /* Put `count` items in, or take up to `room` items out whose priorities are at most this one. *done is how many, and *number the number of the
    first one's entry. A refusal ends the batch after that many; where that is none, *number stays as it was. Up to 64 items go under one lock,
-   and have consecutive entries. A larger batch is made in parts, and so is one that could make memory forget an unarchived entry. Where the
-   number of items is bounded, the pushes are made one after the other, and each waits for room. A pop returns PQ_OK if it took an item, or if
-   `room` is 0; PQ_NOT_DUE: items[0] is the first item, and stays; PQ_EMPTY. */
+   and have consecutive entries. A larger batch is made in parts, and so is one that could make memory forget an unarchived entry. Pushes to a
+   queue with a bound are made one by one, and each waits for room. A pop returns PQ_OK if it took an item, or if `room` is 0; PQ_NOT_DUE:
+   items[0] is the first item, and stays; PQ_EMPTY. */
 PQ_CHECKED pq_code pq_push_many(pq_member *member, const pq_item *items, size_t count, uint64_t until, size_t *done, uint64_t *number);
 PQ_CHECKED pq_code pq_pop_due_many(pq_member *member, uint64_t priority, pq_item *items, size_t room, uint64_t until, size_t *done,
                                    uint64_t *number);
@@ -201,18 +192,20 @@ PQ_CHECKED pq_code pq_pop_due_many(pq_member *member, uint64_t priority, pq_item
 /* How many items the queue has, exactly, at one moment of the call. It has no entry. PQ_OK. */
 PQ_CHECKED pq_code pq_size(pq_member *member, uint64_t until, uint64_t *size);
 
-/* Takes the item out that the push with this entry number put in, wherever it waits: that number is the item's ticket. No other call returns
-   the item then. PQ_OK; PQ_GONE: it was taken out before, or no push has this number, which has an entry too; PQ_NO_TICKETS. */
+/* Takes the item of this ticket out, wherever it waits: the ticket is the number of the entry that put it in. No other call returns it then. Also
+   of a queue that is shut. PQ_OK; PQ_GONE: no item waits under this ticket, which has an entry too; PQ_NO_TICKETS. */
 PQ_CHECKED pq_code pq_remove(pq_member *member, uint64_t ticket, pq_item *item, uint64_t until, uint64_t *number);
 
-/*
- * For programs that never wait: post a request, and poll for its answer. Until then a thread that posts by pq_own keeps its member.
- */
+/* Moves the item of this ticket to this priority, after all items of that one, in one step: *number is its ticket from now on. Also of a queue
+   that is shut or full. PQ_OK; PQ_GONE, which has an entry too; PQ_NO_TICKETS; PQ_NO_MEMORY: the item stays as it was. */
+PQ_CHECKED pq_code pq_reschedule(pq_member *member, uint64_t ticket, uint64_t priority, uint64_t until, uint64_t *number);
 
-enum pq_request { PQ_PUSH = 0, PQ_POP = 1, PQ_PEEK = 2, PQ_REMOVE = 3 };
+/* For programs that never wait: post a request, and poll for its answer. Until then a thread that posts by pq_own keeps its member. */
 
-/* Posts a request, for the next thread that combines. PQ_OK; PQ_SHUT; PQ_BAD_REQUEST, also for PQ_REMOVE, and for a push where the
-   number of items is bounded. */
+enum pq_request { PQ_PUSH = 0, PQ_POP = 1, PQ_PEEK = 2, PQ_REMOVE = 3, PQ_RESCHEDULE = 4 };
+
+/* Posts a push, a pop or a peek, for the next thread that combines. PQ_OK; PQ_SHUT; PQ_BAD_REQUEST, also for a push where the number of
+   items is bounded. */
 PQ_CHECKED pq_code pq_post(pq_member *member, uint32_t request, pq_item item);
 
 /* Polls for the answer to the posted request: what its call would have returned; PQ_PENDING: none yet; PQ_NOT_PENDING. */
@@ -221,38 +214,33 @@ PQ_CHECKED pq_code pq_poll(pq_member *member, pq_item *item, uint64_t *number);
 /* Carries out the requests that members have posted. PQ_OK; PQ_TIMED_OUT: another thread has the lock. */
 pq_code pq_combine(pq_member *member);
 
-/*
- * For event loops and futures. A thread that listens by pq_own keeps its member meanwhile.
- */
+/* For event loops and futures. A thread that listens by pq_own keeps its member meanwhile. */
 
 /* Takes the first item out if it is due (pq_take_due); else the member listens by `timer`, a timerfd of CLOCK_MONOTONIC that no other member
-   has. It becomes readable once the first item is due, after a push of an earlier one or a shut, or sometimes for nothing. Then make this call
-   again, until it does not return PQ_OK. The program neither sets nor reads the timer, and closes it after pq_unlisten. The call never waits.
-   PQ_OK; PQ_NOT_DUE: it listens, and *item is the first item, and stays; PQ_EMPTY: it listens; PQ_SHUT; PQ_NO_TIMER; or a refusal. */
+   has. It becomes readable once the first item is due, after a push or move of an earlier one or a shut, or sometimes for nothing. Then make
+   this call again, until it does not return PQ_OK. The program neither sets nor reads the timer, and closes it after pq_unlisten. The call never
+   waits. PQ_OK; PQ_NOT_DUE: it listens, and *item is the first item, and stays; PQ_EMPTY: it listens; PQ_SHUT; PQ_NO_TIMER; or a refusal. */
 PQ_CHECKED pq_code pq_take_due_or_listen(pq_member *member, int timer, pq_item *item, uint64_t *number);
 
 /* Takes the first item out if its priority is at most this one; else the member listens. The call never waits.
    PQ_OK; PQ_EMPTY: it listens; PQ_NOT_DUE: it listens, and *item is the first item, and stays: call again when that is due at the latest;
-   PQ_SHUT; or a refusal. While the member listens, notify(context) is called once, after a push or a shut, or sometimes for nothing. It runs
-   in any thread that calls the queue, or in this call itself where another thread holds the lock for long. Then make this call again. notify
-   must not wait or call this library. All that listen so shall pass the same bound, or the current time: a push notifies one of them. */
+   PQ_SHUT; or a refusal. While the member listens, notify(context) is called once, after a push, a move or a shut, or sometimes for nothing. It
+   runs in any thread that calls the queue, or in this call itself where another thread holds the lock for long. Then make this call again.
+   notify must not wait or call this library. All that listen so shall pass the same bound, or the current time: a push notifies one. */
 PQ_CHECKED pq_code pq_take_or_listen(pq_member *member, uint64_t priority, pq_item *item, uint64_t *number,
                                      void (*notify)(void *context), void *context);
 
-/* Ends the listening: once this returns, notify is not running and is not called again, nor is the timer set. 1: the member listened, and was
-   not notified. */
+/* Ends the listening: then notify neither runs nor is called again, nor is the timer set. 1: the member listened, and was not notified. */
 int pq_unlisten(pq_member *member);
 
 /* A notify that writes to an eventfd. context is its number: pq_notify_fd, (void *)(intptr_t)fd. The event loop reads the descriptor first,
    and then takes items until there is none. */
 void pq_notify_fd(void *context);
 
-/*
- * Journals: of a closed queue, copied from an open one, or read back from text. Many threads may read one.
- */
+/* Journals: of a closed queue, copied from an open one, or read back from text. Many threads may read one. */
 
-/* An entry: its number, from 1; how many requests its member had made, this one included; the member's place; the request, with the item of
-   a push, or the ticket of a removal; and the reply, PQ_OK or PQ_EMPTY, with the item of a pop, a peek or a removal. */
+/* An entry: its number, from 1; how many requests its member had made, this one included; the member's place; the request; the reply, PQ_OK or
+   PQ_EMPTY; and the item that a push put in, or that another request found, as it was then. */
 typedef struct pq_entry {
     uint64_t number;
     uint64_t serial;
@@ -261,7 +249,8 @@ typedef struct pq_entry {
     uint32_t reply;
     uint32_t unused;
     pq_item item;
-    uint64_t ticket; /* 0 where it is no removal */
+    uint64_t ticket;   /* of PQ_REMOVE and PQ_RESCHEDULE; else 0 */
+    uint64_t priority; /* of PQ_RESCHEDULE the one that the item gets; else 0 */
 } pq_entry;
 
 /* Copies the entries after the first `archived`, and counts those first ones as archived from now on. No call checks that there are so many:
@@ -270,8 +259,8 @@ typedef struct pq_entry {
 PQ_CHECKED pq_code pq_archive(pq_member *member, uint64_t archived, uint64_t until, pq_journal **journal);
 
 /* Waits until a pq_archive of the queue has counted the entry of this number as archived. An archiver passes `archived` on once these entries
-   are on disk: then this returns, in all threads that wait. What the archiver did before that happens before whatever a thread does after
-   PQ_OK. PQ_OK; PQ_TIMED_OUT, PQ_FORKED; PQ_CLOSED: the queue is closed or freed, and the entry not archived. */
+   are on disk. What it did before that happens before what a thread does after PQ_OK.
+   PQ_OK; PQ_TIMED_OUT, PQ_FORKED; PQ_CLOSED: the queue is closed or freed, and the entry not archived. */
 PQ_CHECKED pq_code pq_wait_archived(pq_queue *queue, uint64_t number, uint64_t until);
 
 /* Returns how many entries the journal has. before may be NULL; else *before is how many came before them. */
@@ -280,20 +269,18 @@ size_t pq_count(const pq_journal *journal, uint64_t *before);
 /* Reads the entry of this index, from 0. PQ_OK; PQ_NO_ENTRY. */
 PQ_CHECKED pq_code pq_read(const pq_journal *journal, size_t index, pq_entry *entry);
 
-/* Writes an entry as text, with a line feed and a zero at its end: `7 3 2 push 5 1 pushed`, `9 0 5 pop empty`,
-   `11 4 3 remove 7 got 5 1`. Returns its length. A peek is
-   written as `least`. */
+/* Writes an entry as text, with a line feed and a zero at its end: `7 3 2 push 5 1 pushed`, `9 0 5 pop empty`, `11 4 3 remove 7 got 5 1`.
+   A peek is written as `least`, and a reschedule as `move 7 9 got 5 1`, with ticket and new priority. Returns the length. */
 #define PQ_TEXT_ROOM 160
 size_t pq_text(const pq_entry *entry, char text[PQ_TEXT_ROOM]);
 
 /* Writes all entries as text to a file descriptor. PQ_OK; PQ_NOT_WRITTEN: a part may be written. */
 PQ_CHECKED pq_code pq_write(const pq_journal *journal, int file);
 
-/* Reads a journal back from a file descriptor, to the end of the file. It reads the text that pq_write writes, of a journal from entry 1 on.
-   Each line is checked: its number is the next one, and its reply follows from the entries before it. The journal is as that of a closed
-   queue, and keeps the last 65536 entries. line may be NULL; else *line is how many lines are read.
-   PQ_OK; PQ_TORN: the last line has no line feed and is left out, *journal has those before it; PQ_NOT_LAWFUL: *line is the number of the
-   line that is refused, *journal is NULL; PQ_NOT_READ, PQ_NO_MEMORY, PQ_PROCESSOR: *journal is NULL. */
+/* Reads a journal back from a file descriptor, to the end of the file: the text that pq_write writes, of a journal from entry 1 on. Each line is
+   checked: its number is the next one, and its reply follows from the entries before it. The journal is as that of a closed queue, and keeps
+   the last 65536 entries. line may be NULL; else *line is how many lines are read. PQ_OK; PQ_TORN: the last line has no line feed, and *journal
+   has those before it; PQ_NOT_LAWFUL: line *line is refused, and *journal is NULL, as of PQ_NOT_READ, PQ_NO_MEMORY and PQ_PROCESSOR. */
 PQ_CHECKED pq_code pq_journal_read(int file, pq_journal **journal, uint64_t *line);
 
 /* Takes the first item out that is left in a closed queue. PQ_OK; PQ_EMPTY. */

@@ -110,12 +110,12 @@ void flatpq_wake_each(const uint32_t *word) {
     wake(word, INT_MAX);
 }
 
-/* A push releases a byte of this table, and a call that returns the item acquires it. Items that come to the same number share a byte. */
-static char watched[4096];
+/* A push releases a byte of this table by the item's value, which stays while the item is moved, and a call that returns the item acquires it.
+   Values that come to the same number share a byte. A move releases a byte for all items, as it has yet to find its own. */
+static char watched[4096], moved;
 
 static void *byte_of(pq_item item) {
-    uint32_t priority = (uint32_t)(item.priority ^ item.priority >> 32), value = (uint32_t)(item.value ^ item.value >> 32);
-    return &watched[(priority * 2654435761u + value * 2246822519u) >> 20];
+    return &watched[(uint32_t)(item.value ^ item.value >> 32) * 2246822519u >> 20];
 }
 
 void flatpq_tsan_push(pq_item item) {
@@ -124,6 +124,11 @@ void flatpq_tsan_push(pq_item item) {
 
 void flatpq_tsan_pop(pq_item item) {
     __tsan_acquire(byte_of(item));
+    __tsan_acquire(&moved);
+}
+
+void flatpq_tsan_move(void) {
+    __tsan_release(&moved);
 }
 
 void flatpq_tsan_archive(pq_queue *queue) {

@@ -157,6 +157,7 @@ HIDDEN int flatpq_is_late(uint64_t until);
 HIDDEN void flatpq_tsan_ignore(int begins);
 HIDDEN void flatpq_tsan_push(pq_item item);
 HIDDEN void flatpq_tsan_pop(pq_item item);
+HIDDEN void flatpq_tsan_move(void);
 HIDDEN void flatpq_tsan_archive(pq_queue *queue);
 HIDDEN void flatpq_tsan_archived(pq_queue *queue);
 #define IS_WATCHED (!LIKELY((flatpq_special & WATCHED) == 0))
@@ -335,7 +336,8 @@ HIDDEN int flatpq_unlisten(pq_member *member);
 /*
  * bounded.c: pushes to a queue with a bound.
  */
-#define KIND_FULL 6 /* the kind of an answer where a push found the queue full */
+#define KIND_FULL 6  /* the kind of an answer where a push found the queue full */
+#define KIND_MOVED 7 /* that of a move which found its item (removing.c) */
 HIDDEN pq_code flatpq_push_within(pq_member *member, pq_item item, uint64_t until, core_answer *answer);
 
 /*

@@ -86,6 +86,7 @@ pq_code pq_read(const pq_journal *journal, size_t index, pq_entry *entry) {
         entry->unused = 0;
         entry->item = line.request == PQ_PUSH ? line.item : line.reply_item;
         entry->ticket = line.ticket;
+        entry->priority = line.request == PQ_RESCHEDULE ? line.item.priority : 0;
     }
     return code;
 }
@@ -118,24 +119,39 @@ static char *put_item(char *at, pq_item item) {
     return put_number(at, item.value);
 }
 
-/* `flatpq audit` reads this text. It calls a peek `least`. */
+static char *put_request(char *at, const pq_entry *entry) {
+    const pq_item move = { entry->ticket, entry->priority };
+    switch (entry->request) {
+    case PQ_PUSH:
+        return put_item(put_word(at, " push"), entry->item);
+    case PQ_POP:
+        return put_word(at, " pop");
+    case PQ_PEEK:
+        return put_word(at, " least");
+    case PQ_REMOVE:
+        return put_number(put_word(at, " remove "), entry->ticket);
+    default:
+        return put_item(put_word(at, " move"), move);
+    }
+}
+
+static char *put_reply(char *at, const pq_entry *entry) {
+    if (entry->request == PQ_PUSH) {
+        return put_word(at, " pushed");
+    }
+    if (entry->reply == PQ_EMPTY) {
+        return put_word(at, " empty");
+    }
+    return put_item(put_word(at, entry->request == PQ_PEEK ? " least" : " got"), entry->item);
+}
+
+/* `flatpq audit` reads this text. It calls a peek `least`, and a reschedule `move`. */
 size_t pq_text(const pq_entry *entry, char text[PQ_TEXT_ROOM]) {
     char *at = put_number(text, entry->number);
     *at++ = ' ';
     at = put_number(at, entry->place);
     *at++ = ' ';
-    at = put_number(at, entry->serial);
-    if (entry->request == PQ_PUSH) {
-        at = put_word(put_item(put_word(at, " push"), entry->item), " pushed");
-    } else {
-        at = put_word(at, entry->request == PQ_POP ? " pop" : entry->request == PQ_PEEK ? " least" : " remove ");
-        at = entry->request == PQ_REMOVE ? put_number(at, entry->ticket) : at;
-        if (entry->reply == PQ_EMPTY) {
-            at = put_word(at, " empty");
-        } else {
-            at = put_item(put_word(at, entry->request == PQ_PEEK ? " least" : " got"), entry->item);
-        }
-    }
+    at = put_reply(put_request(put_number(at, entry->serial), entry), entry);
     *at++ = '\n';
     *at = 0;
     return (size_t)(at - text);

@@ -20,7 +20,7 @@
  *
  * A queue that is shut announces no member: each then makes a round, and looks for the last time. Those that wait for what will be due there
  * are counted in `concerned`, before they look. A thread that takes an item out reads that count afterwards, and where it is not 0 looks whether
- * the queue is empty. If so it wakes all.
+ * the queue is empty. If so it wakes all. One that moves an item, which may be due earlier then, reads the count and wakes all.
  */
 #include "inside.h"
 

@@ -244,18 +244,19 @@ void flatpq_wake_all(pq_queue *queue, waiter *but) {
     unlock_and_wake(queue, found);
 }
 
-/* Whether a queue may be empty after a call with this answer. */
-static int may_be_empty(pq_member *member, const core_answer *answer) {
+/* Whether those that wait for what is left in a shut queue have to look after a call with this answer: it may be empty, or an item was moved,
+   and may be due earlier now. */
+static int concerns_drain(pq_member *member, const core_answer *answer) {
     core_answer first;
-    if (answer != NULL && answer->kind == KIND_EMPTY) {
+    if (answer != NULL && (answer->kind == KIND_EMPTY || answer->kind == KIND_MOVED)) {
         return 1;
     }
     return LEAVE_OUT(pq_core_try_pop_or_look(&member->proved, 0, 0, &first)) != PQ_OK || first.kind == KIND_EMPTY;
 }
 
-/* Wakes all where a shut queue may be empty, for which somebody waits. */
+/* Wakes all that wait for what is left in a shut queue, where that concerns them. */
 static void wake_drained(pq_member *member, const core_answer *answer) {
-    if (__atomic_load_n(&member->queue->concerned, SEQ) % PRODUCER != 0 && may_be_empty(member, answer)) {
+    if (__atomic_load_n(&member->queue->concerned, SEQ) % PRODUCER != 0 && concerns_drain(member, answer)) {
         flatpq_wake_all(member->queue, member->looks ? &member->waits : NULL);
     }
 }

@@ -48,7 +48,7 @@ namespace flatpq {
 enum class keeping : std::uint32_t { forgets = PQ_FORGETS, refuses = PQ_REFUSES, fills = PQ_FILLS };
 
 /// How a queue is opened, as pq_options says: for how many members at once, 1 to 64; how its journal keeps how many entries; how many items
-/// it may have, where 0 is no bound; and whether items can be removed by ticket.
+/// it may have, where 0 is no bound; and whether items can be removed or moved by ticket.
 struct options {
     std::uint32_t members = 64;
     flatpq::keeping keeping = flatpq::keeping::forgets;
@@ -115,10 +115,18 @@ public:
     /// Takes the first item out if its key is at most this one. code::not_due: found::first() stays.
     found pop_due(const key &bound, deadline until = {}) noexcept { return due(key_order<key>::number(bound), until); }
 
-    /// Takes the item out that has this ticket, wherever it waits: the number that its push returned. code::gone: it was taken out before, or no
-    /// push returned this number; code::no_tickets.
+    /// Takes the item out that has this ticket, wherever it waits: the number that its push returned. code::gone: no item waits under this
+    /// ticket; code::no_tickets.
     found remove(std::uint64_t ticket, deadline until = {}) noexcept {
         return got([=](auto *by, auto *out, auto at, auto *number) { return pq_remove(by, ticket, out, at, number); }, until);
+    }
+
+    /// Moves the item of this ticket to this key, after all items of that one, in one step: its ticket from now on. Its payload stays where it is.
+    /// code::gone, code::no_tickets; code::no_memory: the item stays as it was.
+    result<std::uint64_t> reschedule(std::uint64_t ticket, const key &priority, deadline until = {}) noexcept {
+        std::uint64_t number = 0;
+        const auto why = static_cast<code>(pq_reschedule(member_, ticket, key_order<key>::number(priority), until.at(), &number));
+        return why == code::ok ? result<std::uint64_t>(number) : why;
     }
 
     /// Waits for an item, and takes the first one out. code::empty: none came until then; code::timed_out: other threads had the lock.
@@ -236,6 +244,7 @@ public:
 
     /// A signed number is no unsigned key: write 5u for 5, or name a signed Key.
     template <class Number, if_signed_for<key, Number> = 0> result<std::uint64_t> push(Number, payload, deadline = {}) = delete;
+    template <class Number, if_signed_for<key, Number> = 0> result<std::uint64_t> reschedule(std::uint64_t, Number, deadline = {}) = delete;
     template <class Number, if_signed_for<key, Number> = 0> found pop_due(Number, deadline = {}) = delete;
     template <class Number, if_signed_for<key, Number> = 0> found pop_due_many(Number, std::size_t, deadline = {}) = delete;
     template <class Number, if_signed_for<key, Number> = 0> found drain(Number) = delete;

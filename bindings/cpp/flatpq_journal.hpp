@@ -18,7 +18,7 @@
 namespace flatpq {
 
 /// What a member asks of the queue.
-enum class request : std::uint32_t { push = PQ_PUSH, pop = PQ_POP, peek = PQ_PEEK, remove = PQ_REMOVE };
+enum class request : std::uint32_t { push = PQ_PUSH, pop = PQ_POP, peek = PQ_PEEK, remove = PQ_REMOVE, reschedule = PQ_RESCHEDULE };
 
 /// An item: a key, and a value, which the queue never reads.
 template <class Key = std::uint64_t> struct item {
@@ -41,15 +41,16 @@ private:
 };
 
 /// A journal entry: its number, from 1; how many requests its member had made, this one included; the member's place; the request; the reply,
-/// code::ok or code::empty; the item of a push, or the one that a pop, a peek or a removal found; and the ticket of a removal. Of a payload it
-/// has the key.
-template <class First> struct entry {
+/// code::ok or code::empty; the item that a push put in, or that another request found, as it was then, of a payload its key; and the ticket of
+/// request::remove and request::reschedule, and the key that the latter gives.
+template <class First, class Key> struct entry {
     std::uint64_t number, serial;
     std::uint32_t place;
     flatpq::request request;
     code reply;
     std::optional<First> item;
     std::uint64_t ticket;
+    std::optional<Key> priority;
 };
 
 namespace detail {
@@ -123,7 +124,7 @@ template <class Items> class read_back;
 template <class Items> class basic_journal {
 public:
     using item = typename Items::item;
-    using entry = flatpq::entry<typename Items::first>;
+    using entry = flatpq::entry<typename Items::first, typename Items::key>;
 
     explicit basic_journal(pq_journal *own) noexcept : own_(own) {}
 
@@ -144,9 +145,12 @@ public:
             return std::nullopt;
         }
         const auto reply = static_cast<code>(raw.reply);
-        entry made{raw.number, raw.serial, raw.place, static_cast<flatpq::request>(raw.request), reply, {}, raw.ticket};
+        entry made{raw.number, raw.serial, raw.place, static_cast<flatpq::request>(raw.request), reply, {}, raw.ticket, {}};
         if (reply == code::ok) {
             made.item = Items::shown(raw.item);
+        }
+        if (made.request == request::reschedule) {
+            made.priority = key_order<typename Items::key>::key(raw.priority);
         }
         return made;
     }

@@ -1,15 +1,15 @@
 //! The calls of a queue and of a member: what waits at most until a deadline, and the same without one.
 use crate::after;
+use crate::batches::Pushed;
 use crate::error::{Due, Error, NotAllPushed, NotPushed};
 use crate::journal::{Item, Journal};
 use crate::key::Key;
-use crate::payload::{self, payload_of, value_of};
+use crate::payload::{payload_of, value_of};
 use crate::raw::{self, First, MemberInside, RawJournal};
 use crate::tasks::Shared;
 use std::cell::Cell;
 use std::fmt;
 use std::marker::PhantomData;
-use std::mem;
 use std::ptr;
 
 /// Integers of at most 64 bits, as payloads: a queue of them is a [`Queue`](crate::Queue).
@@ -48,7 +48,7 @@ impl<T, K: Key> Call<'_, T, K> {
         unsafe { found(code, item) }
     }
 
-    fn has_number(&self, number: u64) {
+    pub(crate) fn has_number(&self, number: u64) {
         if let Some(last) = self.number {
             last.set(number);
         }
@@ -110,46 +110,6 @@ pub unsafe fn found<T>(code: u32, item: Item) -> Result<Due<T>, Error> {
     }
 }
 
-/// What a batch of pushes put in.
-#[derive(Clone, Copy, Debug, Default, PartialEq, Eq)]
-pub struct Pushed {
-    /// How many payloads.
-    pub count: usize,
-    /// The number of the first one's journal entry; 0 where it put none in. Up to 64 payloads have consecutive entries where the queue has no
-    /// bound.
-    pub number: u64,
-}
-
-/// Items that no queue has. Their payloads are dropped with this.
-struct Batch<T> {
-    items: Vec<Item>,
-    payloads: PhantomData<T>,
-}
-
-impl<T> Batch<T> {
-    fn new() -> Batch<T> {
-        Batch {
-            items: Vec::new(),
-            payloads: PhantomData,
-        }
-    }
-
-    /// Takes their payloads out.
-    fn back(mut self) -> impl Iterator<Item = T> {
-        // SAFETY: no queue has them, and each is taken out once.
-        let payload = |it: Item| unsafe { payload_of(it.value) };
-        mem::take(&mut self.items).into_iter().map(payload)
-    }
-}
-
-impl<T> Drop for Batch<T> {
-    fn drop(&mut self) {
-        // SAFETY: as above.
-        let dropped = |it: Item| unsafe { payload::dropped::<T>(it.value) };
-        drop(self.items.drain(..).map(dropped).collect::<Vec<_>>());
-    }
-}
-
 impl<T: Send, K: Key> Call<'_, T, K> {
     pub fn push(&self, key: K, payload: T) -> Result<u64, NotPushed<T>> {
         let priority = self.shared.times.priority_of(key);
@@ -187,7 +147,7 @@ impl<T: Send, K: Key> Call<'_, T, K> {
     }
 
     // A push that may wait for room is made at once at first: then wakers run in this thread.
-    fn at_first(&self) -> u64 {
+    pub(crate) fn at_first(&self) -> u64 {
         match self.shared.is_bounded {
             true => 0,
             false => self.until,
@@ -195,7 +155,7 @@ impl<T: Send, K: Key> Call<'_, T, K> {
     }
 
     // Whether a push with this code is made again, and waits.
-    fn waits_for_room(&self, code: u32) -> bool {
+    pub(crate) fn waits_for_room(&self, code: u32) -> bool {
         let is_so = matches!(code, raw::FULL | raw::TIMED_OUT);
         is_so && self.shared.is_bounded && self.until != 0
     }
@@ -223,6 +183,19 @@ impl<T: Send, K: Key> Call<'_, T, K> {
         Ok(self.keyed(removed).got())
     }
 
+    pub fn reschedule(&self, ticket: u64, key: K) -> Result<Option<u64>, Error> {
+        let (priority, mut number) = (self.shared.times.priority_of(key), 0);
+        // SAFETY: the member is there, and in this call alone; the number is borrowed for it.
+        let code = after::calling(|| unsafe {
+            raw::pq_reschedule(self.member, ticket, priority, self.until, &mut number)
+        });
+        self.has_number(number);
+        match code {
+            raw::GONE => Ok(None),
+            code => Error::unless_ok(code).map(|()| Some(number)),
+        }
+    }
+
     pub fn peek(&self) -> Result<Option<K>, Error> {
         let first = self.peeked()?;
         Ok(first.map(|it| self.shared.times.key_of(it.priority)))
@@ -243,97 +216,12 @@ impl<T: Send, K: Key> Call<'_, T, K> {
         Ok(self.keyed(self.waits(raw::pq_take_due)?))
     }
 
-    pub fn push_many(
-        &self,
-        payloads: impl IntoIterator<Item = (K, T)>,
-    ) -> Result<Pushed, NotAllPushed<K, T>> {
-        let (mut keys, mut batch, mut refused) = (Vec::new(), Batch::new(), None);
-        let mut payloads = payloads.into_iter();
-        for (key, payload) in &mut payloads {
-            let priority = self.shared.times.priority_of(key);
-            match value_of(payload) {
-                Ok(value) => batch.items.push(Item { priority, value }),
-                Err(payload) => {
-                    refused = Some((key, payload));
-                    break;
-                }
-            }
-            keys.push(key);
-        }
-        let mut pushed = Pushed::default();
-        let result = match &refused {
-            Some(_) => Err(Error::NoMemory),
-            None => {
-                let put = |until| self.put_all(&mut batch, until, &mut pushed);
-                Error::unless_ok(self.puts(put))
-            }
-        };
-        self.has_number(pushed.number);
-        result.map(|()| pushed).map_err(|error| NotAllPushed {
-            payload: keys
-                .drain(pushed.count..)
-                .zip(batch.back())
-                .chain(refused)
-                .chain(payloads)
-                .collect(),
-            error,
-            pushed,
-        })
-    }
-
-    // Pushes a batch until then: its code.
-    fn put_all(&self, batch: &mut Batch<T>, until: u64, pushed: &mut Pushed) -> u32 {
-        let (at, count) = (batch.items.as_ptr(), batch.items.len());
-        let (mut done, mut number) = (0, 0);
-        // SAFETY: the member is there, and in this call alone; the others are borrowed for it.
-        let code =
-            unsafe { raw::pq_push_many(self.member, at, count, until, &mut done, &mut number) };
-        if pushed.count == 0 {
-            pushed.number = number;
-        }
-        batch.items.drain(..done);
-        pushed.count += done;
-        code
-    }
-
-    fn puts(&self, mut put: impl FnMut(u64) -> u32) -> u32 {
-        match after::calling(|| put(self.at_first())) {
-            code if self.waits_for_room(code) => after::waiting(|| put(self.until)),
-            code => code,
-        }
-    }
-
     pub fn len(&self) -> Result<usize, Error> {
         let mut size = 0;
         // SAFETY: the member is there, and in this call alone; the number is borrowed for it.
         let sized = || unsafe { raw::pq_size(self.member, self.until, &mut size) };
         Error::unless_ok(after::calling(sized))?;
         Ok(usize::try_from(size).unwrap_or(usize::MAX))
-    }
-
-    pub fn pop_due_many(&self, key: K, most: usize) -> Result<Vec<(K, T)>, Error> {
-        let priority = self.shared.times.priority_of(key);
-        let mut items: Vec<Item> = Vec::new();
-        items.try_reserve_exact(most).map_err(|_| Error::NoMemory)?;
-        let (member, at, until) = (self.member, items.as_mut_ptr(), self.until);
-        let (mut done, mut number) = (0, 0);
-        let taken: Vec<(u64, T)> = after::calling(|| {
-            // SAFETY: the member is there, and in this call alone; the items have the room.
-            let code = unsafe {
-                raw::pq_pop_due_many(member, priority, at, most, until, &mut done, &mut number)
-            };
-            self.has_number(number);
-            // SAFETY: the call has written so many.
-            unsafe { items.set_len(done) };
-            // SAFETY: the call took them out of a queue of such payloads.
-            let payload = |it: &Item| (it.priority, unsafe { payload_of(it.value) });
-            match code {
-                raw::OK | raw::EMPTY | raw::NOT_DUE => Ok(items.iter().map(payload).collect()),
-                code => Err(Error::of(code)),
-            }
-        })?;
-        let keyed = |(priority, payload)| (self.shared.times.key_of(priority), payload);
-        Ok(taken.into_iter().map(keyed).collect())
     }
 
     pub fn archive(&self, archived: u64) -> Result<Journal, Error> {
@@ -382,7 +270,7 @@ macro_rules! calls {
             }
 
             /// Takes the payload out that has this ticket, with its key, wherever it waits: the ticket is what [`Self::push`] returned.
-            /// `None` where it was taken out before, or no push returned this number.
+            /// `None` where no payload waits under it.
             ///
             /// # Errors
             ///
@@ -400,6 +288,27 @@ macro_rules! calls {
             /// ```
             pub fn remove(&$($mutable)? self, ticket: u64) -> Result<Option<(K, T)>, Error> {
                 self.call().remove(ticket)
+            }
+
+            /// Moves the payload that has this ticket to this key, after all payloads of that one, in one step: its ticket from now on.
+            /// `None` where no payload waits under the ticket.
+            ///
+            /// # Errors
+            ///
+            /// Those of [`Self::remove`], and [`Error::NoMemory`]: the payload stays as it was.
+            ///
+            /// ```
+            /// let queue = flatpq::Options::new().tickets(true).open()?;
+            /// let ticket = queue.push(5, "late")?;
+            /// queue.push(6, "first")?;
+            /// let moved = queue.reschedule(ticket, 7)?.expect("it waits");
+            /// assert_eq!(queue.reschedule(ticket, 8)?, None);
+            /// assert_eq!(queue.pop()?, Some((6, "first")));
+            /// assert_eq!(queue.remove(moved)?, Some((7, "late")));
+            /// # Ok::<(), flatpq::Error>(())
+            /// ```
+            pub fn reschedule(&$($mutable)? self, ticket: u64, key: K) -> Result<Option<u64>, Error> {
+                self.call().reschedule(ticket, key)
             }
 
             /// Returns the first key, if there is one. Its payload stays.

@@ -1,5 +1,5 @@
 //! What calls come to that don't succeed, and what a pop of what is due finds.
-use crate::calls::Pushed;
+use crate::batches::Pushed;
 use crate::raw;
 use crate::tasks::TaskQueue;
 use std::{fmt, io};
@@ -58,7 +58,7 @@ errors! {
     NotLawful = 54,
     /// A read failed.
     NotRead = 56,
-    /// The queue was not opened for removals by ticket ([`Options::tickets`](crate::Options::tickets)).
+    /// The queue was not opened with tickets ([`Options::tickets`](crate::Options::tickets)).
     NoTickets = 59,
     /// This process is a forked child of one that had opened a queue.
     Forked = 60,

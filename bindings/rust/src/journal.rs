@@ -34,18 +34,26 @@ pub enum Request {
     Pop,
     /// To return the first item, which stays.
     Peek,
-    /// To take the item out that has this ticket, the number of the entry of its push.
+    /// To take the item out that has this ticket, the number of the entry that put it in.
     Remove(u64),
+    /// To move the item of this ticket to this priority.
+    Reschedule {
+        /// The ticket.
+        ticket: u64,
+        /// The number of the key, as [`Item::priority`].
+        priority: u64,
+    },
 }
 
 impl Request {
-    // Its number, and the ticket where it has one.
-    fn parts(self) -> (u32, u64) {
+    // Its number, and the ticket and the priority where it has them.
+    fn parts(self) -> (u32, u64, u64) {
         match self {
-            Request::Push => (0, 0),
-            Request::Pop => (1, 0),
-            Request::Peek => (2, 0),
-            Request::Remove(ticket) => (3, ticket),
+            Request::Push => (0, 0, 0),
+            Request::Pop => (1, 0, 0),
+            Request::Peek => (2, 0, 0),
+            Request::Remove(ticket) => (3, ticket, 0),
+            Request::Reschedule { ticket, priority } => (4, ticket, priority),
         }
     }
 }
@@ -62,7 +70,7 @@ pub struct Entry {
     pub place: u32,
     /// What the member asked.
     pub request: Request,
-    /// The item that was pushed, taken out or returned; none where there was none.
+    /// The item that a push put in, or that another request found, as it was then; none where there was none.
     pub item: Option<Item>,
 }
 
@@ -76,14 +84,18 @@ impl Entry {
                 0 => Request::Push,
                 1 => Request::Pop,
                 2 => Request::Peek,
-                _ => Request::Remove(raw.ticket),
+                3 => Request::Remove(raw.ticket),
+                _ => Request::Reschedule {
+                    ticket: raw.ticket,
+                    priority: raw.priority,
+                },
             },
             item: (raw.reply == raw::OK).then_some(raw.item),
         }
     }
 
     fn raw(&self) -> RawEntry {
-        let (request, ticket) = self.request.parts();
+        let (request, ticket, priority) = self.request.parts();
         RawEntry {
             number: self.number,
             serial: self.serial,
@@ -93,6 +105,7 @@ impl Entry {
             unused: 0,
             item: self.item.unwrap_or_default(),
             ticket,
+            priority,
         }
     }
 

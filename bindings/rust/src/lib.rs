@@ -44,6 +44,7 @@
 #![deny(unsafe_op_in_unsafe_fn)]
 
 mod after;
+mod batches;
 mod calls;
 mod clock;
 mod error;
@@ -56,7 +57,8 @@ mod payload;
 mod raw;
 mod tasks;
 
-pub use calls::{Limited, Number, Pushed};
+pub use batches::Pushed;
+pub use calls::{Limited, Number};
 pub use clock::Until;
 pub use error::{Due, Error, NotAllPushed, NotClosed, NotPushed, NotReadBack};
 pub use futures::{Take, TakeDue};

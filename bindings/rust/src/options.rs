@@ -100,7 +100,8 @@ impl Options {
         Options { most_items, ..self }
     }
 
-    /// Whether payloads can be removed by ticket ([`TaskQueue::remove`]). Pushes and pops take a little longer then.
+    /// Whether payloads can be removed or moved by ticket ([`TaskQueue::remove`], [`TaskQueue::reschedule`]). Pushes and pops take a little
+    /// longer then.
     pub fn tickets(self, tickets: bool) -> Options {
         Options { tickets, ..self }
     }

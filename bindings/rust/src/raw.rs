@@ -42,6 +42,7 @@ pub struct RawEntry {
     pub unused: u32,
     pub item: Item,
     pub ticket: u64,
+    pub priority: u64,
 }
 
 /// Room for the text of an entry.
@@ -81,6 +82,7 @@ extern "C" {
         member: *mut MemberInside, priority: u64, items: *mut Item, room: usize, until: u64, done: *mut usize, number: *mut u64,
     ) -> u32;
     pub fn pq_remove(member: *mut MemberInside, ticket: u64, item: *mut Item, until: u64, number: *mut u64) -> u32;
+    pub fn pq_reschedule(member: *mut MemberInside, ticket: u64, priority: u64, until: u64, number: *mut u64) -> u32;
     pub fn pq_size(member: *mut MemberInside, until: u64, size: *mut u64) -> u32;
     pub fn pq_post(member: *mut MemberInside, request: u32, item: Item) -> u32;
     pub fn pq_poll(member: *mut MemberInside, item: *mut Item, number: *mut u64) -> u32;

@@ -1,6 +1,7 @@
 //! A queue of payloads, and its members.
 use crate::after;
-use crate::calls::{calls, found, takes, Call, Limited, Number, Pushed};
+use crate::batches::Pushed;
+use crate::calls::{calls, found, takes, Call, Limited, Number};
 use crate::clock::{Times, Until};
 use crate::error::{Due, Error, NotAllPushed, NotClosed, NotPushed};
 use crate::futures::Slot;

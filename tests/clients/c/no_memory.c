@@ -1,5 +1,6 @@
 /* Each request for memory is refused in turn: the calls say so, change nothing and lose nothing; and only an opening, a joining, a
-   thread's first call by pq_own, an archive, a push, a close that leaves a journal and the reading of one ask for memory. Linked with --wrap=malloc and so on. */
+   thread's first call by pq_own, an archive, a push, a move, a close that leaves a journal and the reading of one ask for memory. Linked with
+   --wrap=malloc and so on. */
 #include "../check.h"
 
 void *__real_malloc(size_t size);
@@ -254,9 +255,36 @@ static void *has_own_members(void *unused) {
     return unused;
 }
 
+/* Where a push is refused, so is a move, and the item stays where it is. */
+static void a_refused_move_leaves_the_item(uint32_t keeping, uint32_t entries) {
+    const pq_options options = { 1, keeping, entries, 1, 0, 0, 0 };
+    pq_queue *queue = NULL;
+    pq_item item;
+    uint64_t ticket = 0, number = 9, others = 0;
+    CHECK(pq_open(&options, &queue) == PQ_OK);
+    pq_member *member = joined(queue);
+    CHECK(pq_push(member, item_of(50, 1), PQ_FOREVER, &ticket) == PQ_OK);
+    refuse_after(0);
+    for (; pq_push(member, item_of(60, 2), PQ_FOREVER, NULL) == PQ_OK; others++) {
+    }
+    CHECK(refused == 1 && pq_reschedule(member, ticket, 70, PQ_FOREVER, &number) == PQ_NO_MEMORY && refused == 2 && number == 9);
+    CHECK(pq_reschedule(member, 1000, 70, PQ_FOREVER, &number) == PQ_GONE && refused == 2 && number == others + 2);
+    CHECK(pq_peek(member, &item, PQ_FOREVER, NULL) == PQ_OK && is_item(item, 50, 1));
+    refuse_after(-1);
+    CHECK(pq_reschedule(member, ticket, 70, PQ_FOREVER, &number) == PQ_OK && number == others + 4);
+    for (; others > 0; others--) {
+        CHECK(pq_pop(member, &item, PQ_FOREVER, NULL) == PQ_OK && is_item(item, 60, 2));
+    }
+    CHECK(pq_remove(member, number, &item, PQ_FOREVER, NULL) == PQ_OK && is_item(item, 70, 1));
+    pq_give_back(member);
+    close_and_free(queue);
+}
+
 int main(void) {
     a_batch_ends_where_memory_does(PQ_FILLS, 1000);
     a_batch_ends_where_memory_does(PQ_FORGETS, 0);
+    a_refused_move_leaves_the_item(PQ_FILLS, 100);
+    a_refused_move_leaves_the_item(PQ_FORGETS, 0);
     CHECK(out == 0);
     for (int i = 0; i < 2; i++) {
         goes_on_without_memory(PQ_FILLS, 100);

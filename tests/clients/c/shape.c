@@ -28,6 +28,7 @@ static void has_requests(void) {
     HAS(pq_code, pq_push_many, (pq_member *, const pq_item *, size_t, uint64_t, size_t *, uint64_t *));
     HAS(pq_code, pq_pop_due_many, (pq_member *, uint64_t, pq_item *, size_t, uint64_t, size_t *, uint64_t *));
     HAS(pq_code, pq_remove, (pq_member *, uint64_t, pq_item *, uint64_t, uint64_t *));
+    HAS(pq_code, pq_reschedule, (pq_member *, uint64_t, uint64_t, uint64_t, uint64_t *));
     HAS(pq_code, pq_size, (pq_member *, uint64_t, uint64_t *));
     HAS(pq_code, pq_post, (pq_member *, uint32_t, pq_item));
     HAS(pq_code, pq_poll, (pq_member *, pq_item *, uint64_t *));
@@ -65,14 +66,14 @@ static void has_other_calls(void) {
 
 static void has_constants(void) {
     const pq_options options = { 1, PQ_FORGETS, 2, 0, UINT64_MAX, UINT64_MAX - 1, UINT64_MAX - 2 };
-    const pq_entry entry = { UINT64_MAX, UINT64_MAX - 1, 3, 4, 5, 0, { UINT64_MAX - 2, UINT64_MAX - 3 }, 6 };
+    const pq_entry entry = { UINT64_MAX, UINT64_MAX - 1, 3, 4, 5, 0, { UINT64_MAX - 2, UINT64_MAX - 3 }, 6, 7 };
     CHECK(sizeof options == 40 && options.members == 1 && options.keeping == 0 && options.entries == 2 && options.tickets == 0);
     CHECK(options.time_zero == UINT64_MAX && options.time_unit == UINT64_MAX - 1 && options.most_items == UINT64_MAX - 2);
-    CHECK(sizeof entry == 56 && entry.ticket == 6 && entry.number == UINT64_MAX && entry.serial == UINT64_MAX - 1);
+    CHECK(sizeof entry == 64 && entry.ticket == 6 && entry.priority == 7 && entry.number == UINT64_MAX && entry.serial == UINT64_MAX - 1);
     CHECK(entry.place == 3 && entry.request == 4);
     CHECK(entry.reply == 5 && entry.unused == 0 && sizeof entry.item == 16 && is_item(entry.item, UINT64_MAX - 2, UINT64_MAX - 3));
     CHECK(PQ_FORGETS == 0 && PQ_REFUSES == 1 && PQ_FILLS == 2 && PQ_PUSH == 0 && PQ_POP == 1 && PQ_PEEK == 2 && PQ_REMOVE == 3);
-    CHECK(PQ_NOW == 0 && PQ_FOREVER == UINT64_MAX && PQ_TEXT_ROOM == 160);
+    CHECK(PQ_RESCHEDULE == 4 && PQ_NOW == 0 && PQ_FOREVER == UINT64_MAX && PQ_TEXT_ROOM == 160);
     CHECK(PQ_VERSION == 10000 * PQ_VERSION_MAJOR + 100 * PQ_VERSION_MINOR + PQ_VERSION_PATCH && pq_version() == PQ_VERSION);
 }
 
@@ -132,7 +133,7 @@ static void has_times(void) {
 int main(void) {
     has_requests();
     has_other_calls();
-    CHECK(calls == 39);
+    CHECK(calls == 40);
     has_constants();
     has_codes();
     has_times();

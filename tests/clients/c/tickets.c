@@ -1,12 +1,16 @@
-/* Removals by ticket: the first item, one in the middle and the last one go out; a ticket that is gone, was never there or is that of another
-   entry returns PQ_GONE and has an entry; a queue without tickets refuses; removals and pops in threads take each item out once; a removal makes
-   room in a queue with a bound; and a journal with removals is read back. Where there is an argument, a journal is written out. */
-#include "../check.h"
+/* Removals and moves by ticket: the first item, one in the middle and the last one go out, or elsewhere; a ticket that is gone, was never there or
+   is that of another entry returns PQ_GONE and has an entry; a queue without tickets refuses; moves, removals and pops in threads take each item
+   out once; a removal makes room in a queue with a bound, and a move does not; a move to now wakes who waits for what is due, also where the queue
+   is shut; and a journal with both is read back. Where there is an argument, a journal is written out. */
+#include "../wrapped.h"
 
 #include <fcntl.h>
 #include <malloc.h>
+#include <sched.h>
 #include <string.h>
+#include <sys/eventfd.h>
 #include <sys/mman.h>
+#include <sys/timerfd.h>
 
 static pq_queue *opened_with_tickets(uint32_t keeping, uint32_t entries, uint64_t most_items) {
     const pq_options options = { 0, keeping, entries, 1, 0, 0, most_items };
@@ -23,9 +27,9 @@ static uint64_t pushed(pq_queue *queue, uint64_t priority, uint64_t value) {
 
 static void is_gone(pq_queue *queue, uint64_t ticket) {
     pq_item item = item_of(8, 9);
-    uint64_t number = 0, size = size_of(queue);
+    uint64_t number = 0, next = 0, size = size_of(queue);
     CHECK(pq_remove(pq_own(queue), ticket, &item, PQ_FOREVER, &number) == PQ_GONE && number > 0 && is_item(item, 8, 9));
-    CHECK(size_of(queue) == size);
+    CHECK(pq_reschedule(pq_own(queue), ticket, 0, PQ_FOREVER, &next) == PQ_GONE && next == number + 1 && size_of(queue) == size);
 }
 
 static void removes(pq_queue *queue, uint64_t ticket, uint64_t priority, uint64_t value) {
@@ -34,6 +38,14 @@ static void removes(pq_queue *queue, uint64_t ticket, uint64_t priority, uint64_
     CHECK(pq_remove(pq_own(queue), ticket, &item, PQ_FOREVER, &number) == PQ_OK && number > ticket && is_item(item, priority, value));
     CHECK(size_of(queue) == size - 1);
     is_gone(queue, ticket);
+}
+
+/* Moves an item: its ticket from now on. */
+static uint64_t moved(pq_queue *queue, uint64_t ticket, uint64_t priority) {
+    uint64_t number = 0, size = size_of(queue);
+    CHECK(pq_reschedule(pq_own(queue), ticket, priority, PQ_FOREVER, &number) == PQ_OK && number > ticket && size_of(queue) == size);
+    is_gone(queue, ticket);
+    return number;
 }
 
 static void pops(pq_queue *queue, uint64_t priority, uint64_t value) {
@@ -67,39 +79,113 @@ static void any_item_goes_out(uint32_t keeping, uint32_t entries) {
     close_and_free(queue);
 }
 
+static void an_item_goes_after_its_equals(uint32_t keeping, uint32_t entries) {
+    pq_queue *queue = opened_with_tickets(keeping, entries, 0);
+    uint64_t first = pushed(queue, 5, 1), second = pushed(queue, 5, 2), third = pushed(queue, 3, 3), last = pushed(queue, 9, 4), fifth;
+    first = moved(queue, first, 5);
+    last = moved(queue, moved(queue, last, 3), 0);
+    third = moved(queue, third, UINT64_MAX);
+    fifth = pushed(queue, UINT64_MAX, 5);
+    pops(queue, 0, 4);
+    pops(queue, 5, 2);
+    is_gone(queue, last);
+    is_gone(queue, second);
+    first = moved(queue, first, UINT64_MAX);
+    removes(queue, third, UINT64_MAX, 3);
+    CHECK(fifth < first);
+    pops(queue, UINT64_MAX, 5);
+    pops(queue, UINT64_MAX, 1);
+    CHECK(pq_reschedule(pq_own(queue), first, 1, PQ_NOW, NULL) == PQ_GONE && size_of(queue) == 0);
+    close_and_free(queue);
+}
+
+/* Both calls are refused so, and leave what their caller passed as it was. */
+static void refuses(pq_member *member, pq_code code, uint64_t until) {
+    pq_item item = item_of(7, 8);
+    uint64_t number = 9;
+    CHECK(pq_remove(member, 1, &item, until, &number) == code && pq_reschedule(member, 1, 2, until, &number) == code);
+    CHECK(is_item(item, 7, 8) && number == 9);
+}
+
 static void others_refuse(void) {
     pq_options options = { 0, 0, 0, 2, 0, 0, 0 };
     pq_queue *queue = opened(2), *other;
-    pq_member *member = joined(queue);
+    pq_journal *journal;
     pq_item item;
-    uint64_t number = 9, ticket = 0;
-    CHECK(pq_push(member, item_of(1, 2), PQ_FOREVER, &ticket) == PQ_OK);
-    CHECK(pq_remove(member, ticket, &item, PQ_FOREVER, &number) == PQ_NO_TICKETS && number == 9 && pq_remove(NULL, 1, &item, PQ_NOW, NULL) == PQ_NO_MEMBER);
-    CHECK(pq_post(member, PQ_REMOVE, item_of(1, 1)) == PQ_BAD_REQUEST && size_of(queue) == 1);
-    pq_give_back(member);
+    CHECK(pq_push(pq_own(queue), item_of(1, 2), PQ_FOREVER, NULL) == PQ_OK);
+    refuses(pq_own(queue), PQ_NO_TICKETS, PQ_FOREVER);
+    refuses(NULL, PQ_NO_MEMBER, PQ_NOW);
     close_and_free(queue);
     CHECK(pq_open(&options, &other) == PQ_BAD_OPTION && other == NULL);
-    queue = opened_with_tickets(PQ_FILLS, 2, 0);
-    ticket = pushed(queue, 1, 2);
-    CHECK(pq_remove(pq_own(queue), 9, &item, PQ_FOREVER, NULL) == PQ_GONE);
-    CHECK(pq_remove(pq_own(queue), ticket, &item, PQ_FOREVER, &number) == PQ_JOURNAL_FULL && number == 9 && size_of(queue) == 1);
-    close_and_free(queue);
+    queue = opened_with_tickets(PQ_FILLS, 3, 0);
+    CHECK(pushed(queue, 1, 2) == 1);
+    is_gone(queue, 9);
+    refuses(pq_own(queue), PQ_JOURNAL_FULL, PQ_FOREVER);
+    CHECK(size_of(queue) == 1 && pq_close(queue, &journal) == PQ_OK);
+    CHECK(pq_take_left(journal, &item) == PQ_OK && is_item(item, 1, 2) && pq_take_left(journal, &item) == PQ_EMPTY);
+    refuses(pq_own(queue), PQ_CLOSED, PQ_FOREVER);
+    pq_free(queue, NULL, NULL);
+    pq_journal_free(journal);
     CHECK(pq_code_text(PQ_GONE)[0] != 0 && pq_code_text(PQ_NO_TICKETS)[0] != 0);
 }
 
-/* Threads that remove each item by its ticket, and threads that pop. */
+/* Where a request is posted; where another thread has the lock; and where an entry would be forgotten that is not archived. */
+static void refuses_for_now(void) {
+    pq_queue *queue = opened_with_tickets(PQ_REFUSES, 0, 0);
+    pq_member *member = joined(queue);
+    pq_item item = item_of(1, 1);
+    holder other;
+    CHECK(pushed(queue, 1, 2) == 1 && pq_post(member, PQ_REMOVE, item) == PQ_BAD_REQUEST && pq_post(member, PQ_RESCHEDULE, item) == PQ_BAD_REQUEST);
+    CHECK(pq_post(member, PQ_PEEK, item) == PQ_OK);
+    refuses(member, PQ_PENDING, PQ_FOREVER);
+    CHECK(pq_combine(member) == PQ_OK && pq_poll(member, &item, NULL) == PQ_OK);
+    hold(&other, queue, HOLDS_AND_STOPS);
+    refuses(member, PQ_TIMED_OUT, PQ_NOW);
+    refuses(member, PQ_TIMED_OUT, in_ms(5));
+    let_go(&other);
+    while (pq_peek(member, &item, PQ_FOREVER, NULL) == PQ_OK) {
+    }
+    refuses(member, PQ_UNARCHIVED, PQ_FOREVER);
+    CHECK(size_of(queue) == 1 + other.pushed);
+    pq_give_back(member);
+    close_and_free(queue);
+}
+
+/* Threads that remove each item by its ticket, threads that move each, and threads that pop until there is none: none is missed on its way. */
 enum { ITEMS = 40000 };
 static uint64_t tickets[ITEMS];
-static uint32_t outs[ITEMS], next;
+static uint32_t outs[ITEMS], next, moves;
+
+/* Waits until some items were moved, and goes on beside the moves of the others. */
+static void await_moves(void) {
+    while (__atomic_load_n(&moves, __ATOMIC_RELAXED) < requests(ITEMS) / 20) {
+        sched_yield();
+    }
+}
 
 static void *remove_all(void *queue) {
     uint32_t i;
+    await_moves();
     while ((i = __atomic_fetch_add(&next, 1, __ATOMIC_RELAXED)) < requests(ITEMS)) {
         pq_item item;
-        const pq_code code = pq_remove(pq_own((pq_queue *)queue), tickets[i], &item, PQ_FOREVER, NULL);
-        CHECK(code == PQ_GONE || (code == PQ_OK && is_item(item, i % 100, i)));
+        const uint64_t ticket = __atomic_load_n(&tickets[i], __ATOMIC_RELAXED);
+        const pq_code code = pq_remove(pq_own((pq_queue *)queue), ticket, &item, PQ_FOREVER, NULL);
+        CHECK(code == PQ_GONE || (code == PQ_OK && item.priority < 100 && item.value == i));
         if (code == PQ_OK) {
             __atomic_fetch_add(&outs[i], 1, __ATOMIC_RELAXED);
+        }
+    }
+    return NULL;
+}
+
+static void *move_all(void *queue) {
+    for (uint32_t i = requests(ITEMS); i-- > 0;) {
+        uint64_t ticket = __atomic_load_n(&tickets[i], __ATOMIC_RELAXED), number;
+        const pq_code code = pq_reschedule(pq_own((pq_queue *)queue), ticket, ticket * 7 % 100, PQ_FOREVER, &number);
+        CHECK(code == PQ_OK || code == PQ_GONE);
+        if (code == PQ_OK) {
+            __atomic_store_n(&tickets[i], number, __ATOMIC_RELAXED);
+            __atomic_fetch_add(&moves, 1, __ATOMIC_RELAXED);
         }
     }
     return NULL;
@@ -108,6 +194,7 @@ static void *remove_all(void *queue) {
 static void *pop_all(void *queue) {
     pq_item item;
     pq_code code;
+    await_moves();
     while ((code = pq_pop(pq_own((pq_queue *)queue), &item, PQ_FOREVER, NULL)) != PQ_EMPTY) {
         CHECK(code == PQ_OK);
         __atomic_fetch_add(&outs[item.value], 1, __ATOMIC_RELAXED);
@@ -116,15 +203,17 @@ static void *pop_all(void *queue) {
 }
 
 static void each_goes_out_once(void) {
+    void *(*const works[])(void *) = { move_all, remove_all, pop_all, move_all, remove_all, pop_all };
+    enum { THREADS = sizeof works / sizeof *works };
     pq_queue *queue = opened_with_tickets(PQ_FORGETS, 0, 0);
-    pthread_t threads[4];
+    pthread_t threads[THREADS];
     for (uint64_t i = 0; i < requests(ITEMS); i++) {
         tickets[i] = pushed(queue, i % 100, i);
     }
-    for (int i = 0; i < 4; i++) {
-        threads[i] = started(i % 2 ? remove_all : pop_all, queue);
+    for (int i = 0; i < THREADS; i++) {
+        threads[i] = started(works[i], queue);
     }
-    for (int i = 0; i < 4; i++) {
+    for (int i = 0; i < THREADS; i++) {
         ended(threads[i]);
     }
     for (uint32_t i = 0; i < requests(ITEMS); i++) {
@@ -134,20 +223,96 @@ static void each_goes_out_once(void) {
     close_and_free(queue);
 }
 
+static int has_pushed;
+
 static void *push_one(void *queue) {
     CHECK(pq_push(pq_own((pq_queue *)queue), item_of(7, 8), PQ_FOREVER, NULL) == PQ_OK);
+    set(&has_pushed, 1);
     return NULL;
 }
 
-static void makes_room(void) {
+/* In a full queue, where a push waits. */
+static void only_a_removal_makes_room(void) {
     pq_queue *queue = opened_with_tickets(PQ_FORGETS, 0, 1);
     uint64_t ticket = pushed(queue, 5, 6);
     pthread_t thread = started(push_one, queue);
     pq_item item;
-    sleep_ms(30);
-    CHECK(pq_remove(pq_own(queue), ticket, &item, PQ_FOREVER, NULL) == PQ_OK && is_item(item, 5, 6));
+    for (int i = 0; i < 30; i++) {
+        sleep_ms(1);
+        ticket = moved(queue, ticket, 4);
+    }
+    CHECK(!is_set(&has_pushed) && pq_remove(pq_own(queue), ticket, &item, PQ_FOREVER, NULL) == PQ_OK && is_item(item, 4, 6));
     ended(thread);
     pops(queue, 7, 8);
+    close_and_free(queue);
+}
+
+/*
+ * Moves of what is due later.
+ */
+
+enum { HOUR = 3600000 };
+
+static void *takes_due(void *queue) {
+    static __thread pq_item item;
+    CHECK(pq_take_due(pq_own((pq_queue *)queue), &item, PQ_FOREVER, NULL) == PQ_OK && item.priority <= pq_now());
+    return (void *)(uintptr_t)item.value;
+}
+
+static uint64_t moved_to(pq_queue *queue, uint64_t ticket, uint64_t time) {
+    CHECK(pq_reschedule(pq_own(queue), ticket, time, PQ_FOREVER, &ticket) == PQ_OK);
+    return ticket;
+}
+
+/* Two threads sleep; one wakes by each move. A shut queue lets moves and removals through. */
+static void a_sleeper_gets_what_is_moved_to_now(int is_shut) {
+    pq_queue *queue = opened_with_tickets(PQ_FORGETS, 0, 0);
+    uint64_t first = pushed(queue, in_ms(HOUR), 1), second = pushed(queue, in_ms(HOUR), 2), third = pushed(queue, in_ms(HOUR), 3), sum;
+    pthread_t threads[2] = { started(takes_due, queue), started(takes_due, queue) };
+    pq_item item;
+    sleep_ms(20);
+    CHECK(!is_shut || (pq_shut(queue) == PQ_OK && pq_push(pq_own(queue), item_of(1, 1), PQ_FOREVER, NULL) == PQ_SHUT));
+    sleep_ms(20);
+    moved_to(queue, second, pq_now());
+    while (size_of(queue) == 3) {
+        sleep_ms(1);
+    }
+    first = moved_to(queue, moved_to(queue, first, in_ms(2 * HOUR)), in_ms(5));
+    sum = (uintptr_t)ended(threads[0]) + (uintptr_t)ended(threads[1]);
+    CHECK(sum == 1 + 2 && size_of(queue) == 1);
+    third = moved_to(queue, third, in_ms(HOUR));
+    CHECK(pq_take_due(pq_own(queue), &item, in_ms(5), NULL) == PQ_NOT_DUE && item.value == 3);
+    CHECK(pq_remove(pq_own(queue), third, &item, PQ_NOW, NULL) == PQ_OK && item.value == 3);
+    CHECK(!is_shut || pq_take_due(pq_own(queue), &item, PQ_FOREVER, NULL) == PQ_SHUT);
+    close_and_free(queue);
+}
+
+static int is_readable(int fd, int milliseconds) {
+    struct pollfd one = { 0, POLLIN, 0 };
+    one.fd = fd;
+    return poll(&one, 1, milliseconds) == 1;
+}
+
+/* One that listens by a timer, and one by an eventfd, for what has at most priority 5. */
+static void a_listener_is_woken_by_an_earlier_time(int is_shut) {
+    pq_queue *queue = opened_with_tickets(PQ_FORGETS, 0, 0);
+    const int timer = timerfd_create(CLOCK_MONOTONIC, TFD_NONBLOCK), ready = eventfd(0, EFD_NONBLOCK);
+    pq_member *alarm = joined(queue), *listener = joined(queue);
+    uint64_t ticket = pushed(queue, in_ms(HOUR), 1);
+    pq_item item;
+    CHECK(!is_shut || pq_shut(queue) == PQ_OK);
+    CHECK(pq_take_due_or_listen(alarm, timer, &item, NULL) == PQ_NOT_DUE && !is_readable(timer, 5));
+    ticket = moved_to(queue, ticket, in_ms(HOUR / 2));
+    CHECK(is_readable(timer, 60000) && pq_take_due_or_listen(alarm, timer, &item, NULL) == PQ_NOT_DUE && !is_readable(timer, 5));
+    CHECK(pq_take_or_listen(listener, 5, &item, NULL, pq_notify_fd, (void *)(intptr_t)ready) == PQ_NOT_DUE && !is_readable(ready, 5));
+    ticket = moved_to(queue, ticket, 5);
+    CHECK(is_readable(timer, 60000) && is_readable(ready, 60000));
+    CHECK(pq_take_or_listen(listener, 5, &item, NULL, pq_notify_fd, (void *)(intptr_t)ready) == PQ_OK && is_item(item, 5, 1));
+    is_gone(queue, ticket);
+    CHECK(pq_take_due_or_listen(alarm, timer, &item, NULL) == (is_shut ? PQ_SHUT : PQ_EMPTY));
+    pq_give_back(alarm);
+    pq_give_back(listener);
+    CHECK(close(timer) == 0 && close(ready) == 0);
     close_and_free(queue);
 }
 
@@ -157,7 +322,8 @@ static void takes_no_more_memory(void) {
     pushed(queue, 1000, 0); /* stays */
     for (uint32_t i = 0; i < requests(300000); i++) {
         pq_item item;
-        CHECK(pq_remove(pq_own(queue), pushed(queue, i % 1000, i), &item, PQ_FOREVER, NULL) == PQ_OK && is_item(item, i % 1000, i));
+        const uint64_t ticket = moved_to(queue, pushed(queue, 7, i), i % 1000);
+        CHECK(pq_remove(pq_own(queue), ticket, &item, PQ_FOREVER, NULL) == PQ_OK && is_item(item, i % 1000, i));
         if (i == 1000) {
             before = mallinfo2().uordblks;
         }
@@ -166,35 +332,73 @@ static void takes_no_more_memory(void) {
     close_and_free(queue);
 }
 
+/* The journal has this text at the index. */
+static pq_entry entry_at(const pq_journal *journal, size_t index, const char *wanted) {
+    pq_entry entry;
+    char text[PQ_TEXT_ROOM];
+    CHECK(pq_read(journal, index, &entry) == PQ_OK && pq_text(&entry, text) == strlen(text) && strcmp(text, wanted) == 0);
+    return entry;
+}
+
+static void has_entries(const pq_journal *journal) {
+    pq_entry entry = entry_at(journal, 2, "3 0 3 remove 1 got 5 1\n");
+    CHECK(entry.request == PQ_REMOVE && entry.ticket == 1 && entry.priority == 0 && entry.reply == PQ_OK && is_item(entry.item, 5, 1));
+    entry = entry_at(journal, 3, "4 0 4 remove 1 empty\n");
+    CHECK(entry.reply == PQ_EMPTY && entry.ticket == 1);
+    entry = entry_at(journal, 4, "5 0 5 move 1 0 empty\n");
+    CHECK(entry.request == PQ_RESCHEDULE && entry.ticket == 1 && entry.priority == 0 && entry.reply == PQ_EMPTY);
+    entry = entry_at(journal, 5, "6 0 6 move 2 18446744073709551615 got 6 2\n");
+    CHECK(entry.request == PQ_RESCHEDULE && entry.ticket == 2 && entry.priority == UINT64_MAX && entry.reply == PQ_OK && is_item(entry.item, 6, 2));
+    CHECK(pq_count(journal, NULL) == 6);
+}
+
 static void is_read_back(const char *name) {
     pq_queue *queue = opened_with_tickets(PQ_FILLS, 100, 0);
     const int file = name != NULL ? open(name, O_RDWR | O_CREAT | O_TRUNC, 0600) : memfd_create("journal", 0);
-    pq_journal *journal, *read;
-    pq_entry entry;
+    pq_journal *archive, *journal, *read;
     pq_item item;
-    uint64_t line, ticket = pushed(queue, 5, 1);
-    char text[PQ_TEXT_ROOM];
-    pushed(queue, 6, 2);
-    removes(queue, ticket, 5, 1); /* and once more */
+    uint64_t line, ticket = pushed(queue, 5, 1), other = pushed(queue, 6, 2);
+    removes(queue, ticket, 5, 1); /* and by the same ticket once more, and a move */
+    moved_to(queue, other, UINT64_MAX);
+    CHECK(pq_archive(pq_own(queue), 0, PQ_FOREVER, &archive) == PQ_OK);
     journal = closed(queue);
-    CHECK(pq_count(journal, NULL) == 4 && pq_read(journal, 2, &entry) == PQ_OK);
-    CHECK(entry.request == PQ_REMOVE && entry.ticket == ticket && entry.reply == PQ_OK && is_item(entry.item, 5, 1));
-    CHECK(pq_text(&entry, text) == strlen(text) && strcmp(text, "3 0 3 remove 1 got 5 1\n") == 0);
-    CHECK(pq_read(journal, 3, &entry) == PQ_OK && entry.reply == PQ_EMPTY && pq_text(&entry, text) > 0);
-    CHECK(strcmp(text, "4 0 4 remove 1 empty\n") == 0 && pq_write(journal, file) == PQ_OK && lseek(file, 0, SEEK_SET) == 0);
-    CHECK(pq_journal_read(file, &read, &line) == PQ_OK && line == 4 && pq_read(read, 2, &entry) == PQ_OK && entry.ticket == ticket);
-    CHECK(pq_take_left(read, &item) == PQ_OK && is_item(item, 6, 2) && pq_take_left(read, &item) == PQ_EMPTY && close(file) == 0);
+    has_entries(archive);
+    has_entries(journal);
+    CHECK(pq_write(journal, file) == PQ_OK && lseek(file, 0, SEEK_SET) == 0);
+    CHECK(pq_journal_read(file, &read, &line) == PQ_OK && line == 6 && close(file) == 0);
+    has_entries(read);
+    CHECK(pq_take_left(read, &item) == PQ_OK && is_item(item, UINT64_MAX, 2) && pq_take_left(read, &item) == PQ_EMPTY);
     pq_journal_free(read);
+    pq_journal_free(archive);
     pq_journal_free(journal);
+}
+
+/* A line that has a move of an item with another reply, or with none. */
+static void is_not_lawful(const char *text) {
+    const int file = memfd_create("journal", 0);
+    pq_journal *read;
+    uint64_t line = 0;
+    CHECK(write(file, text, strlen(text)) == (ssize_t)strlen(text) && lseek(file, 0, SEEK_SET) == 0);
+    CHECK(pq_journal_read(file, &read, &line) == PQ_NOT_LAWFUL && line == 2 && read == NULL && close(file) == 0);
 }
 
 int main(int count, char **words) {
     any_item_goes_out(PQ_FORGETS, 0);
     any_item_goes_out(PQ_FILLS, 100);
+    an_item_goes_after_its_equals(PQ_FORGETS, 0);
+    an_item_goes_after_its_equals(PQ_FILLS, 100);
     others_refuse();
+    refuses_for_now();
     each_goes_out_once();
-    makes_room();
+    only_a_removal_makes_room();
+    for (int is_shut = 0; is_shut < 2; is_shut++) {
+        a_sleeper_gets_what_is_moved_to_now(is_shut);
+        a_listener_is_woken_by_an_earlier_time(is_shut);
+    }
     takes_no_more_memory();
     is_read_back(count > 1 ? words[1] : NULL);
+    is_not_lawful("1 0 1 push 5 1 pushed\n2 0 2 move 1 3 empty\n");
+    is_not_lawful("1 0 1 push 5 1 pushed\n2 0 2 move 1 3 got 3 1\n");
+    is_not_lawful("1 0 1 push 5 1 pushed\n2 0 2 move 2 3 got 5 1\n");
     return 0;
 }

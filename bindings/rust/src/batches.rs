@@ -1,0 +1,137 @@
+//! Batches: what is pushed or taken out under one lock.
+use crate::after;
+use crate::calls::Call;
+use crate::error::{Error, NotAllPushed};
+use crate::journal::Item;
+use crate::key::Key;
+use crate::payload::{self, payload_of, value_of};
+use crate::raw;
+use std::marker::PhantomData;
+use std::mem;
+
+/// What a batch of pushes put in.
+#[derive(Clone, Copy, Debug, Default, PartialEq, Eq)]
+pub struct Pushed {
+    /// How many payloads.
+    pub count: usize,
+    /// The number of the first one's journal entry; 0 where it put none in. Up to 64 payloads have consecutive entries where the queue has no
+    /// bound.
+    pub number: u64,
+}
+
+/// Items that no queue has. Their payloads are dropped with this.
+struct Batch<T> {
+    items: Vec<Item>,
+    payloads: PhantomData<T>,
+}
+
+impl<T> Batch<T> {
+    fn new() -> Batch<T> {
+        Batch {
+            items: Vec::new(),
+            payloads: PhantomData,
+        }
+    }
+
+    /// Takes their payloads out.
+    fn back(mut self) -> impl Iterator<Item = T> {
+        // SAFETY: no queue has them, and each is taken out once.
+        let payload = |it: Item| unsafe { payload_of(it.value) };
+        mem::take(&mut self.items).into_iter().map(payload)
+    }
+}
+
+impl<T> Drop for Batch<T> {
+    fn drop(&mut self) {
+        // SAFETY: as above.
+        let dropped = |it: Item| unsafe { payload::dropped::<T>(it.value) };
+        drop(self.items.drain(..).map(dropped).collect::<Vec<_>>());
+    }
+}
+
+impl<T: Send, K: Key> Call<'_, T, K> {
+    pub fn push_many(
+        &self,
+        payloads: impl IntoIterator<Item = (K, T)>,
+    ) -> Result<Pushed, NotAllPushed<K, T>> {
+        let (mut keys, mut batch, mut refused) = (Vec::new(), Batch::new(), None);
+        let mut payloads = payloads.into_iter();
+        for (key, payload) in &mut payloads {
+            let priority = self.shared.times.priority_of(key);
+            match value_of(payload) {
+                Ok(value) => batch.items.push(Item { priority, value }),
+                Err(payload) => {
+                    refused = Some((key, payload));
+                    break;
+                }
+            }
+            keys.push(key);
+        }
+        let mut pushed = Pushed::default();
+        let result = match &refused {
+            Some(_) => Err(Error::NoMemory),
+            None => {
+                let put = |until| self.put_all(&mut batch, until, &mut pushed);
+                Error::unless_ok(self.puts(put))
+            }
+        };
+        self.has_number(pushed.number);
+        result.map(|()| pushed).map_err(|error| NotAllPushed {
+            payload: keys
+                .drain(pushed.count..)
+                .zip(batch.back())
+                .chain(refused)
+                .chain(payloads)
+                .collect(),
+            error,
+            pushed,
+        })
+    }
+
+    // Pushes a batch until then: its code.
+    fn put_all(&self, batch: &mut Batch<T>, until: u64, pushed: &mut Pushed) -> u32 {
+        let (at, count) = (batch.items.as_ptr(), batch.items.len());
+        let (mut done, mut number) = (0, 0);
+        // SAFETY: the member is there, and in this call alone; the others are borrowed for it.
+        let code =
+            unsafe { raw::pq_push_many(self.member, at, count, until, &mut done, &mut number) };
+        if pushed.count == 0 {
+            pushed.number = number;
+        }
+        batch.items.drain(..done);
+        pushed.count += done;
+        code
+    }
+
+    fn puts(&self, mut put: impl FnMut(u64) -> u32) -> u32 {
+        match after::calling(|| put(self.at_first())) {
+            code if self.waits_for_room(code) => after::waiting(|| put(self.until)),
+            code => code,
+        }
+    }
+
+    pub fn pop_due_many(&self, key: K, most: usize) -> Result<Vec<(K, T)>, Error> {
+        let priority = self.shared.times.priority_of(key);
+        let mut items: Vec<Item> = Vec::new();
+        items.try_reserve_exact(most).map_err(|_| Error::NoMemory)?;
+        let (member, at, until) = (self.member, items.as_mut_ptr(), self.until);
+        let (mut done, mut number) = (0, 0);
+        let taken: Vec<(u64, T)> = after::calling(|| {
+            // SAFETY: the member is there, and in this call alone; the items have the room.
+            let code = unsafe {
+                raw::pq_pop_due_many(member, priority, at, most, until, &mut done, &mut number)
+            };
+            self.has_number(number);
+            // SAFETY: the call has written so many.
+            unsafe { items.set_len(done) };
+            // SAFETY: the call took them out of a queue of such payloads.
+            let payload = |it: &Item| (it.priority, unsafe { payload_of(it.value) });
+            match code {
+                raw::OK | raw::EMPTY | raw::NOT_DUE => Ok(items.iter().map(payload).collect()),
+                code => Err(Error::of(code)),
+            }
+        })?;
+        let keyed = |(priority, payload)| (self.shared.times.key_of(priority), payload);
+        Ok(taken.into_iter().map(keyed).collect())
+    }
+}

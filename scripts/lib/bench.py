@@ -15,6 +15,8 @@ batches     threads that take so many items out under one lock, and put as many 
         a std::mutex that is locked once for as many
 services    a pipeline whose number of items is bounded, beside condition variables and a channel of crossbeam-channel
         (librust-crossbeam-channel-dev); sizes, a journal that is read back, and pushes that are on disk when they end
+cancels     a million timers, nine of ten of which are cancelled: removed by their tickets, marked in the queue, or erased from a std::set
+        under a std::mutex: time of processors, memory, and how late the others run
 programs    a simulation in time steps, a scheduler most of whose timers are cancelled, and Dijkstra's and A*'s searches of a grid, over
         the queue and over a std::mutex around std::priority_queue: how long each takes
 
@@ -40,6 +42,7 @@ import tempfile
 from dataclasses import dataclass
 
 import bench_batches
+import bench_cancels
 import bench_hold
 import bench_light
 import bench_services
@@ -68,7 +71,7 @@ PROGRAM_OF = {
 }
 KINDS = [*(it for it in stores.KINDS if it != TALLIED), *PROGRAM_OF]
 # The tables that have modules of their own.
-APART = (bench_light, bench_hold, bench_uses, bench_batches, bench_services)
+APART = (bench_light, bench_hold, bench_uses, bench_batches, bench_services, bench_cancels)
 TABLES = ["means", *(it for module in APART for it in module.TABLES)]
 # The kinds that may be asked for.
 ASKED = list(dict.fromkeys([*KINDS, *(it for module in APART for it in module.KINDS)]))
@@ -182,6 +185,8 @@ def quiet_tables(bench):
         yield bench_batches.batches(bench)
     if "services" in asked:
         yield bench_services.services(bench)
+    if "cancels" in asked:
+        yield bench_cancels.cancels(bench)
     if "means" in asked:
         yield from means(bench)
 

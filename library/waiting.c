@@ -1,10 +1,10 @@
 /*
  * Members that wait for an item: their threads sleep, or they listen for an event loop or a future.
  *
- * Why no wake is lost. A member that waits (1) puts itself into a list of the queue, (2) announces itself to the proved queue, (3) looks for an
- * item, and (4) sleeps until its word changes. A thread that carries a push out first does so, then asks whether any member is announced, and
- * then owes a wake. The look and the push both need the queue's lock. If the push came first, the look finds its item, or another call took it.
- * Else the member was announced before the push. So a wake is owed, and the member is in the list by then.
+ * Why no wake is lost; a move counts as a push. A member that waits (1) puts itself into a list of the queue, (2) announces itself to the proved
+ * queue, (3) looks for an item, and (4) sleeps until its word changes. A thread that carries a push out first does so, then asks whether any
+ * member is announced, and then owes a wake. The look and the push both need the queue's lock. If the push came first, the look finds its item,
+ * or another call took it. Else the member was announced before the push. So a wake is owed, and the member is in the list by then.
  *
  * A thread that owes wakes never waits for the lock of the lists: it adds them to `incoming`, and tries the lock. Each thread that has the lock
  * adds `incoming` to `owed` before it unlocks, and reads `incoming` again after that. So a wake whose thread found the lock held is made by the

@@ -8,9 +8,9 @@
 // times, or a type of the program (flatpq_keys.hpp). The item with the smallest key comes out first; items of equal keys come out in the
 // order in which they were pushed. flatpq.h says what each call does and what it asks of the program; this file adds types and ownership.
 //
-// A queue also has batches (push_many, pop_due_many, drain), an exact size(), a bound on its items (options::most_items), and listeners for event
-// loops. A program that writes archives to a file survives a crash: wait_archived waits until a push is on disk, and journal<Key>::read_from
-// reads the file back.
+// A queue also has batches (push_many, pop_due_many, drain), an exact size(), a bound on its items (options::most_items), tickets by which items
+// are removed and moved (options::tickets), and listeners for event loops. A program that writes archives to a file survives a crash:
+// wait_archived waits until a push is on disk, and journal<Key>::read_from reads the file back.
 //
 // Any number of threads may call a queue itself. A thread calls through a member of its own, which it gets at its first call; where all
 // members are in use it waits for one. A thread that waits for an item, or for room, keeps its member meanwhile. A program that moves members
@@ -121,8 +121,8 @@ public:
         return got([=](auto *by, auto *out, auto at, auto *number) { return pq_remove(by, ticket, out, at, number); }, until);
     }
 
-    /// Moves the item of this ticket to this key, after all items of that one, in one step: its ticket from now on. Its payload stays where it is.
-    /// code::gone, code::no_tickets; code::no_memory: the item stays as it was.
+    /// Moves the item of this ticket to this key, after all items of that one, in one step: its ticket from now on. Its payload stays where it
+    /// is. code::gone, code::no_tickets; code::no_memory: the item stays as it was.
     result<std::uint64_t> reschedule(std::uint64_t ticket, const key &priority, deadline until = {}) noexcept {
         std::uint64_t number = 0;
         const auto why = static_cast<code>(pq_reschedule(member_, ticket, key_order<key>::number(priority), until.at(), &number));
@@ -216,7 +216,7 @@ public:
     [[nodiscard]] code combine() noexcept { return static_cast<code>(pq_combine(member_)); }
 
     /// Takes the first item out, or the first one whose key is at most this one; else the member listens: code::empty, or code::not_due with
-    /// found::first(), which stays. It never waits. notify() is called once then, in the thread that pushes or shuts the queue. It must not
+    /// found::first(), which stays. It never waits. notify() is called once then, in the thread that pushes, moves or shuts. It must not
     /// throw, wait or call the queue, and has to live until it was called or the member listens no more.
     template <class Notify> found take_or_listen(Notify &notify) noexcept { return listened(UINT64_MAX, notify); }
     template <class Notify> found take_or_listen(const key &bound, Notify &notify) noexcept {
@@ -352,7 +352,7 @@ public:
     using found = typename detail::calls<Items>::found;
 
     /// Takes the first item out, or the first one whose key is at most this one. Call it when the descriptor is readable, until it returns
-    /// code::empty, or code::not_due with found::first(), which stays: then the descriptor is readable no more, until somebody pushes. It
+    /// code::empty, or code::not_due with found::first(), which stays: then the descriptor is readable no more, until a push or a move. It
     /// never waits. Where it returns code::shut or a refusal the descriptor stays readable.
     found take_or_listen() noexcept { return taken(UINT64_MAX); }
     found take_or_listen(const key &bound) noexcept { return taken(key_order<key>::number(bound)); }
@@ -384,7 +384,7 @@ public:
     using found = typename detail::calls<Items>::found;
 
     /// Takes the first item out if it is due. Call it when the descriptor is readable, until it returns code::empty, or code::not_due with
-    /// found::first(), which stays: then the descriptor is readable no more, until the first item is due, an earlier one is pushed, or the queue
+    /// found::first(), which stays: then the descriptor is readable no more, until the first item is due, an earlier one comes, or the queue
     /// is shut. It never waits. Where it returns code::shut or a refusal the descriptor stays as it was. The program does not read it.
     found take_or_listen() noexcept { return this->member_.take_due_or_listen(this->fd_); }
 

@@ -23,6 +23,7 @@
 //! - Calls: [`push`](TaskQueue::push), [`pop`](TaskQueue::pop) and [`peek`](TaskQueue::peek); [`take`](TaskQueue::take), which waits for a
 //!   payload; [`pop_due`](TaskQueue::pop_due) and [`take_due`](TaskQueue::take_due), where keys are times.
 //! - Batches, up to 64 requests under one lock: [`push_many`](TaskQueue::push_many) and [`pop_due_many`](TaskQueue::pop_due_many).
+//! - Tickets, by which a payload is removed or moved wherever it waits: [`remove`](TaskQueue::remove), [`reschedule`](TaskQueue::reschedule).
 //! - [`len`](TaskQueue::len) is exact. A queue may have a bound, at which pushes wait for room ([`Options::most_items`]).
 //! - They wait for other threads as long as it takes. [`until`](TaskQueue::until) limits that: `queue.until(deadline).take()`.
 //! - A [`TaskMember`] moves between threads; a thread that calls the queue itself has one of its own.
@@ -34,7 +35,7 @@
 //!   [`read_from`](TaskJournal::read_from) reads the file back. A journal has payloads as numbers, so that is for numbers alone.
 //! - A [`Queue`] is one of integers.
 //!
-//! All that a thread does before it pushes a payload happens before whatever a thread does after a call that returned this payload.
+//! All that a thread does before it pushes or moves a payload happens before whatever a thread does after a call that returned this payload.
 //!
 //! In a forked child of a process that has opened a queue each call is refused ([`Error::Forked`]), and payloads are not dropped.
 //!

@@ -167,7 +167,7 @@ pub struct DueListener<T, K = u64> {
 
 impl<T: Send, K: Key> DueListener<T, K> {
     /// Takes the first payload out, with its key, if it is due. Else the descriptor becomes readable once the first payload is due, an
-    /// earlier one is pushed, or the queue is shut, or sometimes for nothing. The call never waits.
+    /// earlier one comes, or the queue is shut, or sometimes for nothing. The call never waits.
     ///
     /// # Errors
     ///

@@ -287,6 +287,44 @@ static void a_sleeper_gets_what_is_moved_to_now(int is_shut) {
     close_and_free(queue);
 }
 
+static uint32_t taken;
+
+static void *take_all_due(void *queue) {
+    pq_item item;
+    pq_code code;
+    while ((code = pq_take_due(pq_own((pq_queue *)queue), &item, PQ_FOREVER, NULL)) == PQ_OK) {
+        __atomic_fetch_add(&taken, 1, __ATOMIC_RELAXED);
+    }
+    CHECK(code == PQ_SHUT);
+    return NULL;
+}
+
+/* Items are moved to now at each moment of the waits of two threads, and each is taken before the next is moved. */
+static void no_move_is_missed(int is_shut) {
+    enum { MOVES = 3000 };
+    pq_queue *queue = opened_with_tickets(PQ_FORGETS, 0, 0);
+    pthread_t threads[2];
+    taken = 0;
+    for (uint32_t i = 0; i < requests(MOVES); i++) {
+        tickets[i] = pushed(queue, in_ms(HOUR), i);
+    }
+    CHECK(!is_shut || pq_shut(queue) == PQ_OK);
+    threads[0] = started(take_all_due, queue);
+    threads[1] = started(take_all_due, queue);
+    for (uint32_t i = 0; i < requests(MOVES); i++) {
+        for (volatile uint32_t pause = i * 7919 % 4000; pause > 0; pause--) {
+        }
+        moved_to(queue, tickets[i], pq_now());
+        while (__atomic_load_n(&taken, __ATOMIC_RELAXED) <= i) {
+            sched_yield();
+        }
+    }
+    CHECK(pq_shut(queue) == PQ_OK);
+    ended(threads[0]);
+    ended(threads[1]);
+    close_and_free(queue);
+}
+
 static int is_readable(int fd, int milliseconds) {
     struct pollfd one = { 0, POLLIN, 0 };
     one.fd = fd;
@@ -394,6 +432,7 @@ int main(int count, char **words) {
     for (int is_shut = 0; is_shut < 2; is_shut++) {
         a_sleeper_gets_what_is_moved_to_now(is_shut);
         a_listener_is_woken_by_an_earlier_time(is_shut);
+        no_move_is_missed(is_shut);
     }
     takes_no_more_memory();
     is_read_back(count > 1 ? words[1] : NULL);

@@ -12,8 +12,8 @@ def put(items, index, one):
     return items[:index] + (one,) + items[index + 1:]
 
 
-# Takers of what is due, the items' times that are there, those that are still pushed, those announced, the events, who is still
-# to be woken, until when the one that watches sleeps, 0 where none does, and the time.
+# Takers of what is due, the items' times that are there, those that are still pushed or, of two times, moved from one to the other, those
+# announced, the events, who is still to be woken, until when the one that watches sleeps, 0 where none does, and the time.
 Due = namedtuple("Due", "takers items pushes waiters events wakes watched now")
 NOW = Due._fields.index("now")
 # `until` is when one wakes by itself, 0 where it doesn't; `watches` what it has put down.
@@ -24,6 +24,7 @@ DUE_CASES = {
     "two takers, two items due at once": (2, (1, 1), 0),
     "two takers, one of which is late": (2, (2,), 1),
     "three takers, an item": (3, (1,), 0),
+    "two takers, an item that is moved to an earlier time": (2, (2, (2, 1)), 0),
 }
 DUE_FAULTS = [
     "one that slept and takes an item wakes nobody",
@@ -31,8 +32,9 @@ DUE_FAULTS = [
     "one that watched leaves its mark",
     "one leaves an earlier item to the one that watches",
     "one that is to look leaves that to the one that watches",
+    "a move wakes nobody",
 ]
-TAKES, GOES, MARKS, EARLIER, NO_LOOK = DUE_FAULTS
+TAKES, GOES, MARKS, EARLIER, NO_LOOK, MOVES = DUE_FAULTS
 # When the first goes, the fault, and whether each watches the clock by itself, as in Rattle, and none leaves that to another.
 Rule = namedtuple("Rule", "deadline fault each")
 LAST = 2
@@ -47,9 +49,14 @@ def due_steps(state, rule):
     """Yields each next state."""
     if state.now < LAST:
         yield state._replace(now=state.now + 1)
-    for j, due in enumerate(state.pushes):
-        pushed = state._replace(pushes=state.pushes[:j] + state.pushes[j + 1:], items=tuple(sorted(state.items + (due,))))
-        yield due_woken(pushed)
+    for j, one in enumerate(state.pushes):
+        *old, due = one if isinstance(one, tuple) else (one,)
+        if not old or old[0] in state.items:
+            items = list(state.items)
+            for it in old:
+                items.remove(it)
+            changed = state._replace(pushes=state.pushes[:j] + state.pushes[j + 1:], items=tuple(sorted(items + [due])))
+            yield changed if old and rule.fault == MOVES else due_woken(changed)
     if state.wakes:
         asleep = [i for i, it in enumerate(state.takers) if it.at == "asleep"]
         for i in asleep:
@@ -124,7 +131,7 @@ def due_lost(case, fault, each=False):
 
 MODELS = {
     "due": (DUE_CASES, DUE_FAULTS, due_lost),
-    "due, each by the clock": (DUE_CASES, [TAKES, GOES], lambda case, fault: due_lost(case, fault, each=True)),
+    "due, each by the clock": (DUE_CASES, [TAKES, GOES, MOVES], lambda case, fault: due_lost(case, fault, each=True)),
 }
 
 

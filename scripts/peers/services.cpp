@@ -35,7 +35,7 @@ private:
 
 static std::string text_of(std::uint64_t number) {
     const std::uint64_t pushed = (number + 1) / 2;
-    const pq_entry entry = {number, number, 0, number % 2 == 1 ? PQ_PUSH : PQ_POP, PQ_OK, 0, {pushed, pushed}, 0};
+    const pq_entry entry = {number, number, 0, number % 2 == 1 ? PQ_PUSH : PQ_POP, PQ_OK, 0, {pushed, pushed}, 0, 0};
     char text[PQ_TEXT_ROOM];
     return {text, pq_text(&entry, text)};
 }

@@ -4,9 +4,14 @@
 #include <fcntl.h>
 #include <unistd.h>
 
-/* The queue of one thread: the items in the order in which they come out. */
+/* The queue of one thread: the items in the order in which they come out, with their tickets. */
+typedef struct waiting {
+    pq_item item;
+    uint64_t ticket;
+} waiting;
+
 typedef struct list {
-    pq_item *items;
+    waiting *items;
     size_t count;
 } list;
 
@@ -15,36 +20,59 @@ static int same(pq_item one, pq_item other) {
 }
 
 /* Puts an item after all of its priority. */
-static void put(list *it, pq_item item) {
+static void put(list *it, pq_item item, uint64_t ticket) {
+    const waiting one = { item, ticket };
     size_t at = it->count++;
-    for (; at > 0 && it->items[at - 1].priority > item.priority; at--) {
+    for (; at > 0 && it->items[at - 1].item.priority > item.priority; at--) {
         it->items[at] = it->items[at - 1];
     }
-    it->items[at] = item;
+    it->items[at] = one;
+}
+
+/* The place of the item that an entry is about, or count. */
+static size_t place_of(const list *it, const pq_entry *entry) {
+    size_t at = 0;
+    while ((entry->request == PQ_REMOVE || entry->request == PQ_RESCHEDULE) && at < it->count && it->items[at].ticket != entry->ticket) {
+        at++;
+    }
+    return at;
 }
 
 /* Whether the list replies what the entry says. */
 static int replies(list *it, const pq_entry *entry) {
+    const pq_item moved = { entry->priority, entry->item.value };
+    const size_t at = place_of(it, entry);
     if (entry->request == PQ_PUSH) {
-        put(it, entry->item);
+        put(it, entry->item, entry->number);
         return entry->reply == PQ_OK;
     }
-    if (it->count == 0) {
+    if (at == it->count) {
         return entry->reply == PQ_EMPTY;
     }
-    if (entry->reply != PQ_OK || !same(entry->item, it->items[0])) {
+    if (entry->reply != PQ_OK || !same(entry->item, it->items[at].item)) {
         return 0;
     }
-    if (entry->request == PQ_POP) {
-        memmove(it->items, it->items + 1, --it->count * sizeof *it->items);
+    if (entry->request != PQ_PEEK) {
+        memmove(it->items + at, it->items + at + 1, (--it->count - at) * sizeof *it->items);
+    }
+    if (entry->request == PQ_RESCHEDULE) {
+        put(it, moved, entry->number);
     }
     return 1;
+}
+
+static int are_left(const list *it, const pq_item *left, size_t left_count) {
+    size_t at = 0;
+    while (at < it->count && at < left_count && same(it->items[at].item, left[at])) {
+        at++;
+    }
+    return at == it->count && at == left_count;
 }
 
 /* The entries are numbered, the serials of each place go up, and the list replies the same and leaves the same. */
 static const char *replayed(const pq_entry *entries, size_t count, const pq_item *left, size_t left_count) {
     uint64_t serials[4096] = { 0 };
-    list plain = { (pq_item *)malloc((count + 1) * sizeof(pq_item)), 0 };
+    list plain = { (waiting *)malloc((count + 1) * sizeof(waiting)), 0 };
     const char *wrong = NULL;
     for (size_t i = 0; i < count && wrong == NULL; i++) {
         const pq_entry *it = &entries[i];
@@ -54,15 +82,17 @@ static const char *replayed(const pq_entry *entries, size_t count, const pq_item
                                                                              : NULL;
         serials[it->place & 4095] = it->serial;
     }
-    if (wrong == NULL && (plain.count != left_count || memcmp(plain.items, left, left_count * sizeof *left) != 0)) {
+    if (wrong == NULL && !are_left(&plain, left, left_count)) {
         wrong = "the items that are left are not those of a sorted list";
     }
     free(plain.items);
     return wrong;
 }
 
+/* A move returns no item. */
 static int is_answer(const pq_entry *entry, const answer *it) {
-    return entry->request == it->request && entry->reply == it->reply && (it->reply != PQ_OK || same(entry->item, it->item));
+    const int has_item = it->reply == PQ_OK && it->request != PQ_RESCHEDULE;
+    return entry->request == it->request && entry->reply == it->reply && (!has_item || same(entry->item, it->item));
 }
 
 /* Finds the entry of an answer, which no other answer has: its index, or count. */
@@ -186,19 +216,20 @@ const char *judged(pq_queue *queue, const outcome *all, uint32_t threads, uint64
     return wrong;
 }
 
-/* A journal of two pushes and a pop, as two threads have made them, is lawful, and no longer where one thing is another. */
+/* A journal of two pushes, a pop and a move, as two threads have made them, is lawful, and no longer where one thing is another. */
 int finds_faults(void) {
-    const pq_entry lawful[3] = { { 1, 1, 0, PQ_PUSH, PQ_OK, 0, { 5, 1 }, 0 },
-                                 { 2, 1, 1, PQ_PUSH, PQ_OK, 0, { 3, 2 }, 0 },
-                                 { 3, 2, 0, PQ_POP, PQ_OK, 0, { 3, 2 }, 0 } };
-    const answer of_first[2] = { { 1, PQ_PUSH, PQ_OK, { 5, 1 } }, { 3, PQ_POP, PQ_OK, { 3, 2 } } };
+    const pq_entry lawful[4] = { { 1, 1, 0, PQ_PUSH, PQ_OK, 0, { 5, 1 }, 0, 0 },
+                                 { 2, 1, 1, PQ_PUSH, PQ_OK, 0, { 3, 2 }, 0, 0 },
+                                 { 3, 2, 0, PQ_POP, PQ_OK, 0, { 3, 2 }, 0, 0 },
+                                 { 4, 3, 0, PQ_RESCHEDULE, PQ_OK, 0, { 5, 1 }, 1, 7 } };
+    const answer of_first[3] = { { 1, PQ_PUSH, PQ_OK, { 5, 1 } }, { 3, PQ_POP, PQ_OK, { 3, 2 } }, { 4, PQ_RESCHEDULE, PQ_OK, { 0, 0 } } };
     const answer of_second = { 0, PQ_PUSH, PQ_OK, { 3, 2 } };
-    const pq_item left = { 5, 1 };
+    const pq_item left = { 7, 1 };
     int found = 1;
-    for (int fault = 0; fault <= 9; fault++) {
-        pq_entry entries[3];
-        answer answers[3] = { of_first[0], of_first[1], of_second };
-        outcome all[2] = { { answers, 2, 2, 0, 0, 2, 1, NULL, 0, NULL }, { &answers[2], 1, 1, 0, 0, 1, 1, NULL, 0, NULL } };
+    for (int fault = 0; fault <= 11; fault++) {
+        pq_entry entries[4];
+        answer answers[4] = { of_first[0], of_first[1], of_first[2], of_second };
+        outcome all[2] = { { answers, 3, 3, 0, 0, 3, 1, NULL, 0, NULL }, { &answers[3], 1, 1, 0, 0, 1, 1, NULL, 0, NULL } };
         memcpy(entries, lawful, sizeof entries);
         entries[1].serial = fault == 1 ? 0 : 1;
         entries[2].item.value = fault == 2 ? 1 : 2;
@@ -210,7 +241,9 @@ int finds_faults(void) {
         all[1].archive = entries + 1;
         all[1].archived = fault == 8;
         all[0].wrong = fault == 9 ? "a fault" : NULL;
-        found = found && (audited(entries, 3, &left, 1, all, 2, 4) == NULL) == (fault == 0);
+        entries[3].ticket = fault == 10 ? 2 : 1;
+        entries[3].priority = fault == 11 ? 8 : 7;
+        found = found && (audited(entries, 4, &left, 1, all, 2, 5) == NULL) == (fault == 0);
     }
-    return found && audited(lawful, 3, &left, 0, NULL, 0, 4) != NULL;
+    return found && audited(lawful, 4, &left, 0, NULL, 0, 5) != NULL;
 }

@@ -48,7 +48,7 @@ typedef struct plan {
     pq_queue *queue;
     uint32_t threads, members;
     uint64_t room;
-    int is_kept, archives;
+    int is_kept, archives, has_tickets;
 } plan;
 
 typedef struct caller {
@@ -157,6 +157,24 @@ static void by_bound(caller *own) {
     }
 }
 
+/* Removes or moves an item, by the number of a request of this thread or of any: the item waits, is gone, or never had this ticket. */
+static void by_ticket(caller *own) {
+    const outcome *it = &own->outcome;
+    uint64_t last = it->count > 0 ? it->answers[it->count - 1].number : 1;
+    uint64_t ticket = it->count > 0 && below(&own->drawn, 2) == 0 ? it->answers[below(&own->drawn, (uint32_t)it->count)].number
+                                                                  : 1 + below(&own->drawn, (uint32_t)last);
+    uint64_t priority = drawn_item(own).priority, until = drawn_until(own), number = 0;
+    pq_item item = { 0, 0 };
+    int moves = below(&own->drawn, 2) == 0;
+    pq_code code = moves ? pq_reschedule(own->member, ticket, priority, until, &number) : pq_remove(own->member, ticket, &item, until, &number);
+    if (code != PQ_NO_TICKETS) {
+        answered(own, moves ? PQ_RESCHEDULE : PQ_REMOVE, code == PQ_GONE ? PQ_EMPTY : code, number, item);
+    }
+    if (code == PQ_NO_TICKETS && own->round->has_tickets) {
+        own->outcome.wrong = pq_code_text(code);
+    }
+}
+
 /* Pushes or pops several at once. Their entries are consecutive. */
 static void by_batch(caller *own) {
     pq_item items[AT_ONCE];
@@ -226,7 +244,7 @@ static int finds_lock_held(pq_member *member) {
 
 static void *calls(void *at) {
     caller *own = (caller *)at;
-    void (*const ways[])(caller *) = { by_call, by_call, by_call, by_post, by_post, by_bound, by_batch };
+    void (*const ways[])(caller *) = { by_call, by_call, by_call, by_post, by_post, by_bound, by_batch, by_ticket };
     uint32_t most = below(&own->drawn, MOST_CALLS);
     if (own->round->is_kept && own->number == 0) {
         keeps(own);
@@ -255,14 +273,15 @@ static void *calls(void *at) {
     return NULL;
 }
 
-/* Draws a round. One in eight has a journal of few entries, and in one of eight a member holds the lock. */
+/* Draws a round. One in eight has a journal of few entries, half have tickets, and in one of eight a member holds the lock. */
 static plan drawn_round(numbers *drawn) {
     pq_options options = { 0, 0, 0, 0, 0, 0, 0 };
-    plan it = { NULL, below(drawn, 64) + 1, 0, UINT64_MAX, below(drawn, 8) == 0, 0 };
+    plan it = { NULL, below(drawn, 64) + 1, 0, UINT64_MAX, below(drawn, 8) == 0, 0, below(drawn, 2) == 0 };
     uint32_t few = below(drawn, 8);
     it.threads += it.is_kept && it.threads == 1;
     it.members = it.is_kept ? it.threads : below(drawn, it.threads) + 1;
     options.members = it.members;
+    options.tickets = (uint32_t)it.has_tickets;
     if (few == 0 && !it.is_kept) {
         options.keeping = PQ_FILLS;
         options.entries = below(drawn, 100) + 1;

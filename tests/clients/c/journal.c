@@ -62,10 +62,15 @@ static void is_text(const pq_entry *entry, const char *wanted) {
 
 /* A member may make 2^56 requests, and a journal may have as many entries: more digits than these there are not. */
 static void has_text(void) {
-    const pq_entry push = { UINT64_MAX, UINT64_MAX, 2079, PQ_PUSH, PQ_OK, 0, { UINT64_MAX, UINT64_MAX }, 0 };
-    pq_entry entry = { 7, 2, 3, PQ_PUSH, PQ_OK, 0, { 5, 1 }, 0 };
-    is_text(&push, "18446744073709551615 2079 18446744073709551615 push 18446744073709551615 18446744073709551615 pushed\n");
+    const pq_entry move = { UINT64_MAX, UINT64_MAX, 2079, PQ_RESCHEDULE, PQ_OK, 0, { UINT64_MAX, UINT64_MAX }, UINT64_MAX, UINT64_MAX };
+    pq_entry entry = { 7, 2, 3, PQ_PUSH, PQ_OK, 0, { 5, 1 }, 4, 6 };
+    is_text(&move, "18446744073709551615 2079 18446744073709551615 move 18446744073709551615 18446744073709551615 got 18446744073709551615 "
+                   "18446744073709551615\n");
     is_text(&entry, "7 3 2 push 5 1 pushed\n");
+    entry.request = PQ_REMOVE;
+    is_text(&entry, "7 3 2 remove 4 got 5 1\n");
+    entry.request = PQ_RESCHEDULE;
+    is_text(&entry, "7 3 2 move 4 6 got 5 1\n");
     entry.request = PQ_POP;
     is_text(&entry, "7 3 2 pop got 5 1\n");
     entry.request = PQ_PEEK;

@@ -104,6 +104,21 @@ fn what_is_there_is_ready_and_what_comes_wakes() {
     assert_eq!(entries, 8);
 }
 
+/// The sleep until the old time never ends.
+#[test]
+fn a_move_to_now_wakes() {
+    let queue: TaskQueue<u32, Instant> = Options::new().tickets(true).open().unwrap();
+    let ticket = queue.push(Instant::now() + LONG, 1).unwrap();
+    let mut taker = queue.join().unwrap();
+    let counted = Counted::new();
+    let mut take = Box::pin(taker.take_due_async(|_| std::future::pending()));
+    assert!(polled(&mut take, &counted).is_pending() && counted.wakes() == 0);
+    let now = Instant::now();
+    assert_eq!(queue.reschedule(ticket, now), Ok(Some(2)));
+    assert_eq!(counted.wakes(), 1);
+    assert_eq!(polled(&mut take, &counted), Poll::Ready(Ok((now, 1))));
+}
+
 #[test]
 fn a_future_of_the_queue_joins_while_it_waits() {
     let queue: TaskQueue<String> = Options::new().members(2).open().unwrap();

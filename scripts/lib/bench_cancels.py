@@ -17,9 +17,10 @@ def cancels(bench):
     cells = {it: Trial("cancels", it, (COUNT, MILLISECONDS), "cancels") for it in CANCELS}
     figures = bench.runs("cancels", list(cells.values()), bench.asked.runs)
     rows = []
-    for it, told in CANCELS.items():
+    for it, text in CANCELS.items():
         processor, memory, half, most = (median(figures, cells[it], at) for at in range(1, 5))
-        rows.append([told, f"{processor / 1e6:,.0f}", f"{memory / 1024:.1f}", f"{half / 1e3:,.0f}", f"{most / 1e3:,.0f}"])
-    title = f"{COUNT:,} timers in {MILLISECONDS / 1000:.0f} seconds, set by 4 threads and run by 2, of which 90 % are cancelled, medians of {bench.asked.runs} runs"
+        rows.append([text, f"{processor / 1e6:,.0f}", f"{memory / 1024:.1f}", f"{half / 1e3:,.0f}", f"{most / 1e3:,.0f}"])
+    title = f"{COUNT:,} timers in {MILLISECONDS / 1000:.0f} seconds, set by 4 threads and run by 2, 90 % of them cancelled"
+    title += f", medians of {bench.asked.runs} runs"
     head = ["a cancelled timer is", "processor time, ms", "memory, MiB", "half are late by at most, us", "99 of 100, us"]
     return table(bench, title, head, rows)

@@ -197,7 +197,8 @@ int main(int argc, char **argv) {
     } kinds[] = {{"removed", runs<removed>}, {"marked", runs<marked>}, {"tree", runs<tree>}};
     std::uint64_t count = 0, milliseconds = 0;
     for (const auto &it : kinds) {
-        if (argc == 4 && std::string(argv[1]) == it.kind && read_number(argv[2], 100, 10000000, count) && read_number(argv[3], 1, 100000, milliseconds)) {
+        const bool is_it = argc == 4 && std::string(argv[1]) == it.kind;
+        if (is_it && read_number(argv[2], 100, 10000000, count) && read_number(argv[3], 1, 100000, milliseconds)) {
             return it.run(it.kind, count, milliseconds);
         }
     }

@@ -54,14 +54,14 @@ fn a_push_and_a_shut_make_it_readable() {
 fn a_timer_is_readable_once_the_first_is_due() {
     let queue = TaskQueue::new().unwrap();
     let mut listener = queue.due_listener().unwrap();
-    let first = Instant::now() + Duration::from_millis(1500);
-    let last = first + Duration::from_secs(3600);
+    let last = Instant::now() + Duration::from_secs(3600);
     assert!(listener.take_due() == Ok(Due::Empty) && !is_readable(&listener, 0));
     queue.push(last, String::from("last")).unwrap();
     assert!(is_readable(&listener, 60_000));
     assert_eq!(listener.take_due(), Ok(Due::Later(last)));
     queue.push(last, String::from("same")).unwrap();
     assert!(!is_readable(&listener, 10));
+    let first = Instant::now() + Duration::from_millis(1500);
     queue.push(first, String::from("first")).unwrap();
     assert!(is_readable(&listener, 60_000));
     assert_eq!(listener.take_due(), Ok(Due::Later(first)));

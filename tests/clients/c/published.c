@@ -164,11 +164,51 @@ static void a_note_is_there(enum way way) {
     ended(thread);
 }
 
+/* What one thread writes before it pushes an item, and another before it moves it. */
+static unsigned pushers, movers;
+static int ticket;
+
+static void *writes_and_moves(void *member) {
+    movers = 1;
+    while (is_set(&ticket) == 0) {
+        sched_yield();
+    }
+    CHECK(pq_reschedule((pq_member *)member, (uint64_t)is_set(&ticket), 1, PQ_FOREVER, NULL) == PQ_OK);
+    pq_give_back((pq_member *)member);
+    return NULL;
+}
+
+static void *reads_both(void *member) {
+    pq_item item;
+    while (pq_pop_due((pq_member *)member, 1, &item, PQ_FOREVER, NULL) != PQ_OK) {
+        sched_yield();
+    }
+    CHECK(is_item(item, 1, 0) && pushers == 1 && movers == 1);
+    pq_give_back((pq_member *)member);
+    return NULL;
+}
+
+static void a_move_hands_on_too(void) {
+    const pq_options options = { 0, PQ_FORGETS, 0, 1, 0, 0, 0 };
+    CHECK(pq_open(&options, &queue) == PQ_OK);
+    pq_member *here = joined(queue);
+    pthread_t reader = started(reads_both, joined(queue)), mover = started(writes_and_moves, joined(queue));
+    uint64_t number;
+    pushers = 1;
+    CHECK(pq_push(here, item_of(2, 0), PQ_FOREVER, &number) == PQ_OK);
+    set(&ticket, (int)number);
+    ended(reader);
+    ended(mover);
+    pq_give_back(here);
+    close_and_free(queue);
+}
+
 int main(void) {
     records_are_handed_on(AT_ONCE);
     records_are_handed_on(ALL);
     for (int way = 0; way < WAYS; way++) {
         a_note_is_there((enum way)way);
     }
+    a_move_hands_on_too();
     return 0;
 }

@@ -103,7 +103,7 @@ fn journals_have_both() {
 }
 
 const PAYLOADS: usize = 400;
-const ROUNDS: usize = 40;
+const ROUNDS: usize = 20;
 
 /// How often each payload was dropped, and its last ticket.
 struct Records {

@@ -23,6 +23,7 @@ typedef struct core_answer {
     pq_item item;
 } core_answer;
 
+/* An entry of a journal. Its request is one of pq_request; of PQ_RESCHEDULE the item has the new priority, and value 0. */
 typedef struct core_line {
     uint64_t serial;
     uint32_t place;

@@ -18,9 +18,7 @@ use Rattle.std.proofs.Crossing.{crosses, frees, send, Vec-send}
 use Rattle.std_alloc.proofs.SendSync.{lies}
 use Rattle.std.specs.contracts.prelude.U64Eq.TheImpl as wide_equivalence
 use Rattle.std.specs.contracts.prelude.U64PartialEq.TheImpl as wide_equal
-use Rattle.pq_types.specs.contracts.item.Item as item
 use Rattle.pq_types.specs.contracts.part.U64Part.TheImpl as wide_part
-use Rattle.pq_types.proofs.item.Item.TheSendSync as item_sent
 use Rattle.pq_types.proofs.journal.Line.TheSendSync as line
 use Rattle.pq_book.specs.contracts.entry.Entry as entry
 use Rattle.pq_book.specs.contracts.entry.EntryHasTicket.TheImpl as ticketed
@@ -79,16 +77,9 @@ heap_row = any_heap.the_row row tickets ordered compared half_ordered
 heap_sent : IsSend heap_row
 heap_sent = any_heap_sent.the_send row tickets ordered compared half_ordered row_sent
 
--- the item of a line
-abbrev item_of_line : RattleType
-item_of_line = item.the_row u64 wide_part.ghosts wide_equal.ghosts
-
-item_of_line_sent : IsSend item_of_line
-item_of_line_sent = search (number_sent, item_sent.the_send, sendable) depth 40
-
 -- each part whole, since a `search` that goes down through them runs out of steps
 inside_journal_sent : IsSend inside_journal.the_row
-inside_journal_sent = declared_send inside_journal.the_type (number_sent, (Vec-send _ (line.the_send item_of_line item_of_line_sent), (heap_sent, tt)))
+inside_journal_sent = declared_send inside_journal.the_type (number_sent, (Vec-send _ (line.the_send u64 wide_part.ghosts wide_equal.ghosts number_sent), (heap_sent, tt)))
 
 journal_sent : IsSend journal.the_row
 journal_sent = view_send inside_journal.the_row _ _ _ _ inside_journal_sent

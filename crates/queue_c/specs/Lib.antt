@@ -12,7 +12,7 @@ pub mod Looking
 pub mod Numbers
 pub mod Openings
 pub mod Plain
-pub mod Removing
 pub mod Replaying
 pub mod Threads
+pub mod Tickets
 pub mod Values

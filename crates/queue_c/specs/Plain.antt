@@ -2,7 +2,7 @@
 use Rattle.std.specs.Prelude.{◌≡◌, ℕ, ◌≤◌, ◌==◌, if◌then◌else◌, Option, Some, None}
 use Rattle.pq_types.specs.Item.{Item}
 use Rattle.pq_types.specs.Asked.{Request, Operation}
-use Rattle.pq_types.specs.Operation.{Asked, ByTicket, Remove}
+use Rattle.pq_types.specs.Operation.{Asked, ByTicket, Remove, Move}
 use Rattle.pq_types.specs.declared.request.Request.TheVariants.{Push, Pop, Least}
 use Rattle.pq_types.specs.Asked.{Reply}
 use Rattle.pq_types.specs.declared.answer.Reply.TheVariants.{Pushed, Got, Empty, Least as LeastIs}
@@ -30,16 +30,19 @@ request_number Least = 2
 abbrev pub operation_number : Operation → ℕ
 operation_number (Asked request) = request_number request
 operation_number (ByTicket (Remove ticket)) = 3
+operation_number (ByTicket (Move ticket priority)) = 4
 
--- its item
+-- its item: of a move one of the new priority, and of value 0
 abbrev pub operation_item : Operation → Option Item
 operation_item (Asked request) = request_item request
 operation_item (ByTicket (Remove ticket)) = None
+operation_item (ByTicket (Move ticket priority)) = Some (item priority 0)
 
 -- its ticket, or 0
 abbrev pub operation_ticket : Operation → ℕ
 operation_ticket (Asked request) = 0
 operation_ticket (ByTicket (Remove ticket)) = ticket
+operation_ticket (ByTicket (Move ticket priority)) = ticket
 
 -- the number of a reply
 abbrev pub reply_number : Reply → ℕ

@@ -30,7 +30,7 @@ abbrev pub RefusingLine : List ℕ → Option Replayed → Type 0
 RefusingLine text None = ⊥
 RefusingLine text (Some replay) = (why : Unlawful) × IsUnlawful true replay.journal text why
 
--- the text is a push that may come next, and memory for its item was refused
+-- the text is a push or a move that may come next, and memory for its item was refused
 abbrev pub LackingMemory : List ℕ → Option Replayed → Type 0
 LackingMemory text None = ⊥
 LackingMemory text (Some replay) = LacksMemory true replay.journal text

@@ -15,11 +15,7 @@ use pq_types::{Item, Line};
 use std::alloc::Global;
 
 // Brings an empty archive of the member's journal up to date from so many lines on, and answers the code.
-fn bring_up_to_date(
-    member: &mut QueueMember,
-    archived: u64,
-    lines: &mut Vec<Line<Item<u64>>>,
-) -> u32
+fn bring_up_to_date(member: &mut QueueMember, archived: u64, lines: &mut Vec<Line<u64>>) -> u32
     requires empty { lines.old.items ≡ [] }
     ensures copied { result ≡ OK
         → (count : ℕ) × Archiving (Some member.old) archived lines.new.items (Ok count) (Some member.new) }

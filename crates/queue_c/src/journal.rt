@@ -17,7 +17,7 @@ use std::marker::Model;
 #[derive(Drop)]
 pub struct Journal {
     before: u64,
-    lines: Vec<Line<Item<u64>>>,
+    lines: Vec<Line<u64>>,
     store: Heap,
 }
 
@@ -34,7 +34,7 @@ impl Model for Journal {
 
 impl Journal {
     /// What is left of a queue that was closed: its store, and the lines in memory behind so many.
-    pub fn of(store: Heap, before: u64, lines: Vec<Line<Item<u64>>>) -> Journal
+    pub fn of(store: Heap, before: u64, lines: Vec<Line<u64>>) -> Journal
         ensures before { result.before ≡ before }
         ensures lines { result.lines ≡ lines.items }
         ensures items { result.items ≡ map item_of (items_of store) }
@@ -47,7 +47,7 @@ impl Journal {
     }
 
     /// Lines that were copied out of a journal, behind so many.
-    pub fn copied(alloc: Global, before: u64, lines: Vec<Line<Item<u64>>>) -> Journal
+    pub fn copied(alloc: Global, before: u64, lines: Vec<Line<u64>>) -> Journal
         ensures before { result.before ≡ before }
         ensures lines { result.lines ≡ lines.items }
         ensures items { result.items ≡ [] }
@@ -70,7 +70,7 @@ impl Journal {
     }
 
     /// The line of this index, from 0.
-    pub fn line(&self, index: usize) -> Option<&Line<Item<u64>>>
+    pub fn line(&self, index: usize) -> Option<&Line<u64>>
         ensures { MatchOption result (slice_get self.now.lines index ≡ None) (λ l. slice_get self.now.lines index ≡ Some l.now) }
     {
         self.lines.get(index)

@@ -28,8 +28,8 @@ pub struct PlainAnswer {
     pub value: u64,
 }
 
-/// A line of the journal. The requests: 0 push, 1 pop, 2 least, 3 the removal of the item with this ticket, which is 0 else; the replies are the
-/// first four kinds of answers.
+/// A line of the journal. The requests: 0 push, 1 pop, 2 least, 3 the removal of the item with this ticket, which is 0 else, 4 its
+/// move to this priority, with 0 for a value; the replies are the first four kinds of answers.
 #[repr(C)]
 #[derive(Clone, Copy)]
 pub struct PlainLine {
@@ -65,16 +65,17 @@ pub fn told_reply(reply: Reply<Item<u64>>) -> (u32, Item<u64>)
 }
 
 /// The kind of an operation, its item and its ticket, or zeros.
-pub fn told_operation(operation: Operation<Item<u64>>) -> (u32, Item<u64>, u64)
-    ensures number { result.0 ≡ operation_number operation }
-    ensures item { result.1 ≡ or_zeros (operation_item operation) }
-    ensures ticket { result.2 ≡ operation_ticket operation }
+pub fn told_operation(operation: &Operation<u64>) -> (u32, Item<u64>, u64)
+    ensures number { result.0 ≡ operation_number operation.now }
+    ensures item { result.1 ≡ or_zeros (operation_item operation.now) }
+    ensures ticket { result.2 ≡ operation_ticket operation.now }
 {
-    match operation.done {
-        Done::Push(item) => (0, item, 0),
+    match &operation.done {
+        Done::Push(item) => (0, *item, 0),
         Done::Pop => (1, no_item(), 0),
         Done::Least => (2, no_item(), 0),
-        Done::Remove(ticket) => (3, no_item(), ticket),
+        Done::Remove(ticket) => (3, no_item(), *ticket),
+        Done::Move(priority, ticket) => (4, Item::of_parts(*priority, 0), *ticket),
     }
 }
 
@@ -129,10 +130,10 @@ pub fn tell_answer(answer: &Answer<Item<u64>>, owes_wake: u32) -> PlainAnswer
 }
 
 /// The line of a journal for C.
-pub fn tell_line(line: &Line<Item<u64>>) -> PlainLine
+pub fn tell_line(line: &Line<u64>) -> PlainLine
     ensures { result ≡ told_line line.now }
 {
-    let (request, item, ticket) = told_operation(line.operation);
+    let (request, item, ticket) = told_operation(&line.operation);
     let (reply, told) = told_reply(line.reply);
     PlainLine {
         serial: line.serial,

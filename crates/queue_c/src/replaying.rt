@@ -66,9 +66,9 @@ fn read_line(held: &mut Contents, text: &[u8]) -> u32
     read_next(replay, text)
 }
 
-/// Reads a text without its line feed as the journal's next line, and carries its request out: 0, and the journal that was read
+/// Reads a text without its line feed as the journal's next line, and carries its operation out: 0, and the journal that was read
 /// has that line at its end, and is a lawful one. Refusals, which change nothing: 54 where the text is no line that may come
-/// next, 6 no memory for the item of a push, 42 where the handle holds no replay. The pointer must not be null, where the length
+/// next, 6 no memory for the item of a push or a move, 42 where the handle holds no replay. The pointer must not be null, where the length
 /// is 0 neither.
 #[unsafe(no_mangle)]
 pub extern "C" fn pq_core_replay_line(alloc: Global, replay: &mut Handle, text: &[u8]) -> u32

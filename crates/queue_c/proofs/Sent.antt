@@ -35,8 +35,8 @@ use Rattle.queue_texts.specs.contracts.replay.Replay as replay_row
 use Rattle.queue_texts.proofs.owned.Owned.TheSendSync as owned
 use Rattle.queue_texts.proofs.replay.Replay.TheSendSync as replay
 use Rattle.queue_c.specs.Boxes.{heap, held_if}
-use Rattle.queue_c.specs.contracts.any_heap.AnyHeap as any_heap
-use Rattle.queue_c.proofs.any_heap.AnyHeap.TheSendSync as any_heap_sent
+use Rattle.any_heap.specs.contracts.any_heap.AnyHeap as any_heap
+use Rattle.any_heap.proofs.any_heap.AnyHeap.TheSendSync as any_heap_sent
 use Rattle.queue_c.specs.contracts.handle.Handle as handle
 use Rattle.queue_c.specs.contracts.contents.Contents as held
 use Rattle.queue_c.specs.contracts.journal.Journal as journal
@@ -72,10 +72,10 @@ tickets = ticketed.ghosts u64 wide_part.ghosts wide_part.dict (clone.ghosts u64)
 
 -- the heap
 abbrev heap_row : RattleType
-heap_row = any_heap.the_row row tickets ordered compared half_ordered
+heap_row = any_heap.the_row row global.the_row tickets ordered compared half_ordered allocator.ghosts
 
 heap_sent : IsSend heap_row
-heap_sent = any_heap_sent.the_send row tickets ordered compared half_ordered row_sent
+heap_sent = any_heap_sent.the_send row global.the_row tickets ordered compared half_ordered allocator.ghosts row_sent send frees
 
 -- each part whole, since a `search` that goes down through them runs out of steps
 inside_journal_sent : IsSend inside_journal.the_row

@@ -1,4 +1,3 @@
-pub mod AnyHeap
 pub mod Asking
 pub mod Batches
 pub mod Boxes

@@ -2,15 +2,15 @@
 ghost use Rattle.std.specs.Prelude.{◌≡◌, true};
 ghost use Rattle.std.specs.Option.{MatchOption};
 
-use crate::any_heap::AnyHeap;
 use crate::journal::Journal;
+use any_heap::AnyHeap;
 use pq_book::Entry;
 use queue_pool::{Pool, SharedHandle};
 use queue_texts::{Owned, Replay};
 use std::alloc::Global;
 
 /// The store of a queue: a heap in an array, with the places of tickets or without.
-pub type Heap = AnyHeap<Entry<u64>>;
+pub type Heap = AnyHeap<Entry<u64>, Global>;
 
 /// An open queue, with its members that nobody has.
 pub type QueuePool = Pool<Heap, u64>;

@@ -3,10 +3,9 @@ ghost use Rattle.std.specs.Prelude.{◌≡◌, [], Some, None, length, map, slic
 ghost use Rattle.std.specs.Option.{MatchOption};
 ghost use Rattle.leftist_heap.specs.Store.{first_of, rest_of};
 ghost use Rattle.pq_types.specs.Entry.{item_of};
-ghost use Rattle.queue_c.specs.AnyHeap.{items_of};
 
-use crate::any_heap::AnyHeap;
 use crate::contents::Heap;
+use any_heap::AnyHeap;
 use leftist_heap::Store;
 use pq_types::{Item, Line};
 use std::alloc::Global;
@@ -24,12 +23,11 @@ pub struct Journal {
 impl Model for Journal {
     ghost use Rattle.std.specs.Prelude.{map};
     ghost use Rattle.pq_types.specs.Entry.{item_of};
-    ghost use Rattle.queue_c.specs.AnyHeap.{items_of};
     ghost use Rattle.queue_c.specs.Values.{Told};
 
     ghost Value = { Told };
 
-    ghost view = { λ j. record { before = j.before; lines = j.lines.items; items = map item_of (items_of j.store) } };
+    ghost view = { λ j. record { before = j.before; lines = j.lines.items; items = map item_of j.store.items } };
 }
 
 impl Journal {
@@ -37,7 +35,7 @@ impl Journal {
     pub fn of(store: Heap, before: u64, lines: Vec<Line<u64>>) -> Journal
         ensures before { result.before ≡ before }
         ensures lines { result.lines ≡ lines.items }
-        ensures items { result.items ≡ map item_of (items_of store) }
+        ensures items { result.items ≡ map item_of store.items }
     {
         Journal {
             before,

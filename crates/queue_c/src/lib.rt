@@ -3,7 +3,6 @@
 //! and answer 42 where it is another than they need.
 #![tactic(auto)]
 
-mod any_heap;
 mod archiving;
 mod asking;
 mod batches;

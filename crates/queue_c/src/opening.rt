@@ -13,12 +13,12 @@ ghost use Rattle.queue_c.specs.Calls.{IsOneOf, Opening};
 ghost use Rattle.queue_c.specs.declared.contents.Contents.TheVariants as holds;
 ghost use Rattle.queue_c.specs.declared.codes.TheConstants.{NO_HANDLE, NO_MEMORY, OK, OUT_OF_RANGE};
 
-use crate::any_heap::AnyHeap;
 use crate::codes::{NO_HANDLE, NO_MEMORY, OK, OUT_OF_RANGE};
 use crate::contents::{Contents, Heap, QueuePool};
 use crate::handle::Handle;
 use crate::length::{Length, length_of};
 use crate::place::boxed;
+use any_heap::AnyHeap;
 use flat_queue::{Newcomer, Queue, QueueError};
 use queue_pool::Pool;
 use split_core::places::MAX_COMERS;

@@ -6,13 +6,13 @@ ghost use Rattle.queue_c.specs.Replaying.{OpenReplayAnswers, LineAnswers, IsRead
 ghost use Rattle.queue_c.specs.declared.contents.Contents.TheVariants as holds;
 ghost use Rattle.queue_c.specs.declared.codes.TheConstants.{NO_HANDLE, NO_MEMORY, OK};
 
-use crate::any_heap::AnyHeap;
 use crate::closing::put_closed;
 use crate::codes::{NO_HANDLE, NO_MEMORY, NOT_LAWFUL, OK};
 use crate::contents::{Contents, JournalReplay};
 use crate::handle::Handle;
 use crate::journal::Journal;
 use crate::place::{boxed, set};
+use any_heap::AnyHeap;
 use queue_texts::{Owned, Replay, ReplayError};
 use std::alloc::{AllocError, Global};
 use std::mem;

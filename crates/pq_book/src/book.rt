@@ -8,6 +8,7 @@ ghost use Rattle.pq_types.specs.Mail.{IsProperAnswerOf};
 ghost use Rattle.pq_types.specs.History.{left, IsLegal, SerialsRise, last_serial, journal_after, MayAnswer};
 ghost use Rattle.pq_types.specs.Operation.{Asked};
 ghost use Rattle.pq_book.specs.Book.{IsRoom, IsLongRoom, IsAnswerWithin, AllHaveRoom, MayDeal, dealing, book_code};
+ghost use Rattle.pq_book.specs.Peak.{IsPeak, IsPeakWith};
 ghost use Rattle.pq_book.specs.Parts.{AreParts};
 ghost use Rattle.pq_types.specs.Entry.{item_of, entries_after};
 ghost use Rattle.pq_book.specs.Pages.{page_of, AreLast};
@@ -59,18 +60,21 @@ pub struct Book<S: Store<Entry<P>>, A: Allocator, P: Part = u32> {
     store: S,
     journal: Journal<A, P>,
     room: u64,
+    peak: u64,
 }
 
 impl<S: Store<Entry<P>>, A: Allocator, P: Part> Model for Book<S, A, P> {
     ghost use Rattle.pq_book.specs.Book.{Volume};
     ghost use Rattle.pq_book.specs.Kept.{Kept};
     ghost use Rattle.pq_book.specs.Pages.{all, IsPaged};
+    ghost use Rattle.pq_book.specs.Peak.{IsPeak};
 
     ghost Value = { Volume };
 
     ghost view = { λ b. record { room = b.room; journal = all b.journal } };
 
-    ghost invariant = { λ b. Kept P.wide (S.content b.store) (all b.journal) b.room × IsPaged b.room b.journal };
+    ghost invariant = { λ b. Kept P.wide (S.content b.store) (all b.journal) b.room × IsPaged b.room b.journal
+        × IsPeak (all b.journal) b.peak };
 }
 
 impl<S: Store<Entry<P>>, A: Allocator, P: Part> Book<S, A, P> {
@@ -108,6 +112,7 @@ impl<S: Store<Entry<P>>, A: Allocator, P: Part> Book<S, A, P> {
             store,
             journal,
             room,
+            peak: 0,
         })
     }
 
@@ -148,6 +153,7 @@ impl<S: Store<Entry<P>>, A: Allocator, P: Part> Book<S, A, P> {
             reply: told,
             place,
         });
+        self.peak = peak_with(self.peak, self.store.len() as u64);
         Answer::Entered(number, reply)
     }
 
@@ -167,6 +173,14 @@ impl<S: Store<Entry<P>>, A: Allocator, P: Part> Book<S, A, P> {
         ensures { result ≡ length (left self.now.journal) }
     {
         self.store.len() as u64
+    }
+
+    /// The most items that waited at once: the greatest number that the journal, or any beginning of it, leaves in the queue.
+    /// Enters nothing, and takes no memory.
+    pub fn peak_items(&self) -> u64
+        ensures { IsPeak self.now.journal result }
+    {
+        self.peak
     }
 
     /// How many lines the journal may have in all.
@@ -255,6 +269,7 @@ impl<S: Store<Entry<P>>, A: Allocator, P: Part> Book<S, A, P> {
             store,
             journal,
             room: _,
+            peak: _,
         } = book;
         let forgotten = journal.forgotten();
         (store, forgotten, journal.into_kept())
@@ -271,10 +286,18 @@ impl<S: Store<Entry>, A: Allocator> Book<S, A> {
             store,
             journal,
             room: _,
+            peak: _,
         } = self;
         let forgotten = journal.forgotten();
         (store, forgotten, journal.into_kept())
     }
+}
+
+// The most items that waited at once, where a line more leaves so many: `before` is that without the line.
+fn peak_with(before: u64, items: u64) -> u64
+    ensures { IsPeakWith before items result }
+{
+    before.max(items)
 }
 
 // The reply of the store to a request, as `carried_out`; a store that is full refuses a push.

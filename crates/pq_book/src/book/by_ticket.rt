@@ -8,7 +8,7 @@ ghost use Rattle.pq_types.specs.History.{entries_of, left, last_serial, journal_
 ghost use Rattle.pq_book.specs.Book.{IsAnswerWithin, AllHaveRoom};
 ghost use Rattle.pq_book.specs.Runs.{MayRun, doing};
 
-use crate::book::Book;
+use crate::book::{Book, peak_with};
 use crate::entry::Entry;
 use leftist_heap::{MOST_ITEMS, TicketStore};
 use pq_types::laws::{
@@ -61,6 +61,7 @@ impl<S: TicketStore<Entry<P>>, A: Allocator, P: Part> Book<S, A, P> {
             reply: told,
             place,
         });
+        self.peak = peak_with(self.peak, self.store.len() as u64);
         Answer::Entered(number, reply)
     }
 

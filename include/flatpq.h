@@ -189,8 +189,9 @@ PQ_CHECKED pq_code pq_push_many(pq_member *member, const pq_item *items, size_t 
 PQ_CHECKED pq_code pq_pop_due_many(pq_member *member, uint64_t priority, pq_item *items, size_t room, uint64_t until, size_t *done,
                                    uint64_t *number);
 
-/* How many items the queue has, exactly, at one moment of the call. It has no entry. PQ_OK. */
-PQ_CHECKED pq_code pq_size(pq_member *member, uint64_t until, uint64_t *size);
+/* How many items the queue has, exactly, at one moment of the call. It has no entry. peak may be NULL; else *peak is the most items that the
+   queue has had at once, from when it was opened to that moment. PQ_OK. */
+PQ_CHECKED pq_code pq_size(pq_member *member, uint64_t until, uint64_t *size, uint64_t *peak);
 
 /* Takes the item of this ticket out, wherever it waits: the ticket is the number of the entry that put it in. No other call returns it then. Also
    of a queue that is shut. PQ_OK; PQ_GONE: no item waits under this ticket, which has an entry too; PQ_NO_TICKETS. */

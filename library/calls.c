@@ -347,18 +347,19 @@ pq_code pq_pop_due(pq_member *it, uint64_t priority, pq_item *item, uint64_t unt
  * Counting the items.
  */
 
-pq_code flatpq_count(pq_member *it, uint64_t *count, uint32_t *owes_wake) {
+pq_code flatpq_count(pq_member *it, uint64_t *count, uint64_t *peak, uint32_t *owes_wake) {
+    uint64_t unasked = 0;
     flatpq_pace.calls++;
-    return LEAVE_OUT(pq_core_try_count(&it->proved, count, owes_wake));
+    return LEAVE_OUT(pq_core_try_count(&it->proved, count, peak != NULL ? peak : &unasked, owes_wake));
 }
 
-static pq_code size_of(pq_member *it, uint64_t until, uint64_t *size) {
+static pq_code size_of(pq_member *it, uint64_t until, uint64_t *size, uint64_t *peak) {
     core_answer answer = { KIND_FIRST, 0, 0, { 0, 0 } };
-    pq_code code = flatpq_count(it, size, &answer.owes_wake);
+    pq_code code = flatpq_count(it, size, peak, &answer.owes_wake);
     if (!LIKELY(code != LOCK_HELD)) {
         rest resting = flatpq_rest_of(it->queue, until);
         while (code == LOCK_HELD && flatpq_rests(&resting)) {
-            code = flatpq_count(it, size, &answer.owes_wake);
+            code = flatpq_count(it, size, peak, &answer.owes_wake);
         }
         flatpq_rested(&resting);
     }
@@ -369,11 +370,11 @@ static pq_code size_of(pq_member *it, uint64_t until, uint64_t *size) {
     return code == LOCK_HELD ? PQ_TIMED_OUT : code;
 }
 
-pq_code pq_size(pq_member *it, uint64_t until, uint64_t *size) {
+pq_code pq_size(pq_member *it, uint64_t until, uint64_t *size, uint64_t *peak) {
     own *mine;
     pq_code code = flatpq_begin(&it, until, &mine);
     if (LIKELY(code == PQ_OK)) {
-        code = size_of(it, until, size);
+        code = size_of(it, until, size, peak);
         flatpq_end(mine);
     }
     return code;

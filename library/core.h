@@ -62,7 +62,7 @@ pq_code pq_core_try_call(core *member, uint32_t request, uint64_t priority, uint
 pq_code pq_core_try_pop_or_look(core *member, uint32_t takes, uint64_t priority, core_answer *answer);
 pq_code pq_core_try_remove(core *member, uint64_t ticket, core_answer *answer);
 pq_code pq_core_try_reschedule(core *member, uint64_t ticket, uint64_t priority, core_answer *answer);
-pq_code pq_core_try_count(core *member, uint64_t *count, uint32_t *owes_wake);
+pq_code pq_core_try_count(core *member, uint64_t *count, uint64_t *peak, uint32_t *owes_wake);
 pq_code pq_core_try_push_within(core *member, uint64_t most, uint64_t priority, uint64_t value, core_answer *answer);
 pq_code pq_core_try_push_many(core *member, const pq_item *items, size_t count, core_batch *batch);
 pq_code pq_core_try_pop_many(core *member, uint64_t bound, pq_item *items, size_t room, core_batch *batch);

@@ -269,7 +269,7 @@ HIDDEN void flatpq_rested(const rest *it);
  */
 HIDDEN pq_code flatpq_take_first(pq_member *member, uint64_t priority, uint64_t until, core_answer *answer);
 HIDDEN pq_code flatpq_take_first_at_once(pq_member *member, uint64_t priority, core_answer *answer);
-HIDDEN pq_code flatpq_count(pq_member *member, uint64_t *count, uint32_t *owes_wake); /* tries once */
+HIDDEN pq_code flatpq_count(pq_member *member, uint64_t *count, uint64_t *peak, uint32_t *owes_wake); /* tries once; peak may be NULL */
 HIDDEN pq_code flatpq_round(pq_member *member, uint64_t until);
 HIDDEN void flatpq_return_first(pq_code code, const core_answer *answer, pq_item *item, uint64_t *number);
 

@@ -266,10 +266,10 @@ int flatpq_has_room(pq_member *member) {
     const int tries = 32;
     uint64_t count = 0;
     uint32_t owes_wake = 0;
-    pq_code code = flatpq_count(member, &count, &owes_wake);
+    pq_code code = flatpq_count(member, &count, NULL, &owes_wake);
     for (int tried = 1; code == LOCK_HELD && tried < tries && flatpq_may_spin; tried++) {
         __builtin_ia32_pause();
-        code = flatpq_count(member, &count, &owes_wake);
+        code = flatpq_count(member, &count, NULL, &owes_wake);
     }
     if (owes_wake) {
         flatpq_wake_owed(member);

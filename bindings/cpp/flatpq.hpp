@@ -184,8 +184,15 @@ public:
     /// How many items the queue has, exactly, at one moment of the call.
     result<std::uint64_t> size(deadline until = {}) noexcept {
         std::uint64_t count = 0;
-        const auto why = static_cast<code>(pq_size(member_, until.at(), &count));
+        const auto why = static_cast<code>(pq_size(member_, until.at(), &count, nullptr));
         return why == code::ok ? result<std::uint64_t>(count) : why;
+    }
+
+    /// The most items that the queue has had at once, exactly, from when it was opened to one moment of the call.
+    result<std::uint64_t> peak_size(deadline until = {}) noexcept {
+        std::uint64_t count = 0, peak = 0;
+        const auto why = static_cast<code>(pq_size(member_, until.at(), &count, &peak));
+        return why == code::ok ? result<std::uint64_t>(peak) : why;
     }
 
     /// Takes all items out, or those whose keys are at most this one: `for (auto &item : queue.drain())`.

@@ -35,18 +35,17 @@ int main(void) {
     pthread_t reader;
     pq_item line;
     pq_code code;
-    uint64_t size, most = 0;
+    uint64_t size, peak;
     must(pq_open(&options, &queue));
     if (pthread_create(&reader, NULL, read_all, queue) != 0) {
         return 1;
     }
     while ((code = pq_take(pq_own(queue), &line, PQ_FOREVER, NULL)) == PQ_OK) {
-        must(pq_size(pq_own(queue), PQ_FOREVER, &size));
-        most = size > most ? size : most;
         printf("%s\n", (const char *)(uintptr_t)line.value);
     }
     pthread_join(reader, NULL);
-    printf("%s, and it never held more than %d lines: %s\n", pq_code_text(code), AT_MOST, most <= AT_MOST ? "yes" : "no");
+    must(pq_size(pq_own(queue), PQ_FOREVER, &size, &peak));
+    printf("%s, and it never held more than %d lines: %s\n", pq_code_text(code), AT_MOST, peak <= AT_MOST ? "yes" : "no");
     pq_free(queue, NULL, NULL);
     return 0;
 }

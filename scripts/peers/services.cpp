@@ -50,7 +50,7 @@ static bool size(std::uint64_t count, std::uint64_t &took) {
     const std::uint64_t began = nanoseconds_now();
     for (std::uint64_t i = 0; i < count; ++i) {
         std::uint64_t items = 0;
-        need(pq_size(pq_own(queue), PQ_FOREVER, &items) == PQ_OK, "a look was refused");
+        need(pq_size(pq_own(queue), PQ_FOREVER, &items, nullptr) == PQ_OK, "a look was refused");
         sum += items;
     }
     took = nanoseconds_now() - began;
@@ -111,7 +111,7 @@ static bool durable(std::uint64_t count, std::uint64_t &took) {
     is_over = true;
     archiver.join();
     std::uint64_t items = 0;
-    const bool is_sound = pq_size(pq_own(queue), PQ_FOREVER, &items) == PQ_OK && items == count;
+    const bool is_sound = pq_size(pq_own(queue), PQ_FOREVER, &items, nullptr) == PQ_OK && items == count;
     pq_free(queue, nullptr, nullptr);
     return is_sound;
 }

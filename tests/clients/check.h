@@ -109,8 +109,15 @@ static inline pq_queue *opened_within(uint64_t most_items, uint32_t entries) {
 /* How many items the queue has. */
 static inline uint64_t size_of(pq_queue *queue) {
     uint64_t size = UINT64_MAX;
-    CHECK(pq_size(pq_own(queue), PQ_FOREVER, &size) == PQ_OK);
+    CHECK(pq_size(pq_own(queue), PQ_FOREVER, &size, NULL) == PQ_OK);
     return size;
+}
+
+/* The most items that it has had at once. */
+static inline uint64_t peak_of(pq_queue *queue) {
+    uint64_t size = UINT64_MAX, peak = UINT64_MAX;
+    CHECK(pq_size(pq_own(queue), PQ_FOREVER, &size, &peak) == PQ_OK && size <= peak);
+    return peak;
 }
 
 /* Joins a queue that has a free member. */

@@ -216,12 +216,22 @@ impl<T: Send, K: Key> Call<'_, T, K> {
         Ok(self.keyed(self.waits(raw::pq_take_due)?))
     }
 
-    pub fn len(&self) -> Result<usize, Error> {
-        let mut size = 0;
-        // SAFETY: the member is there, and in this call alone; the number is borrowed for it.
-        let sized = || unsafe { raw::pq_size(self.member, self.until, &mut size) };
+    /// How many payloads there are, and the most that there were at once.
+    fn counts(&self) -> Result<(usize, usize), Error> {
+        let (mut size, mut peak) = (0, 0);
+        // SAFETY: the member is there, and in this call alone; the numbers are borrowed for it.
+        let sized = || unsafe { raw::pq_size(self.member, self.until, &mut size, &mut peak) };
         Error::unless_ok(after::calling(sized))?;
-        Ok(usize::try_from(size).unwrap_or(usize::MAX))
+        let count = |number| usize::try_from(number).unwrap_or(usize::MAX);
+        Ok((count(size), count(peak)))
+    }
+
+    pub fn len(&self) -> Result<usize, Error> {
+        self.counts().map(|(len, _)| len)
+    }
+
+    pub fn peak_len(&self) -> Result<usize, Error> {
+        self.counts().map(|(_, peak)| peak)
     }
 
     pub fn archive(&self, archived: u64) -> Result<Journal, Error> {
@@ -344,6 +354,24 @@ macro_rules! calls {
             /// Those of [`Self::len`].
             pub fn is_empty(&$($mutable)? self) -> Result<bool, Error> {
                 Ok(self.call().len()? == 0)
+            }
+
+            /// The most payloads that the queue has had at once, exactly, from when it was opened to one moment of the call. It has
+            /// no journal entry.
+            ///
+            /// # Errors
+            ///
+            /// Those of [`Self::len`].
+            ///
+            /// ```
+            /// let queue = flatpq::TaskQueue::new()?;
+            /// queue.push_many([(2, "two"), (1, "one")])?;
+            /// queue.pop()?;
+            /// assert_eq!((queue.len()?, queue.peak_len()?), (1, 2));
+            /// # Ok::<(), flatpq::Error>(())
+            /// ```
+            pub fn peak_len(&$($mutable)? self) -> Result<usize, Error> {
+                self.call().peak_len()
             }
 
             /// Takes the first payload out if its key is at most this one. Only then it has a journal entry.

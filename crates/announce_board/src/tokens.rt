@@ -2,6 +2,7 @@
 // leads.
 ghost use Rattle.std.specs.Prelude.{◌≡◌, ◌↔◌, ◌+◌, ◌<◌, ◌≤◌, ◌++◌, false, length, drop, OnOk, OnErr, IsErrOf};
 ghost use Rattle.pq_book.specs.Pages.{page_of};
+ghost use Rattle.pq_book.specs.Peak.{IsPeak};
 ghost use Rattle.pq_types.specs.History.{left};
 ghost use Rattle.leftist_heap.specs.Store.{first_of};
 ghost use Rattle.announce_board.specs.Tokens.{is_idle};
@@ -95,6 +96,14 @@ impl<S: Store<Entry<P>>, P: Part> Lead<S, P> {
         ensures { result ≡ length (left self.now.book.journal) }
     {
         self.book.boxed.items()
+    }
+
+    /// The most items that waited at once: the greatest number that the journal of the Book, or any beginning of it, leaves in
+    /// the queue.
+    pub fn peak_items(&self) -> u64
+        ensures { IsPeak self.now.book.journal result }
+    {
+        self.book.boxed.peak_items()
     }
 
     /// Copies the lines of the journal behind the first so many, which the archive has already, to its

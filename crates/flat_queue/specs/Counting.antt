@@ -4,10 +4,12 @@ use Rattle.pq_types.specs.Item.{Item}
 use Rattle.pq_types.specs.Asked.{Answer}
 use Rattle.pq_types.specs.declared.request.Request.TheVariants.{Push}
 use Rattle.pq_types.specs.History.{left}
+use Rattle.pq_book.specs.Peak.{IsPeak}
 use Rattle.flat_queue.specs.Members.{Joined}
 use Rattle.flat_queue.specs.Ending.{IsShutOut}
 use Rattle.flat_queue.specs.Looking.{ServesAloneBy}
 use Rattle.flat_queue.specs.OwnRequest.{CarriesOutBy}
+use Rattle.flat_queue.specs.declared.counting.Counts.{Counts}
 use Rattle.flat_queue.specs.declared.counting.Unpushed.{Unpushed}
 use Rattle.flat_queue.specs.declared.counting.Unpushed.TheVariants as unpushed
 
@@ -15,9 +17,11 @@ use Rattle.flat_queue.specs.declared.counting.Unpushed.TheVariants as unpushed
 abbrev pub items_known : Joined → ℕ
 items_known m = length (left m.pen.known)
 
--- The member served the others, made no request, and counted the items that the journal leaves in the queue which it knows now.
-abbrev pub CountsBy : ℕ → Joined → ℕ → Joined → Type 0
-CountsBy words before count after = ServesAloneBy words before after × (count ≡ items_known after)
+-- The member served the others, made no request, and counted the items that the journal leaves in the queue which it knows now:
+-- so many now, and at its peak.
+abbrev pub CountsBy : ℕ → Joined → Counts → Joined → Type 0
+CountsBy words before counts after =
+    ServesAloneBy words before after × (counts.items ≡ items_known after) × IsPeak after.pen.known counts.peak
 
 -- The member carried out a push of its own, which was so answered: the journal in its hand left fewer items than the bound just
 -- before it, and the one that it knows now leaves no more than the bound.

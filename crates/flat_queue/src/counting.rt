@@ -15,6 +15,13 @@ use leftist_heap::Store;
 use pq_book::Entry;
 use pq_types::{Answer, Item, Part, Request};
 
+/// How many items a queue has, and the peak: the most that waited at once since it was opened.
+#[derive(Clone, Copy, Debug, PartialEq, Eq)]
+pub struct Counts {
+    pub items: u64,
+    pub peak: u64,
+}
+
 /// Why a push within a bound was not made.
 #[derive(Clone, Copy, Debug, PartialEq, Eq)]
 pub enum Unpushed {
@@ -26,20 +33,21 @@ pub enum Unpushed {
 
 impl<S: Store<Entry<P>>, P: Part> Queue<S, P> {
     /// The idle member counts the items, if it finds the lock free: it leads, serves the others where the hint says that somebody
-    /// has posted, counts what the queue has then, and releases. It makes no request of its own, so that it counts beside a
-    /// full journal too. `None` only where it found the lock held. It wakes nobody: its caller does, by `owed_wakes` or
+    /// has posted, counts what the queue has then and had at most, and releases. It makes no request of its own, so that it
+    /// counts beside a full journal too. `None` only where it found the lock held. It wakes nobody: its caller does, by `owed_wakes` or
     /// `wake_owed` of the `waiters`. Takes memory for the pushes of others alone, and never waits.
-    pub fn count_items(&self, member: &mut Member<S, P>) -> Option<u64>
+    pub fn count_items(&self, member: &mut Member<S, P>) -> Option<Counts>
         requires queue { member.old.queue ≡ self.now }
         requires idle { is_idle member.old.pen.standing ≡ true }
-        ensures counts { IfSome result (λ count. CountsBy (word_number P.wide) member.old count member.new) }
+        ensures counts { IfSome result (λ counts. CountsBy (word_number P.wide) member.old counts member.new) }
         ensures held { IfNone result (FindsLockHeld member.old member.new) }
     {
         let mut lead = self.lead(member)?;
         self.serve_others(member, &mut lead);
-        let count = lead.items();
+        let items = lead.items();
+        let peak = lead.peak_items();
         self.release(member, lead);
-        Some(count)
+        Some(Counts { items, peak })
     }
 
     /// The idle member pushes the item, as by `carry_out_unless_shut`; but where the queue has as many items as `most`, or more,

@@ -36,8 +36,9 @@
 //!   whose stores can (`TicketStore`). `Queue::reschedule` moves it so to another priority, by one line, whose number is its new
 //!   ticket. Both wait until they have the lock, and post nothing; `Queue::carry_out_by_ticket` does so where it finds the lock
 //!   free, and wakes nobody.
-//! - `Queue::count_items` counts the items under the lock, and makes no request. `Queue::carry_out_push_within` pushes only while
-//!   the queue has fewer items than a bound: it is refused exactly where as many are there.
+//! - `Queue::count_items` counts the items under the lock, those that wait and the most that waited at once, and makes no
+//!   request. `Queue::carry_out_push_within` pushes only while the queue has fewer items than a bound: it is refused exactly
+//!   where as many are there.
 //! - `Queue::push_all` puts many items into the queue under one lock, and `Queue::pop_all_up_to` takes many out that are due
 //!   at a bound: their lines stand together in the journal. Each makes at most `MOST_BATCH` requests, waits until it
 //!   has the lock, and tells how many were entered and what refused the next. `Queue::carry_out_pushes`,
@@ -126,7 +127,7 @@ pub use announce_board::{Note, Testimony};
 pub use backlog::Backlog;
 pub use batches::{Batch, MOST_BATCH};
 pub use combining::Round;
-pub use counting::Unpushed;
+pub use counting::{Counts, Unpushed};
 pub use due::Due;
 pub use ending::{Ending, Shut};
 pub use error::{CallError, PushError, QueueError};

@@ -6,6 +6,7 @@ use Rattle.pq_types.specs.Asked.{Request}
 use Rattle.pq_types.specs.Queue.{IsPush}
 use Rattle.announce_board.specs.Tokens.{is_idle}
 use Rattle.flat_queue.specs.Limits.{most_posts}
+use Rattle.flat_queue.specs.declared.counting.Counts.{Counts}
 use Rattle.flat_queue.specs.declared.looking.Wanted.{Wanted}
 use Rattle.flat_queue.specs.declared.counting.Unpushed.TheVariants as unpushed
 use Rattle.queue_c.specs.Handles.{member_in, owner_in}
@@ -56,9 +57,9 @@ pub record LooksAnswers (before : Option Contents) (wants : Wanted) (code : ℕ)
   pub spent : code ≡ POSTS_SPENT → IfSome (member_in before) (λ m. most_posts m.queue.room ≤ m.pen.posts)
   pub owner : owner_in after ≡ owner_in before
 
--- a count of the items, with the number that is told, and whether a wake is owed
-pub record CountAnswers (before : Option Contents) (code : ℕ) (count owes : ℕ) (after : Option Contents) : Type 0 where
-  pub counted : code ≡ OK → Counting (member_in before) count (member_in after) × (owes ≤ 1)
+-- a count of the items, with the numbers that are told, and whether a wake is owed
+pub record CountAnswers (before : Option Contents) (code : ℕ) (counts : Counts) (owes : ℕ) (after : Option Contents) : Type 0 where
+  pub counted : code ≡ OK → Counting (member_in before) counts (member_in after) × (owes ≤ 1)
   pub misses : code ≡ LOCK_HELD → Missing (member_in before) (member_in after)
   pub refused : code ≢ OK → code ≢ LOCK_HELD → after ≡ before
   pub codes : IsOneOf code (OK ∷ LOCK_HELD ∷ NO_HANDLE ∷ WAITS ∷ [])

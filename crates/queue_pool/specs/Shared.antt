@@ -114,12 +114,13 @@ TriesFirstBy words wants before tried_first.Spent after =
 TriesFirstBy words wants before tried_first.LockHeld after = MayCall before × FindsLockHeld before after
 TriesFirstBy words wants before (tried_first.Looked told) after = MayCall before × LooksFirstBy words wants before told after
 
--- The last request is not answered yet, and nothing was done; or the member found the lock held; or it counted so many items.
+-- The last request is not answered yet, and nothing was done; or the member found the lock held; or it counted so many items,
+-- now and at the peak.
 abbrev pub TriesCountBy : ℕ → Joined → TriedCount → Joined → Type 0
 TriesCountBy words before tried_count.Waits after = (is_idle before.pen.standing ≡ false) × (after ≡ before)
 TriesCountBy words before tried_count.LockHeld after = (is_idle before.pen.standing ≡ true) × FindsLockHeld before after
-TriesCountBy words before (tried_count.Counted count) after =
-    (is_idle before.pen.standing ≡ true) × CountsBy words before count after
+TriesCountBy words before (tried_count.Counted counts) after =
+    (is_idle before.pen.standing ≡ true) × CountsBy words before counts after
 
 -- The last request is not answered yet, or no serial is left, and nothing was done; or the member found the lock held; or won
 -- it, and made no request, as the queue was shut, or had as many items as the bound; or it pushed this item, and this is the

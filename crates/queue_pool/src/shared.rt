@@ -17,7 +17,7 @@ ghost use Rattle.queue_pool.specs.Shared.{SeesBy, TriesBy, TriesUpToBy, TriesFir
 ghost use Rattle.queue_pool.specs.Shared.{TriesCountBy, TriesPushWithinBy, TriesTicketBy, TriesRemovalBy, TriesMoveBy};
 
 use flat_queue::{
-    Backlog, Batch, EventCount, Looked, Member, Queue, Round, Shut, Unpushed, Wanted,
+    Backlog, Batch, Counts, EventCount, Looked, Member, Queue, Round, Shut, Unpushed, Wanted,
 };
 use leftist_heap::{Store, TicketStore};
 use pq_book::{Entry, LinesError};
@@ -115,8 +115,8 @@ pub enum TriedCount {
     Waits,
     /// Another leads: nothing was done.
     LockHeld,
-    /// The queue has so many items.
-    Counted(u64),
+    /// The queue has so many items, and had so many at its peak.
+    Counted(Counts),
 }
 
 /// What became of a push within a bound that was to be carried out at once.
@@ -326,7 +326,7 @@ impl<S: Store<Entry<P>>, P: Part> SharedHandle<S, P> {
             return TriedCount::Waits;
         }
         match self.queue.count_items(&mut self.member) {
-            Some(count) => TriedCount::Counted(count),
+            Some(counts) => TriedCount::Counted(counts),
             None => TriedCount::LockHeld,
         }
     }

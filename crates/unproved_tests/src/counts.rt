@@ -1,6 +1,6 @@
 // A count of the items under the lock, and a push that is refused exactly where as many are there as the bound.
 use crate::common::{Heap, item, opened};
-use flat_queue::{Newcomer, Queue, Unpushed};
+use flat_queue::{Counts, Newcomer, Queue, Unpushed};
 use pq_types::{Answer, Reply, Request};
 use queue_pool::{SharedHandle, TriedCount, TriedPush};
 use std::process::Abort;
@@ -11,6 +11,10 @@ fn pushed(number: u64) -> Answer {
     Answer::Entered(number, Reply::Pushed)
 }
 
+fn counted(items: u64, peak: u64) -> Counts {
+    Counts { items, peak }
+}
+
 // It counts what was posted before, also where the journal is full, and makes no request.
 #[test]
 fn a_count_has_each_item_that_is_there(rt: HostRuntime) -> Result<(), Fail> {
@@ -19,13 +23,13 @@ fn a_count_has_each_item_that_is_there(rt: HostRuntime) -> Result<(), Fail> {
     };
     let mut member = queue.join(newcomers.pop().expect(&rt, "there is one"));
     let mut other = queue.join(newcomers.pop().expect(&rt, "there is one"));
-    assert!(&rt; queue.count_items(&mut member) == Some(0));
+    assert!(&rt; queue.count_items(&mut member) == Some(counted(0, 0)));
     assert!(&rt; queue.push(&rt, &mut member, item(5, 1)) == Ok(1));
     queue.post(&mut other, Request::Push(item(5, 1)));
-    assert!(&rt; queue.count_items(&mut member) == Some(2));
+    assert!(&rt; queue.count_items(&mut member) == Some(counted(2, 2)));
     assert!(&rt; queue.look(&mut other) == Some(pushed(2)));
     assert!(&rt; queue.carry_out(&mut other, Request::Pop).is_some());
-    assert!(&rt; queue.count_items(&mut member) == Some(1) && member.posts() == 1);
+    assert!(&rt; queue.count_items(&mut member) == Some(counted(1, 2)) && member.posts() == 1);
     let lead = queue.lead(&mut other).expect(&rt, "the lock is free");
     assert!(&rt; queue.count_items(&mut member).is_none());
     queue.release(&mut other, lead);
@@ -66,7 +70,7 @@ fn tries<R: Abort>(rt: &R, queue: &Queue<Heap>, handle: &mut SharedHandle<Heap>,
     let push = item(5, 1);
     assert!(rt; handle.try_push_within(push, 1) == TriedPush::Answered(pushed(1)));
     assert!(rt; handle.try_push_within(push, 1) == TriedPush::Full);
-    assert!(rt; handle.try_count() == TriedCount::Counted(1));
+    assert!(rt; handle.try_count() == TriedCount::Counted(counted(1, 1)));
     let mut leader = queue.enter(other);
     let lead = leader.lead().expect(rt, "the lock is free");
     assert!(rt; handle.try_push_within(push, 2) == TriedPush::LockHeld);

@@ -142,7 +142,7 @@ static void take_by(pq_queue *queue, pq_member *member, int call) {
     case 7: CHECK(pq_combine(own) == PQ_OK); break;
     case 8: CHECK(pq_combine(member) == PQ_OK); break;
     case 9: CHECK(pq_peek(own, &first, PQ_FOREVER, NULL) == PQ_OK); break;
-    case 10: CHECK(pq_size(own, PQ_FOREVER, &size) == PQ_OK); break;
+    case 10: CHECK(pq_size(own, PQ_FOREVER, &size, NULL) == PQ_OK); break;
     default: CHECK(pq_pop_due(own, 0, &first, PQ_NOW, NULL) == PQ_NOT_DUE); break;
     }
     CHECK(code == PQ_OK && done == 1 && (call >= POSTED || is_item(item, 0, 7)));

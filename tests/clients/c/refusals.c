@@ -65,7 +65,7 @@ static void refuses_requests_out_of_turn(void) {
     pq_queue *queue = opened(1);
     pq_member *member = joined(queue);
     pq_item item = item_of(7, 8);
-    uint64_t number = 9, size = 9;
+    uint64_t number = 9, size = 9, peak = 9;
     CHECK(pq_poll(member, &item, &number) == PQ_NOT_PENDING && number == 9 && pq_combine(member) == PQ_OK);
     CHECK(pq_post(member, 3, item) == PQ_BAD_REQUEST && pq_post(member, UINT32_MAX, item) == PQ_BAD_REQUEST);
     CHECK(pq_poll(member, &item, &number) == PQ_NOT_PENDING && pq_post(member, PQ_PUSH, item_of(5, 6)) == PQ_OK);
@@ -73,7 +73,7 @@ static void refuses_requests_out_of_turn(void) {
     refuses_requests(member, PQ_PENDING, in_ms(1000));
     refuses_requests(member, PQ_PENDING, PQ_FOREVER);
     refuses_posts(member, PQ_PENDING);
-    CHECK(pq_size(member, PQ_FOREVER, &size) == PQ_PENDING && size == 9);
+    CHECK(pq_size(member, PQ_FOREVER, &size, &peak) == PQ_PENDING && size == 9 && peak == 9);
     CHECK(pq_post(member, 3, item) == PQ_BAD_REQUEST);
     CHECK(pq_poll(member, &item, &number) == PQ_PENDING && is_item(item, 7, 8) && number == 9);
     CHECK(pq_combine(member) == PQ_OK && pq_poll(member, &item, &number) == PQ_OK && number == 1);
@@ -128,12 +128,13 @@ static void refuses_to_wait_for_the_lock(void) {
     pq_member *member = joined(queue);
     pq_journal *journal = (pq_journal *)queue;
     pq_item item = item_of(7, 8);
-    uint64_t number = 0, size = 9;
+    uint64_t number = 0, size = 9, peak = 9;
     holder other;
     hold(&other, queue, HOLDS_AND_STOPS);
     refuses_requests(member, PQ_TIMED_OUT, PQ_NOW);
     refuses_requests(member, PQ_TIMED_OUT, in_ms(5));
-    CHECK(pq_size(member, PQ_NOW, &size) == PQ_TIMED_OUT && pq_size(member, in_ms(5), &size) == PQ_TIMED_OUT && size == 9);
+    CHECK(pq_size(member, PQ_NOW, &size, &peak) == PQ_TIMED_OUT && pq_size(member, in_ms(5), &size, &peak) == PQ_TIMED_OUT);
+    CHECK(size == 9 && peak == 9);
     CHECK(pq_archive(member, 0, PQ_NOW, &journal) == PQ_TIMED_OUT && journal == NULL);
     CHECK(pq_archive(member, 0, in_ms(5), &journal) == PQ_TIMED_OUT && pq_combine(member) == PQ_TIMED_OUT);
     CHECK(pq_post(member, PQ_PUSH, item_of(0, 5)) == PQ_OK && pq_combine(member) == PQ_TIMED_OUT);

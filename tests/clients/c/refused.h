@@ -37,11 +37,11 @@ static inline void refuses_posts(pq_member *member, pq_code code) {
 /* And calls that make no request. */
 static inline void refuses_others(pq_member *member, pq_code code) {
     pq_item item = item_of(7, 8);
-    uint64_t number = 9, size = 9;
+    uint64_t number = 9, size = 9, peak = 9;
     pq_journal *journal = NULL;
     CHECK(pq_poll(member, &item, &number) == code && pq_combine(member) == code && is_item(item, 7, 8) && number == 9);
     CHECK(pq_archive(member, 0, PQ_FOREVER, &journal) == code && journal == NULL);
-    CHECK(pq_size(member, PQ_FOREVER, &size) == code && size == 9);
+    CHECK(pq_size(member, PQ_FOREVER, &size, &peak) == code && size == 9 && peak == 9);
 }
 
 static inline void refuses_all(pq_member *member, pq_code code, uint64_t until) {

@@ -29,7 +29,7 @@ static void has_requests(void) {
     HAS(pq_code, pq_pop_due_many, (pq_member *, uint64_t, pq_item *, size_t, uint64_t, size_t *, uint64_t *));
     HAS(pq_code, pq_remove, (pq_member *, uint64_t, pq_item *, uint64_t, uint64_t *));
     HAS(pq_code, pq_reschedule, (pq_member *, uint64_t, uint64_t, uint64_t, uint64_t *));
-    HAS(pq_code, pq_size, (pq_member *, uint64_t, uint64_t *));
+    HAS(pq_code, pq_size, (pq_member *, uint64_t, uint64_t *, uint64_t *));
     HAS(pq_code, pq_post, (pq_member *, uint32_t, pq_item));
     HAS(pq_code, pq_poll, (pq_member *, pq_item *, uint64_t *));
     HAS(pq_code, pq_combine, (pq_member *));

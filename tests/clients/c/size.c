@@ -1,12 +1,12 @@
-/* pq_size: how many items there are after each call that puts some in or takes some out, without an entry; a count carries out what others have
-   posted, and wakes a thread that waits for its item; and beside other threads it is a number that the queue had. */
+/* pq_size: how many items there are after each call that puts some in or takes some out, and were at most, without an entry; a count carries
+   out what others have posted, and wakes a thread that waits for its item; and beside other threads it is a number that the queue had. */
 #include "../check.h"
 
 static void is_of(pq_queue *queue, pq_member *member, uint64_t wanted) {
     const uint64_t until[] = { PQ_FOREVER, PQ_NOW, in_ms(60000) };
     for (size_t i = 0; i < sizeof until / sizeof *until; i++) {
         uint64_t size = UINT64_MAX;
-        CHECK(pq_size(member, until[i], &size) == PQ_OK && size == wanted && size_of(queue) == wanted);
+        CHECK(pq_size(member, until[i], &size, NULL) == PQ_OK && size == wanted && size_of(queue) == wanted);
     }
 }
 
@@ -45,6 +45,26 @@ static void follows_each_call(void) {
     pq_journal_free(journal);
 }
 
+/* The most items at once: pops don't lower it, and a reschedule in a full-height queue doesn't raise it. */
+static void has_a_peak(void) {
+    pq_options options = { 0, 0, 0, 0, 0, 0, 0 };
+    pq_queue *queue = NULL;
+    pq_item item;
+    uint64_t ticket = 0;
+    options.tickets = 1;
+    CHECK(pq_open(&options, &queue) == PQ_OK && peak_of(queue) == 0);
+    for (uint32_t i = 1; i <= 3; i++) {
+        CHECK(pq_push(pq_own(queue), item_of(i, i), PQ_FOREVER, &ticket) == PQ_OK && peak_of(queue) == i);
+    }
+    CHECK(pq_reschedule(pq_own(queue), ticket, 0, PQ_FOREVER, &ticket) == PQ_OK && size_of(queue) == 3 && peak_of(queue) == 3);
+    for (uint32_t i = 0; i < 2; i++) {
+        CHECK(pq_pop(pq_own(queue), &item, PQ_FOREVER, NULL) == PQ_OK && peak_of(queue) == 3);
+    }
+    CHECK(pq_push(pq_own(queue), item_of(1, 1), PQ_FOREVER, NULL) == PQ_OK && size_of(queue) == 2 && peak_of(queue) == 3);
+    CHECK(pq_shut(queue) == PQ_OK && peak_of(queue) == 3);
+    close_and_free(queue);
+}
+
 static void *take_one(void *own) {
     pq_item item;
     CHECK(pq_take(pq_own((pq_queue *)own), &item, PQ_FOREVER, NULL) == PQ_OK && is_item(item, 5, 6));
@@ -60,7 +80,7 @@ static void wakes_those_that_wait(void) {
     sleep_ms(20);
     CHECK(pq_post(poster, PQ_PUSH, item_of(5, 6)) == PQ_OK);
     /* The taker may already have the item. */
-    CHECK(pq_size(pq_own(queue), PQ_FOREVER, &size) == PQ_OK && size <= 1);
+    CHECK(pq_size(pq_own(queue), PQ_FOREVER, &size, NULL) == PQ_OK && size <= 1);
     ended(taker);
     CHECK(pq_poll(poster, &item, NULL) == PQ_OK && size_of(queue) == 0);
     pq_give_back(poster);
@@ -86,14 +106,15 @@ static void is_never_above_the_bound(void) {
     int sides[SIDES];
     pthread_t threads[SIDES];
     pq_options options = { 0, 0, 0, 0, 0, 0, MOST };
-    uint64_t size = 0, seen = 0;
+    uint64_t size = 0, seen = 0, peak = 0, seen_peak = 0;
     CHECK(pq_open(&options, &shared) == PQ_OK);
     for (int i = 0; i < SIDES; i++) {
         sides[i] = i;
         threads[i] = started(push_or_pop, &sides[i]);
     }
     for (uint32_t i = 0; i < requests(20000) || seen == 0; i++) {
-        CHECK(pq_size(pq_own(shared), PQ_FOREVER, &size) == PQ_OK && size <= MOST);
+        CHECK(pq_size(pq_own(shared), PQ_FOREVER, &size, &peak) == PQ_OK && size <= peak && seen_peak <= peak && peak <= MOST);
+        seen_peak = peak;
         seen += size > 0;
     }
     set(&is_over, 1);
@@ -110,6 +131,7 @@ static void is_never_above_the_bound(void) {
 
 int main(void) {
     follows_each_call();
+    has_a_peak();
     wakes_those_that_wait();
     is_never_above_the_bound();
     return 0;

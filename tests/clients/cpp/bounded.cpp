@@ -31,6 +31,21 @@ static void items_are_counted() {
     CHECK(member.size().error() == code::no_member && *queue.size() == 0);
 }
 
+// The most items at once: pops don't lower it, and a reschedule doesn't raise it.
+static void the_peak_stays() {
+    flatpq::options asked;
+    asked.tickets = true;
+    flatpq::queue<> queue(asked);
+    auto member = queue.join().value();
+    CHECK(*queue.peak_size() == 0 && *member.peak_size(flatpq::now) == 0);
+    const auto ticket = queue.push(5u, 6).value();
+    CHECK(queue.push(1u, 2) && queue.push(3u, 4) && *queue.peak_size() == 3);
+    CHECK(queue.reschedule(ticket, 2u) && *queue.size() == 3 && *member.peak_size(1h) == 3);
+    CHECK(queue.pop() && queue.pop() && *queue.peak_size() == 3 && queue.push(1u, 2) && *queue.size() == 2);
+    CHECK(*queue.peak_size() == 3 && queue.shut() == code::ok && *member.peak_size() == 3);
+    CHECK(member.post(flatpq::request::pop) == code::ok && member.peak_size().error() == code::pending);
+}
+
 static void a_full_queue_refuses() {
     flatpq::task_queue<std::string> queue(within(1));
     std::string text = "stays";
@@ -74,6 +89,7 @@ static void a_push_waits_for_room() {
 
 int main() {
     items_are_counted();
+    the_peak_stays();
     a_full_queue_refuses();
     no_push_is_posted();
     a_push_waits_for_room();

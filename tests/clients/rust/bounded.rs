@@ -29,12 +29,30 @@ fn payloads_are_counted() {
     assert_eq!((queue.len(), member.number()), (Ok(0), 5));
 }
 
+// Pops don't lower it, and a reschedule doesn't raise it.
+#[test]
+fn the_peak_stays() {
+    let queue = Options::new().tickets(true).open().unwrap();
+    let mut member = queue.join().unwrap();
+    assert_eq!((queue.peak_len(), member.peak_len()), (Ok(0), Ok(0)));
+    let ticket = queue.push(5, "five").unwrap();
+    queue.push_many([(6, "six"), (7, "seven")]).unwrap();
+    assert!(queue.reschedule(ticket, 8).unwrap().is_some());
+    assert_eq!((queue.len(), queue.peak_len()), (Ok(3), Ok(3)));
+    assert_eq!(queue.pop(), Ok(Some((6, "six"))));
+    assert_eq!(queue.pop(), Ok(Some((7, "seven"))));
+    queue.push(9, "nine").unwrap();
+    assert_eq!((member.len(), member.peak_len()), (Ok(2), Ok(3)));
+    assert_eq!(queue.until(Until::NOW).peak_len(), Ok(3));
+}
+
 #[test]
 fn counts_are_refused_while_a_post_waits() {
     let queue = Queue::new().unwrap();
     let mut member = queue.join().unwrap();
     member.post_push(1, 2).unwrap();
     assert_eq!(member.len(), Err(Error::Pending));
+    assert_eq!(member.peak_len(), Err(Error::Pending));
     assert_eq!((queue.len(), member.poll()), (Ok(1), Ok(Some((1, 2)))));
 }
 

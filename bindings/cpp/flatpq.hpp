@@ -8,9 +8,9 @@
 // times, or a type of the program (flatpq_keys.hpp). The item with the smallest key comes out first; items of equal keys come out in the
 // order in which they were pushed. flatpq.h says what each call does and what it asks of the program; this file adds types and ownership.
 //
-// A queue also has batches (push_many, pop_due_many, drain), an exact size(), a bound on its items (options::most_items), tickets by which items
-// are removed and moved (options::tickets), and listeners for event loops. A program that writes archives to a file survives a crash:
-// wait_archived waits until a push is on disk, and journal<Key>::read_from reads the file back.
+// A queue also has batches (push_many, pop_due_many, drain), an exact size() and peak_size(), a bound on its items (options::most_items),
+// tickets by which items are removed and moved (options::tickets), and listeners for event loops. A program that writes archives to a file
+// survives a crash: wait_archived waits until a push is on disk, and journal<Key>::read_from reads the file back.
 //
 // Any number of threads may call a queue itself. A thread calls through a member of its own, which it gets at its first call; where all
 // members are in use it waits for one. A thread that waits for an item, or for room, keeps its member meanwhile. A program that moves members

@@ -24,7 +24,8 @@
 //!   payload; [`pop_due`](TaskQueue::pop_due) and [`take_due`](TaskQueue::take_due), where keys are times.
 //! - Batches, up to 64 requests under one lock: [`push_many`](TaskQueue::push_many) and [`pop_due_many`](TaskQueue::pop_due_many).
 //! - Tickets, by which a payload is removed or moved wherever it waits: [`remove`](TaskQueue::remove), [`reschedule`](TaskQueue::reschedule).
-//! - [`len`](TaskQueue::len) is exact. A queue may have a bound, at which pushes wait for room ([`Options::most_items`]).
+//! - [`len`](TaskQueue::len) is exact, and so is [`peak_len`](TaskQueue::peak_len), the most that it has been. A queue may have a bound, at
+//!   which pushes wait for room ([`Options::most_items`]).
 //! - They wait for other threads as long as it takes. [`until`](TaskQueue::until) limits that: `queue.until(deadline).take()`.
 //! - A [`TaskMember`] moves between threads; a thread that calls the queue itself has one of its own.
 //! - A task of an executor awaits [`take_async`](TaskQueue::take_async), and an event loop has a [`Listener`], or a [`DueListener`] for what is

@@ -2,18 +2,18 @@
 ghost use Rattle.std.specs.Prelude.{◌≡◌, []};
 
 use crate::kind::Kind;
-use leftist_heap::{HasTicket, Level, NoPlaces, Store, TicketHeap, TicketStore, TreePlaces};
-use std::alloc::Allocator;
+use leftist_heap::{GlobalPlaces, HasTicket, NoPlaces, Store, TicketHeap, TicketStore};
+use std::alloc::Global;
 use std::marker::Model;
 
 /// A heap in one array that keeps the places of tickets or doesn't. Contracts see it as the ascending list of its items, and as the
 /// number of items that the array has room for: each call is that of the heap in it.
 #[derive(Drop)]
-pub struct AnyHeap<T: HasTicket, A: Allocator + Copy> {
-    kind: Kind<T, A>,
+pub struct AnyHeap<T: HasTicket> {
+    kind: Kind<T>,
 }
 
-impl<T: HasTicket, A: Allocator + Copy> Model for AnyHeap<T, A> {
+impl<T: HasTicket> Model for AnyHeap<T> {
     ghost use Rattle.leftist_heap.specs.ArrayHeap.{Holding};
     ghost use Rattle.any_heap.specs.Kinds.{held_in};
 
@@ -22,14 +22,14 @@ impl<T: HasTicket, A: Allocator + Copy> Model for AnyHeap<T, A> {
     ghost view = { λ h. held_in h.kind };
 }
 
-impl<T: HasTicket, A: Allocator + Copy> AnyHeap<T, A> {
+impl<T: HasTicket> AnyHeap<T> {
     /// A heap with no items. Where it keeps the places of tickets a removal takes no longer than a pop, and pushes and pops take a
     /// little longer; else a removal looks at every item. Takes no memory.
-    pub fn new(alloc: A, has_places: bool) -> Self
+    pub fn new(alloc: Global, has_places: bool) -> Self
         ensures { result.items ≡ [] }
     {
         let kind = if has_places {
-            Kind::Ticketed(TicketHeap::new(alloc, TreePlaces::bare(alloc)))
+            Kind::Ticketed(TicketHeap::new(alloc, GlobalPlaces::bare(alloc)))
         } else {
             Kind::Plain(TicketHeap::new(alloc, NoPlaces))
         };
@@ -37,7 +37,7 @@ impl<T: HasTicket, A: Allocator + Copy> AnyHeap<T, A> {
     }
 }
 
-impl<T: HasTicket, A: Allocator + Copy> Store<T> for AnyHeap<T, A> {
+impl<T: HasTicket> Store<T> for AnyHeap<T> {
     ghost content = { λ h. h.items };
 
     ghost room = { λ h. h.room };
@@ -78,7 +78,7 @@ impl<T: HasTicket, A: Allocator + Copy> Store<T> for AnyHeap<T, A> {
     }
 }
 
-impl<T: HasTicket, A: Allocator + Copy> TicketStore<T> for AnyHeap<T, A> {
+impl<T: HasTicket> TicketStore<T> for AnyHeap<T> {
     fn remove(&mut self, ticket: u64) -> Option<T> {
         match &mut self.kind {
             Kind::Plain(heap) => heap.remove(ticket),

@@ -1,11 +1,11 @@
 // The two kinds of heap.
 
-use leftist_heap::{HasTicket, NoPlaces, TicketHeap, TreePlaces};
-use std::alloc::Allocator;
+use leftist_heap::{GlobalPlaces, HasTicket, NoPlaces, TicketHeap};
+use std::alloc::Global;
 
 /// A heap that keeps the places of tickets, or one that doesn't.
 #[derive(Drop)]
-pub enum Kind<T: HasTicket, A: Allocator + Copy> {
-    Plain(TicketHeap<T, NoPlaces, A>),
-    Ticketed(TicketHeap<T, TreePlaces<A>, A>),
+pub enum Kind<T: HasTicket> {
+    Plain(TicketHeap<T, NoPlaces, Global>),
+    Ticketed(TicketHeap<T, GlobalPlaces, Global>),
 }

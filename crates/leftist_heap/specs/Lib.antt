@@ -8,3 +8,4 @@ pub mod Sifting
 pub mod AnyStore
 pub mod Tickets
 pub mod Places
+pub mod GlobalPlaces

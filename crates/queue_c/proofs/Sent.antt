@@ -14,7 +14,7 @@ use Rattle.core.specs.declared.cmp.PartialOrd as PartialOrd
 use Rattle.core.specs.contracts.clone.Clone+copy.TheImpl as clone
 use Rattle.std.specs.contracts.alloc.Global as global
 use Rattle.std.specs.contracts.impls.GlobalAllocator.TheImpl as allocator
-use Rattle.std.proofs.Crossing.{crosses, frees, send, Vec-send}
+use Rattle.std.proofs.Crossing.{frees, send, Vec-send}
 use Rattle.std_alloc.proofs.SendSync.{lies}
 use Rattle.std.specs.contracts.prelude.U64Eq.TheImpl as wide_equivalence
 use Rattle.std.specs.contracts.prelude.U64PartialEq.TheImpl as wide_equal
@@ -72,10 +72,10 @@ tickets = ticketed.ghosts u64 wide_part.ghosts wide_part.dict (clone.ghosts u64)
 
 -- the heap
 abbrev heap_row : RattleType
-heap_row = any_heap.the_row row global.the_row tickets ordered compared half_ordered allocator.ghosts
+heap_row = any_heap.the_row row tickets ordered compared half_ordered
 
 heap_sent : IsSend heap_row
-heap_sent = any_heap_sent.the_send row global.the_row tickets ordered compared half_ordered allocator.ghosts row_sent send frees
+heap_sent = any_heap_sent.the_send row tickets ordered compared half_ordered row_sent
 
 -- each part whole, since a `search` that goes down through them runs out of steps
 inside_journal_sent : IsSend inside_journal.the_row

@@ -1,5 +1,5 @@
 -- What the calls for C make of their member that count the items, or push one only while the queue has fewer than a bound.
-use Rattle.std.specs.Prelude.{◌≡◌, ℕ, ◌≤◌, true, Option, Some}
+use Rattle.std.specs.Prelude.{◌≡◌, ℕ, true, Option, Some}
 use Rattle.pq_types.specs.Item.{Item}
 use Rattle.pq_types.specs.Asked.{Answer}
 use Rattle.announce_board.specs.Tokens.{is_idle}

@@ -10,7 +10,7 @@ use queue_texts::{Owned, Replay};
 use std::alloc::Global;
 
 /// The store of a queue: a heap in an array, with the places of tickets or without.
-pub type Heap = AnyHeap<Entry<u64>, Global>;
+pub type Heap = AnyHeap<Entry<u64>>;
 
 /// An open queue, with its members that nobody has.
 pub type QueuePool = Pool<Heap, u64>;

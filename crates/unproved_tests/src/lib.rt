@@ -44,4 +44,6 @@ mod tables;
 #[cfg(test)]
 mod takes;
 #[cfg(test)]
+mod tickets;
+#[cfg(test)]
 mod up_to;

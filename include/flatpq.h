@@ -130,7 +130,7 @@ PQ_CHECKED pq_code pq_close(pq_queue *queue, pq_journal **journal);
 
 /* Frees the queue, closed or not: the program must not use the pointer any more. Memory is freed once the last joined member is given
    back, and the last call by an own member has returned. Then `left`, unless it is NULL, is called with each item that was left, in the
-   thread that frees the memory. queue may be NULL. */
+   thread that frees the memory. `left` may still use the pointer: the queue is closed then (PQ_CLOSED). queue may be NULL. */
 void pq_free(pq_queue *queue, void (*left)(void *context, pq_item item), void *context);
 
 /* Members. */
@@ -158,7 +158,8 @@ uint32_t pq_place(pq_member *member);
 /*
  * Requests. Each of these calls may also return PQ_NO_MEMBER, PQ_FORKED, PQ_PENDING, PQ_EXHAUSTED, PQ_JOURNAL_FULL or PQ_UNARCHIVED, and
  * PQ_TIMED_OUT unless `until` is PQ_FOREVER; a call by pq_own also PQ_CLOSED or PQ_NO_MEMORY. A call without `until` doesn't wait. number
- * may be NULL; else *number is the number of the journal entry, if there is one.
+ * may be NULL; else *number is the number of the journal entry, if there is one. Where the journal has no room, a call that takes is
+ * refused even if there is nothing to take.
  */
 
 /* Puts an item in. Where the queue has as many items as pq_options allow, the call waits until one goes out, and keeps its member meanwhile.
@@ -194,7 +195,7 @@ PQ_CHECKED pq_code pq_pop_due_many(pq_member *member, uint64_t priority, pq_item
 PQ_CHECKED pq_code pq_size(pq_member *member, uint64_t until, uint64_t *size, uint64_t *peak);
 
 /* Takes the item of this ticket out, wherever it waits: the ticket is the number of the entry that put it in. No other call returns it then. Also
-   of a queue that is shut. PQ_OK; PQ_GONE: no item waits under this ticket, which has an entry too; PQ_NO_TICKETS. */
+   of a queue that is shut. item may be NULL. PQ_OK; PQ_GONE: no item waits under this ticket, which has an entry too; PQ_NO_TICKETS. */
 PQ_CHECKED pq_code pq_remove(pq_member *member, uint64_t ticket, pq_item *item, uint64_t until, uint64_t *number);
 
 /* Moves the item of this ticket to this priority, after all items of that one, in one step: *number is its ticket from now on. Also of a queue

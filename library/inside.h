@@ -87,6 +87,7 @@ struct pq_queue {
     /* Members, under their lock. */
     uint32_t is_closed __attribute__((aligned(64)));
     uint32_t is_freed;  /* by the program */
+    uint32_t is_ending; /* a thread frees its memory; the function `left` may call it meanwhile */
     uint32_t is_marked; /* the records of the queue are WANTED */
     uint32_t out;       /* members in use */
     uint32_t awaiting;  /* threads that wait until an entry is archived */

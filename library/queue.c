@@ -60,11 +60,12 @@ pq_code pq_open(const pq_options *options, pq_queue **queue) {
     return PQ_OK;
 }
 
-/* Ends a queue that the program has freed, and that no thread uses. */
+/* Ends a queue that the program has freed, and that no thread uses. `left` may call the queue, which is closed then. */
 static void end(pq_queue *queue) {
     core journal = NULL;
     pq_item item;
     pq_code code = queue->is_closed ? PQ_CLOSED : LEAVE_OUT(pq_core_close(&queue->proved, &journal));
+    __atomic_store_n(&queue->is_closed, 1, SEQ);
     while (code == PQ_OK && queue->left != NULL && LEAVE_OUT(pq_core_take(&journal, &item)) == PQ_OK) {
         if (IS_WATCHED) {
             flatpq_tsan_pop(item);
@@ -84,7 +85,9 @@ static void end(pq_queue *queue) {
 }
 
 void flatpq_unlock(pq_queue *queue) {
-    int ends = queue->is_freed && queue->out == 0 && queue->awaiting == 0, is_wanted = queue->is_freed || queue->first != NULL;
+    int ends = queue->is_freed && !queue->is_ending && queue->out == 0 && queue->awaiting == 0;
+    int is_wanted = queue->is_freed || queue->first != NULL;
+    queue->is_ending |= (uint32_t)ends;
     if (!ends && is_wanted != (int)queue->is_marked) {
         flatpq_mark(queue, is_wanted ? WANTED : 0);
     }

@@ -6,7 +6,8 @@
 //
 // A queue<Key> holds items of a key and a 64-bit value; a task_queue<T, Key> (flatpq_tasks.hpp) holds payloads of any type. Keys are numbers,
 // times, or a type of the program (flatpq_keys.hpp). The item with the smallest key comes out first; items of equal keys come out in the
-// order in which they were pushed. flatpq.h says what each call does and what it asks of the program; this file adds types and ownership.
+// order in which they were pushed or moved there. flatpq.h says what each call does and what it asks of the program; this file adds types and
+// ownership.
 //
 // A queue also has batches (push_many, pop_due_many, drain), an exact size() and peak_size(), a bound on its items (options::most_items),
 // tickets by which items are removed and moved (options::tickets), and listeners for event loops. A program that writes archives to a file
@@ -58,6 +59,7 @@ struct options {
 };
 
 /// What push_many did: how many items it put in, why not the next one, and the number of the first one's journal entry; 0 where it put none in.
+/// Up to 64 items have consecutive entries, unless the queue has a bound, its journal refuses, or memory for a payload was refused.
 struct [[nodiscard]] pushed_many {
     std::size_t count;
     code error;
@@ -429,7 +431,8 @@ public:
         std::swap(queue_, moved.queue_);
         return *this;
     }
-    /// The payloads that are left are dropped once the last joined member has ended.
+    /// The payloads that are left are dropped once the last joined member has ended. Those that are dropped here may call the queue:
+    /// code::closed.
     ~basic_queue() { pq_free(queue_, Items::drops, nullptr); }
 
     /// Joins the queue. It waits until then for a member that another thread gives back: code::all_joined.

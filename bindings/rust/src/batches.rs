@@ -14,8 +14,8 @@ use std::mem;
 pub struct Pushed {
     /// How many payloads.
     pub count: usize,
-    /// The number of the first one's journal entry; 0 where it put none in. Up to 64 payloads have consecutive entries where the queue has no
-    /// bound.
+    /// The number of the first one's journal entry; 0 where it put none in. Up to 64 payloads have consecutive entries, unless the queue has a
+    /// bound or its journal refuses.
     pub number: u64,
 }
 

@@ -1,7 +1,7 @@
 //! A priority queue that threads share, over the verified library flatpq.
 //!
 //! A [`TaskQueue`] has payloads of any type, each by a [`Key`]. The smallest key comes out first, and payloads of equal keys in the order in
-//! which they were pushed. Any number of threads may call it.
+//! which they were pushed or moved there. Any number of threads may call it.
 //!
 //! ```
 //! use flatpq::TaskQueue;

@@ -61,7 +61,7 @@ impl<T> Drop for Shared<T> {
 }
 
 /// A priority queue of payloads of any type, each by a [`Key`], which threads share. The smallest key comes out first, and payloads of
-/// equal keys in the order in which they were pushed.
+/// equal keys in the order in which they were pushed or moved there.
 ///
 /// Any number of threads may call the queue itself: each has a member of its own from its first call to its end, and where all members are
 /// in use a call takes over an idle one, or waits for one. A program that wants to move a member between threads joins one

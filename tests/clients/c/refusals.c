@@ -107,19 +107,97 @@ static void refuses_pushes_once_shut(void) {
     close_and_free(queue);
 }
 
-static void refuses_calls_once_closed(void) {
-    pq_queue *queue = opened(1);
+/* Each call of one that is closed. */
+static void refuses_as_closed(pq_queue *queue) {
     pq_member *own = pq_own(queue), *member = own;
-    pq_journal *journal = NULL, *other = (pq_journal *)queue;
-    CHECK(pq_push(own, item_of(1, 2), PQ_FOREVER, NULL) == PQ_OK && pq_close(queue, &journal) == PQ_OK && pq_count(journal, NULL) == 1);
+    pq_journal *journal = (pq_journal *)queue;
+    pq_item item = item_of(7, 8);
+    uint64_t number = 9;
     refuses_requests(own, PQ_CLOSED, PQ_FOREVER);
     refuses_all(own, PQ_CLOSED, PQ_NOW);
+    CHECK(pq_remove(own, 1, &item, PQ_FOREVER, &number) == PQ_CLOSED && is_item(item, 7, 8));
+    CHECK(pq_reschedule(own, 1, 5, PQ_FOREVER, &number) == PQ_CLOSED && number == 9 && pq_wait_archived(queue, 9, PQ_FOREVER) == PQ_CLOSED);
     CHECK(pq_join(queue, PQ_FOREVER, &member) == PQ_CLOSED && member == NULL && pq_shut(queue) == PQ_CLOSED);
-    CHECK(pq_close(queue, &other) == PQ_CLOSED && other == NULL && pq_close(queue, NULL) == PQ_CLOSED);
+    CHECK(pq_close(queue, &journal) == PQ_CLOSED && journal == NULL && pq_close(queue, NULL) == PQ_CLOSED);
     CHECK(pq_place(own) == UINT32_MAX && pq_unlisten(own) == 0 && pq_own(queue) == own);
+    pq_give_back(own);
     pq_leave(queue);
+}
+
+static void refuses_calls_once_closed(void) {
+    pq_queue *queue = opened(1);
+    pq_journal *journal = NULL;
+    CHECK(pq_push(pq_own(queue), item_of(1, 2), PQ_FOREVER, NULL) == PQ_OK);
+    CHECK(pq_close(queue, &journal) == PQ_OK && pq_count(journal, NULL) == 1);
+    refuses_as_closed(queue);
     pq_free(queue, NULL, NULL);
     pq_journal_free(journal);
+}
+
+static pq_queue *ending;
+
+/* Calls the queue that ends, and a new one meanwhile. */
+static void is_left(void *context, pq_item item) {
+    uint64_t *count = (uint64_t *)context;
+    pq_queue *other = opened(1);
+    CHECK(is_item(item, (*count)++, 5) && pq_push(pq_own(other), item, PQ_FOREVER, NULL) == PQ_OK);
+    refuses_as_closed(ending);
+    close_and_free(other);
+    refuses_as_closed(ending);
+}
+
+/* A queue with items that are left, and a member that is not given back. */
+static pq_member *opens_the_ending_one(void) {
+    ending = opened(3);
+    for (uint64_t i = 0; i < 3; i++) {
+        CHECK(pq_push(pq_own(ending), item_of(i, 5), PQ_FOREVER, NULL) == PQ_OK);
+    }
+    return joined(ending);
+}
+
+static void *frees(void *count) {
+    pq_free(ending, is_left, count);
+    return NULL;
+}
+
+static int has_listened, is_freed;
+
+/* Keeps the thread's own member until it ends. */
+static void *listens(void *unused) {
+    pq_item item;
+    CHECK(pq_take_or_listen(pq_own(ending), 0, &item, NULL, notes_nothing, NULL) == PQ_OK && item.priority == 0);
+    CHECK(pq_take_or_listen(pq_own(ending), 0, &item, NULL, notes_nothing, NULL) == PQ_NOT_DUE);
+    set(&has_listened, 1);
+    while (!is_set(&is_freed)) {
+        sleep_ms(1);
+    }
+    return unused;
+}
+
+/* In the call that frees it; in the call that gives its last member back, where another thread has freed it; and where its last thread ends. */
+static void refuses_calls_while_it_ends(void) {
+    uint64_t count = 0;
+    pq_member *last = opens_the_ending_one();
+    pthread_t thread;
+    pq_give_back(last);
+    pq_free(ending, is_left, &count);
+    CHECK(count == 3);
+    count = 0;
+    last = opens_the_ending_one();
+    ended(started(frees, &count));
+    CHECK(count == 0);
+    pq_give_back(last);
+    CHECK(count == 3);
+    pq_give_back(opens_the_ending_one());
+    thread = started(listens, NULL);
+    while (!is_set(&has_listened)) {
+        sleep_ms(1);
+    }
+    count = 1;
+    pq_free(ending, is_left, &count);
+    set(&is_freed, 1);
+    ended(thread);
+    CHECK(count == 3);
 }
 
 /* While another thread has the lock: what is posted stays so, and nothing else has been done. */
@@ -155,6 +233,7 @@ int main(void) {
     refuses_requests_out_of_turn();
     refuses_pushes_once_shut();
     refuses_calls_once_closed();
+    refuses_calls_while_it_ends();
     refuses_to_wait_for_the_lock();
     return 0;
 }

@@ -76,6 +76,9 @@ static void any_item_goes_out(uint32_t keeping, uint32_t entries) {
     pops(queue, 3, 3);
     is_gone(queue, tickets[3]);
     CHECK(pq_remove(pq_own(queue), tickets[3], &item, PQ_NOW, NULL) == PQ_GONE && pq_pop(pq_own(queue), &item, PQ_NOW, NULL) == PQ_EMPTY);
+    tickets[0] = pushed(queue, 4, 9);
+    CHECK(pq_remove(pq_own(queue), tickets[0], NULL, PQ_NOW, NULL) == PQ_OK && size_of(queue) == 0);
+    CHECK(pq_remove(pq_own(queue), tickets[0], NULL, PQ_NOW, NULL) == PQ_GONE);
     close_and_free(queue);
 }
 

@@ -232,6 +232,43 @@ struct caller {
     std::unique_ptr<flatpq::task_queue<caller>, pushes> to;
 };
 
+/// Calls its own queue when it is dropped. The queue is closed or ends, and refuses.
+struct own_caller {
+    struct calls {
+        void operator()(flatpq::task_queue<own_caller> *it) const {
+            constexpr auto why = code::closed;
+            own_caller another;
+            std::vector<flatpq::task<own_caller>> batch;
+            batch.emplace_back(1u, own_caller());
+            CHECK(it->push(9u, std::move(another)).error() == why && it->push_many(batch).error == why && it->pop().error() == why);
+            CHECK(it->remove(1).error() == why && it->reschedule(1, 9u).error() == why && it->size().error() == why);
+            CHECK(it->join().error() == why && it->shut() == why && it->close().error() == why && it->clear().error() == why);
+            it->leave();
+            ++dropped;
+        }
+    };
+    std::unique_ptr<flatpq::task_queue<own_caller>, calls> to;
+    static int dropped;
+};
+int own_caller::dropped = 0;
+
+static void what_is_dropped_may_call_its_ending_queue() {
+    flatpq::options asked;
+    asked.tickets = true;
+    {
+        flatpq::task_queue<own_caller> queue(asked);
+        for (unsigned key = 0; key < 3; ++key) {
+            CHECK(queue.push(key, own_caller{{&queue, {}}}));
+        }
+        own_caller::dropped = 0;
+    }
+    CHECK(own_caller::dropped == 3);
+    auto queue = *flatpq::task_queue<own_caller>::open(asked);
+    CHECK(queue.push(1u, own_caller{{&queue, {}}}));
+    const auto journal = queue.close();
+    CHECK(journal && own_caller::dropped == 3);
+}
+
 /// Holds a member of its queue.
 struct holder {
     std::unique_ptr<flatpq::task_member<holder>> own;
@@ -326,6 +363,8 @@ int main() {
     batches_keep_what_is_refused();
     batches_come_out_in_order();
     what_is_dropped_may_call();
+    what_is_dropped_may_call_its_ending_queue();
+    CHECK(own_caller::dropped == 4);
     kinds();
     CHECK(live == 0);
     return 0;

@@ -3,7 +3,7 @@
 use flat_queue::{CallError, Due, Handle, Newcomer, Queue, Times};
 use leftist_heap::Leftist;
 use pq_book::Entry;
-use pq_types::Item;
+use pq_types::{Item, Request};
 use std::alloc::Global;
 use std::process::Abort;
 use std::sync::Wait;
@@ -131,6 +131,26 @@ fn times_of_all_sizes_are_told(rt: HostRuntime) -> Result<(), Fail> {
     assert!(&rt; matches!(told, Ok(Due::Taken(2, taken, _)) if taken == last));
     drop(handle);
     drop(queue);
+    Ok(())
+}
+
+// A take whose look carries out the push of another wakes whoever is owed that.
+#[test]
+fn a_look_that_served_a_push_owes_no_wake(rt: HostRuntime) -> Result<(), Fail> {
+    let (queue, mut newcomers) = opened(&rt, rt.alloc(), &[1, 2]);
+    let mut handle = entered(&rt, &queue, &mut newcomers);
+    let mut other = queue.join(newcomers.pop().expect(&rt, "there is one"));
+    let waiters = queue.waiters();
+    let seen = waiters.begin_wait();
+    queue.post(&mut other, Request::Push(item(0, 1)));
+    let told = handle.take_due(&rt, from_now(&rt), None);
+    assert!(&rt; matches!(told, Ok(Due::Taken(_, taken, _)) if taken == item(0, 1)));
+    assert!(&rt; waiters.owed_wakes() == 0 && queue.look(&mut other).is_some());
+    // It was counted all the same.
+    assert!(&rt; waiters.begin_wait() == seen + 1);
+    waiters.end_wait();
+    waiters.end_wait();
+    is_awaited_by_nobody(&rt, &queue);
     Ok(())
 }
 

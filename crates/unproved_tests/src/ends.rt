@@ -1,6 +1,8 @@
 // The end of a queue for handles: pushes that heed it are refused, and takes that heed it are told once nothing is left.
 use crate::common::{Heap, PATIENCE, entered, item, opened, wait_for};
-use flat_queue::{Awaited, CallError, Member, Newcomer, PushError, Queue, Shut};
+use flat_queue::{
+    Awaited, CallError, Due, Handle, Member, Newcomer, PushError, Queue, Shut, Times,
+};
 use leftist_heap::{Leftist, Store};
 use pq_book::Entry;
 use pq_types::{Answer, Item, Request};
@@ -172,6 +174,118 @@ fn all_that_sleep_are_told_the_end(rt: HostRuntime) -> Result<(), Fail> {
         panic!(&rt; "there is memory")
     };
     assert!(&rt; told[0] && told[1] && told[2] && told[3]);
+    is_awaited_by_nobody(&rt, &queue);
+    Ok(())
+}
+
+// Each way to take that heeds the end.
+#[derive(Clone, Copy)]
+enum Way {
+    Any,
+    Until,
+    Due,
+}
+
+// Takes in this way, where all is due at once: the item; `None` at the end.
+fn got<R: Abort + Clock + Wait>(rt: &R, handle: &mut Handle<'_, Heap>, way: Way) -> Option<Item> {
+    let start = from_now(rt, 0);
+    let deadline = from_now(rt, FAR);
+    match way {
+        Way::Any => match handle.take_or_end(rt) {
+            Ok(Some((_, taken))) => Some(taken),
+            _ => None,
+        },
+        Way::Until => match handle.take_until_or_end(rt, deadline) {
+            Ok(Some(Awaited::Taken(_, taken))) => Some(taken),
+            _ => None,
+        },
+        Way::Due => match handle.take_due_or_end(rt, Times { start, unit: 0 }, Some(deadline)) {
+            Ok(Some(Due::Taken(_, taken, _))) => Some(taken),
+            _ => None,
+        },
+    }
+}
+
+// The first pushes once the other sleeps, and shuts the queue before it wakes that. The other gets the item, and is told the end
+// behind it.
+fn pushes_and_shuts_or_takes<R: Abort + Clock + Wait>(
+    rt: &R,
+    queue: &Queue<Heap>,
+    newcomer: Newcomer,
+    way: Way,
+) -> bool {
+    let is_first = newcomer.id() == 1;
+    if !is_first {
+        let mut handle = queue.enter(newcomer);
+        return got(rt, &mut handle, way) == Some(item(1, 1)) && handle.take_or_end(rt) == Ok(None);
+    }
+    let mut member = queue.join(newcomer);
+    thread::sleep(rt, Duration::from_millis(ASLEEP));
+    let told = queue.carry_out_unless_shut(&mut member, Request::Push(item(1, 1)));
+    queue.shut();
+    queue.waiters().wake_owed();
+    matches!(told, Some(Ok(Answer::Entered(_, _))))
+}
+
+#[test]
+fn one_that_sleeps_gets_what_is_pushed_before_the_end(rt: HostRuntime) -> Result<(), Fail> {
+    for way in [Way::Any, Way::Until, Way::Due] {
+        let (queue, newcomers) = opened(&rt, rt.alloc(), &[1, 2]);
+        let went = thread::map_vec(
+            &rt,
+            newcomers,
+            &|newcomer: Newcomer| pushes_and_shuts_or_takes(&rt, &queue, newcomer, way),
+        );
+        let Ok(went) = went else {
+            panic!(&rt; "there is memory")
+        };
+        assert!(&rt; went[0] && went[1]);
+        is_awaited_by_nobody(&rt, &queue);
+    }
+    Ok(())
+}
+
+// The first ends its post a while later, which counts no event. The others nap meanwhile, and are told the end long before their
+// deadline.
+fn ends_its_post_or_takes<R: Abort + Clock + Wait>(
+    rt: &R,
+    queue: &Queue<Heap>,
+    newcomer: Newcomer,
+) -> bool {
+    let id = newcomer.id();
+    let mut handle = queue.enter(newcomer);
+    if id == 1 {
+        let push: Request = Request::Push(item(1, 1));
+        thread::sleep(rt, Duration::from_millis(ASLEEP));
+        queue.waiters().ending().end_post(&push);
+        return true;
+    }
+    let deadline = from_now(rt, FAR);
+    let start = from_now(rt, 0);
+    let is_told = if id == 2 {
+        matches!(handle.take_until_or_end(rt, deadline), Ok(None))
+    } else {
+        let times = Times { start, unit: 0 };
+        matches!(handle.take_due_or_end(rt, times, Some(deadline)), Ok(None))
+    };
+    is_told && Instant::now(rt).expect(rt, "there is a clock") < deadline
+}
+
+#[test]
+fn the_end_of_a_post_is_seen_before_a_far_deadline(rt: HostRuntime) -> Result<(), Fail> {
+    let (queue, newcomers) = opened(&rt, rt.alloc(), &[1, 2, 3]);
+    let push: Request = Request::Push(item(1, 1));
+    assert!(&rt; queue.waiters().ending().begin_post(&push));
+    queue.shut();
+    let told = thread::map_vec(
+        &rt,
+        newcomers,
+        &|newcomer: Newcomer| ends_its_post_or_takes(&rt, &queue, newcomer),
+    );
+    let Ok(told) = told else {
+        panic!(&rt; "there is memory")
+    };
+    assert!(&rt; told[0] && told[1] && told[2]);
     is_awaited_by_nobody(&rt, &queue);
     Ok(())
 }

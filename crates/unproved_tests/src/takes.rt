@@ -182,6 +182,31 @@ fn a_round_wakes_as_many_as_it_pushes_for(rt: HostRuntime) -> Result<(), Fail> {
     Ok(())
 }
 
+// One sleeps until its deadline also where there were more events than 16 bits count: it has worked little until then.
+#[test]
+fn one_sleeps_behind_many_events(rt: HostRuntime) -> Result<(), Fail> {
+    let (queue, mut newcomers) = opened(&rt, rt.alloc(), &[1]);
+    let mut handle = entered(&rt, &queue, &mut newcomers);
+    let waiters = queue.waiters();
+    waiters.begin_wait();
+    for _ in 0..70_000 {
+        waiters.count(1);
+    }
+    assert!(&rt; waiters.owed_wakes() == 70_000);
+    waiters.end_wait();
+    let deadline = Instant::now(&rt)
+        .expect(&rt, "there is a clock")
+        .checked_add(Duration::from_millis(2 * ASLEEP))
+        .expect(&rt, "there is such a time");
+    let before = rt.thread_cpu_time().expect(&rt, "there is a clock");
+    let told = handle.take_until(&rt, deadline);
+    let after = rt.thread_cpu_time().expect(&rt, "there is a clock");
+    assert!(&rt; matches!(told, Ok(Awaited::Late(_, now)) if now >= deadline));
+    assert!(&rt; after.saturating_sub(before) < Duration::from_millis(ASLEEP / 8));
+    is_awaited_by_nobody(&rt, &queue);
+    Ok(())
+}
+
 const TAKERS: u64 = 6;
 
 const ITEMS: u32 = 200;

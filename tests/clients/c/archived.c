@@ -3,6 +3,7 @@
 
    c_archived [CALLS [written | most]]: CALLS of each worker, 20,000 if not named; with `written` the archive goes to the output; with
    `most` a queue is opened too that keeps the most entries, which takes 1 GB. */
+#include "../wrapped.h"
 #include "refused.h"
 
 #include <string.h>
@@ -96,6 +97,57 @@ static void polls_count_for_nothing(void) {
     CHECK(archives(own, 0) == FEWEST && pq_pop_due(own, 9, &item, PQ_NOW, &number) == PQ_UNARCHIVED && archives(own, 1) == FEWEST - 1);
     CHECK(pq_pop_due(own, 9, &item, PQ_NOW, &number) == PQ_OK && is_item(item, 1, 0) && number == FEWEST + 1);
     close_and_free(queue);
+}
+
+/* Opens a queue that refuses, with tickets, which may have so many items. */
+static pq_queue *refusing(uint64_t most_items) {
+    pq_options options = { 3, PQ_REFUSES, FEWEST, 1, 0, 0, 0 };
+    pq_queue *queue = NULL;
+    options.most_items = most_items;
+    CHECK(pq_open(&options, &queue) == PQ_OK);
+    return queue;
+}
+
+/* So many requests have entries. Others are let through until there are as many entries as are kept. */
+static void have_entries(pq_queue *queue, pq_member *member, uint64_t requests) {
+    pq_item item;
+    pq_code code = PQ_OK;
+    while (code == PQ_OK || code == PQ_EMPTY) {
+        code = pq_peek(member, &item, PQ_FOREVER, NULL);
+        requests += code != PQ_UNARCHIVED;
+    }
+    CHECK(code == PQ_UNARCHIVED && requests == FEWEST && archives(member, 0) == FEWEST);
+    pq_give_back(member);
+    close_and_free(queue);
+}
+
+/* Calls that find the lock held have no entry, so each of them counts for nothing. */
+static void calls_that_time_out_count_for_nothing(uint64_t most_items) {
+    pq_queue *queue = refusing(most_items);
+    pq_member *member = joined(queue);
+    pq_item item;
+    uint64_t size = 0, number = 0;
+    holder own;
+    hold(&own, queue, HOLDS_AND_STOPS);
+    refuses_requests(member, PQ_TIMED_OUT, PQ_NOW);
+    CHECK(pq_remove(member, 1, &item, PQ_NOW, &number) == PQ_TIMED_OUT && pq_reschedule(member, 1, 5, PQ_NOW, &number) == PQ_TIMED_OUT);
+    CHECK(pq_take_or_listen(member, 9, &item, &number, notes_nothing, NULL) == PQ_EMPTY && pq_unlisten(member) == 0);
+    CHECK(pq_size(member, PQ_NOW, &size, NULL) == PQ_TIMED_OUT && pq_combine(member) == PQ_TIMED_OUT);
+    let_go(&own);
+    have_entries(queue, member, own.pushed);
+}
+
+/* Neither has a push that finds the queue full, or shut. */
+static void refused_pushes_count_for_nothing(uint64_t most_items) {
+    const pq_item items[2] = { { 1, 2 }, { 3, 4 } };
+    const pq_code code = most_items == 0 ? PQ_SHUT : PQ_FULL;
+    pq_queue *queue = refusing(most_items);
+    pq_member *member = joined(queue);
+    size_t done = 9;
+    CHECK(pq_push(member, items[0], PQ_NOW, NULL) == PQ_OK && (code == PQ_FULL || pq_shut(queue) == PQ_OK));
+    CHECK(pq_push(member, items[0], PQ_NOW, NULL) == code && pq_push_many(member, items, 2, PQ_NOW, &done, NULL) == code && done == 0);
+    CHECK(pq_post(member, PQ_PUSH, items[0]) == (code == PQ_FULL ? PQ_BAD_REQUEST : PQ_SHUT));
+    have_entries(queue, member, 1);
 }
 
 /* What the workers did, or what the archive has. */
@@ -199,6 +251,10 @@ int main(int count, char **words) {
         keeps_so_many(FEWEST + 1);
         refuses_what_would_be_forgotten(FEWEST + 10);
         polls_count_for_nothing();
+        calls_that_time_out_count_for_nothing(0);
+        calls_that_time_out_count_for_nothing(UINT64_MAX);
+        refused_pushes_count_for_nothing(0);
+        refused_pushes_count_for_nothing(1);
     }
     if (strcmp(word, "most") == 0) {
         keeps_so_many(MOST);

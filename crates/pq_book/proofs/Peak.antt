@@ -46,6 +46,11 @@ peak_of_one_more lines l before items m is = record {
   reached = reached_still lines l before items m is (cases_lt before items);
 }
 
+-- so the greater of the two is the peak, whatever journal had the one before
+pub peak_is_the_greater : (before items peak : ℕ) → peak ≡ max before items → IsPeakWith before items peak
+peak_is_the_greater before items peak is journal line most left =
+    subst (λ n. IsPeak (journal ++ line ∷ []) n) (sym is) (peak_of_one_more journal line before items most left)
+
 -- so it is kept up where a line is entered
 pub peak_entered : (old new : List Line) (l : Line) (before items peak : ℕ) → IsPeak old before → IsPeakWith before items peak → new ≡ old ++ l ∷ []
     → items ≡ length (left new) → IsPeak new peak

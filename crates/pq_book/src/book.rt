@@ -294,6 +294,7 @@ impl<S: Store<Entry>, A: Allocator> Book<S, A> {
 }
 
 // The most items that waited at once, where a line more leaves so many: `before` is that without the line.
+#[tactic(auto, using(crate::proofs::Peak::peak_is_the_greater))]
 fn peak_with(before: u64, items: u64) -> u64
     ensures { IsPeakWith before items result }
 {

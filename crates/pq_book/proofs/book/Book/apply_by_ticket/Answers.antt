@@ -15,7 +15,7 @@ invariant_of-self-2 g c =
     let line = c.law_one_more_line.ensures in
     let kept = kept_entered _ _ _ _ c.self.invariant.0 line.legal line.rise c.law_items_stay_in_range.ensures.entries _ _ _ _ _ (ByTicket c.args.ticketed) _ (rw (← c.self.view_is) at c.requires)
     (omega (arith, c.len.ensures)) c.law_ticketed_is_proper.ensures (omega (arith, c.len-number.ensures)) c.in-Some.ensures.reply c.in-Some.ensures.entries (with_line _ _ _ _ _ _ _ c.by_ticket.ensures c.add.ensures.lines) in
-    let peaked = peak_entered _ _ _ _ _ _ c.self.invariant.2 c.peak_with-self-inside.ensures c.add.ensures.lines (c.len-2.ensures.len ∙ as_many_left _ _ _ _ kept) in
+    let peaked = peak_entered _ _ _ _ _ _ c.self.invariant.2 c.peak_with-self-inside.ensures c.add.ensures.lines (omega (arith, c.len-2.ensures.len, as_many_left _ _ _ _ kept)) in
     (kept, paged_entered c.self.inside.room c.self.inside.journal c.add.new.self _ c.self.invariant.1 c.add.ensures.page c.add.ensures.kept c.add.ensures.full c.add.ensures.lines c.add.ensures.most, peaked)
 
 pub returns-clause-answer : goal.returns-clause-answer

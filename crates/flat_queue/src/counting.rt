@@ -1,7 +1,9 @@
 // How a member counts the items under the lock, and how it pushes one only while the queue has fewer than a bound.
-ghost use Rattle.std.specs.Prelude.{◌≡◌, ◌≢◌, ◌<◌, true, Some, Ok, IfSome, IfNone, IfOk, IfErr};
+ghost use Rattle.std.specs.Prelude.{◌≡◌, ◌≢◌, ◌<◌, true, Some, Ok, length, IfSome, IfNone, IfOk, IfErr};
+ghost use Rattle.pq_types.specs.History.{left};
 ghost use Rattle.pq_types.specs.declared.journal.TheConstants.{GREATEST_NUMBER};
 ghost use Rattle.pq_types.specs.declared.request.Request.TheVariants.{Push};
+ghost use Rattle.pq_book.specs.Peak.{IsPeak};
 ghost use Rattle.desk_core.specs.Words.{word_number};
 ghost use Rattle.announce_board.specs.Asking.{IsAnswerTo};
 ghost use Rattle.announce_board.specs.Tokens.{is_idle};
@@ -11,6 +13,7 @@ ghost use Rattle.flat_queue.specs.Counting.{CountsBy, PushesWithinBy, IsUnpushed
 
 use crate::member::Member;
 use crate::queue::Queue;
+use announce_board::Lead;
 use leftist_heap::Store;
 use pq_book::Entry;
 use pq_types::{Answer, Item, Part, Request};
@@ -44,10 +47,9 @@ impl<S: Store<Entry<P>>, P: Part> Queue<S, P> {
     {
         let mut lead = self.lead(member)?;
         self.serve_others(member, &mut lead);
-        let items = lead.items();
-        let peak = lead.peak_items();
+        let counts = counts_of(&lead);
         self.release(member, lead);
-        Some(Counts { items, peak })
+        Some(counts)
     }
 
     /// The idle member pushes the item, as by `carry_out_unless_shut`; but where the queue has as many items as `most`, or more,
@@ -82,4 +84,14 @@ impl<S: Store<Entry<P>>, P: Part> Queue<S, P> {
         }
         Some(Ok(self.release_with(member, lead, push, served)))
     }
+}
+
+// What the journal in the leader's hand leaves, and the most that it has left at once.
+fn counts_of<S: Store<Entry<P>>, P: Part>(lead: &Lead<S, P>) -> Counts
+    ensures items { result.items ≡ length (left lead.now.book.journal) }
+    ensures peak { IsPeak lead.now.book.journal result.peak }
+{
+    let items = lead.items();
+    let peak = lead.peak_items();
+    Counts { items, peak }
 }

@@ -150,6 +150,18 @@ static void refused_pushes_count_for_nothing(uint64_t most_items) {
     have_entries(queue, member, 1);
 }
 
+/* A batch of pops counts for as many items as it takes out. */
+static void batches_count_for_what_they_pop(void) {
+    pq_queue *queue = refusing(0);
+    pq_member *member = joined(queue);
+    pq_item some[64];
+    size_t done = 9;
+    CHECK(pq_push(member, item_of(1, 2), PQ_NOW, NULL) == PQ_OK);
+    CHECK(pq_pop_due_many(member, 9, some, 64, PQ_NOW, &done, NULL) == PQ_OK && done == 1 && is_item(some[0], 1, 2));
+    CHECK(pq_pop_due_many(member, 9, some, 64, PQ_NOW, &done, NULL) == PQ_EMPTY && done == 0);
+    have_entries(queue, member, 2);
+}
+
 /* What the workers did, or what the archive has. */
 typedef struct tally {
     uint64_t requests[2], sums[2], empty; /* of pushes, and of pops */
@@ -255,6 +267,7 @@ int main(int count, char **words) {
         calls_that_time_out_count_for_nothing(UINT64_MAX);
         refused_pushes_count_for_nothing(0);
         refused_pushes_count_for_nothing(1);
+        batches_count_for_what_they_pop();
     }
     if (strcmp(word, "most") == 0) {
         keeps_so_many(MOST);

@@ -11,15 +11,15 @@
  * A call goes through a member of the queue. pq_own(queue) stands for the calling thread's own member, so any number of threads may call
  * through it. A program that wants to move a member between threads joins one itself (pq_join).
  *
- * Most calls take `until`, the time until which they may wait for other threads: a time of pq_now, PQ_NOW (never wait), or PQ_FOREVER. A
- * call that returns PQ_TIMED_OUT has done nothing, and nothing of it happens later. No call is a cancellation point, except pq_write.
+ * Most calls take `until`, the time until which they may wait for the queue's lock, a member or an item: a time of pq_now, PQ_NOW (never), or
+ * PQ_FOREVER. A call that returns PQ_TIMED_OUT has done nothing, and nothing of it happens later. Only pq_write is a cancellation point.
  *
  * All that a thread does before it pushes or moves an item happens before what another does after a call that returned it. So a value may be
  * a pointer.
  *
  * Nothing checks these duties of the caller. Pointers are valid. A member that was joined is in one call at a time; a queue, and
  * pq_own(queue), may be in calls of many threads. No call is made from a signal handler, or left by longjmp. Nothing is used after it was
- * freed. A thread that dies in a call may hold the queue's lock for ever: calls with a deadline time out then, and the others hang.
+ * freed. A thread that dies in a call may keep the queue's lock (then calls with a deadline time out, and others hang), or another lock.
  */
 #ifndef FLATPQ_H
 #define FLATPQ_H
@@ -111,7 +111,7 @@ typedef struct pq_options {
     uint32_t entries;
     uint32_t tickets;    /* 1: items can be removed or moved by ticket (pq_remove), and pushes and pops take a little longer; 0: they can't */
     uint64_t time_zero;  /* for what is due: the priority of the time 0 of pq_now */
-    uint64_t time_unit;  /* for what is due: how many nanoseconds a priority is later than the one before it; 0 is 1 */
+    uint64_t time_unit;  /* for what is due: nanoseconds from one priority to the next; 0 means 1 */
     uint64_t most_items; /* how many items the queue may have: a push waits until there are fewer (pq_push); 0: no bound */
 } pq_options;
 
@@ -181,8 +181,8 @@ PQ_CHECKED pq_code pq_take(pq_member *member, pq_item *item, uint64_t until, uin
    PQ_OK; PQ_NOT_DUE: *item is the first item, and stays; PQ_EMPTY; PQ_SHUT. Only PQ_OK has an entry. */
 PQ_CHECKED pq_code pq_take_due(pq_member *member, pq_item *item, uint64_t until, uint64_t *number);
 
-/* Put `count` items in, or take up to `room` items out whose priorities are at most this one. *done is how many, and *number the number of the
-   first one's entry. A refusal ends the batch after that many; where that is none, *number stays as it was. Up to 64 items go under one lock,
+/* Put `count` items in, or take up to `room` items out whose priorities are at most this one. *done gets how many, and *number the number of the
+   first one's entry. A refusal ends the batch there; if *done is 0, *number stays as it was. Up to 64 items go under one lock,
    and have consecutive entries. A larger batch is made in parts, and so is one that could make memory forget an unarchived entry. Pushes to a
    queue with a bound are made one by one, and each waits for room. A pop returns PQ_OK if it took an item, or if `room` is 0; PQ_NOT_DUE:
    items[0] is the first item, and stays; PQ_EMPTY. */
@@ -198,8 +198,8 @@ PQ_CHECKED pq_code pq_size(pq_member *member, uint64_t until, uint64_t *size, ui
    of a queue that is shut. item may be NULL. PQ_OK; PQ_GONE: no item waits under this ticket, which has an entry too; PQ_NO_TICKETS. */
 PQ_CHECKED pq_code pq_remove(pq_member *member, uint64_t ticket, pq_item *item, uint64_t until, uint64_t *number);
 
-/* Moves the item of this ticket to this priority, after all items of that one, in one step: *number is its ticket from now on. Also of a queue
-   that is shut or full. PQ_OK; PQ_GONE, which has an entry too; PQ_NO_TICKETS; PQ_NO_MEMORY: the item stays as it was. */
+/* Moves the item with this ticket to this priority, after its equals, in one step: *number is its ticket from then on. Works on a shut or full
+   queue too. PQ_OK; PQ_GONE, which has an entry too; PQ_NO_TICKETS; PQ_NO_MEMORY: the item stays as it was. */
 PQ_CHECKED pq_code pq_reschedule(pq_member *member, uint64_t ticket, uint64_t priority, uint64_t until, uint64_t *number);
 
 /* For programs that never wait: post a request, and poll for its answer. Until then a thread that posts by pq_own keeps its member. */
@@ -219,15 +219,15 @@ pq_code pq_combine(pq_member *member);
 /* For event loops and futures. A thread that listens by pq_own keeps its member meanwhile. */
 
 /* Takes the first item out if it is due (pq_take_due); else the member listens by `timer`, a timerfd of CLOCK_MONOTONIC that no other member
-   has. It becomes readable once the first item is due, after a push or move of an earlier one or a shut, or sometimes for nothing. Then make
-   this call again, until it does not return PQ_OK. The program neither sets nor reads the timer, and closes it after pq_unlisten. The call never
-   waits. PQ_OK; PQ_NOT_DUE: it listens, and *item is the first item, and stays; PQ_EMPTY: it listens; PQ_SHUT; PQ_NO_TIMER; or a refusal. */
+   has. It is readable once the first item is due, when an earlier one comes, on a shut, or sometimes for nothing: then call again, while this
+   returns PQ_OK. The program neither sets nor reads it, and closes it after pq_unlisten. The call does not wait for the queue's lock. PQ_OK;
+   PQ_NOT_DUE: it listens, *item is the first item, and stays; PQ_EMPTY: it listens, or the timer is set; PQ_SHUT; PQ_NO_TIMER; or a refusal. */
 PQ_CHECKED pq_code pq_take_due_or_listen(pq_member *member, int timer, pq_item *item, uint64_t *number);
 
-/* Takes the first item out if its priority is at most this one; else the member listens. The call never waits.
+/* Takes the first item out if its priority is at most this one; else the member listens. It does not wait for the queue's lock.
    PQ_OK; PQ_EMPTY: it listens; PQ_NOT_DUE: it listens, and *item is the first item, and stays: call again when that is due at the latest;
-   PQ_SHUT; or a refusal. While the member listens, notify(context) is called once, after a push, a move or a shut, or sometimes for nothing. It
-   runs in any thread that calls the queue, or in this call itself where another thread holds the lock for long. Then make this call again.
+   PQ_SHUT; or a refusal. While the member listens, notify(context) is called at most once, after a push, move or shut, or for nothing: in any
+   thread that calls the queue, or in this call if another thread has the lock for long, which then returns PQ_EMPTY. Then call again.
    notify must not wait or call this library. All that listen so shall pass the same bound, or the current time: a push notifies one. */
 PQ_CHECKED pq_code pq_take_or_listen(pq_member *member, uint64_t priority, pq_item *item, uint64_t *number,
                                      void (*notify)(void *context), void *context);
@@ -241,8 +241,8 @@ void pq_notify_fd(void *context);
 
 /* Journals: of a closed queue, copied from an open one, or read back from text. Many threads may read one. */
 
-/* An entry: its number, from 1; how many requests its member had made, this one included; the member's place; the request; the reply, PQ_OK or
-   PQ_EMPTY; and the item that a push put in, or that another request found, as it was then. */
+/* An entry: its number, from 1; its member's count of requests so far, this one included; the member's place; the request; the reply, PQ_OK or
+   PQ_EMPTY; and the item pushed or found, as it was then. */
 typedef struct pq_entry {
     uint64_t number;
     uint64_t serial;
@@ -255,8 +255,8 @@ typedef struct pq_entry {
     uint64_t priority; /* of PQ_RESCHEDULE the one that the item gets; else 0 */
 } pq_entry;
 
-/* Copies the entries after the first `archived`, and counts those first ones as archived from now on. No call checks that there are so many:
-   a greater number counts entries as archived that are yet to come.
+/* Copies the entries after the first `archived`, and counts those first ones as archived from now on. Nothing checks
+   `archived`: if it is too large, pq_wait_archived takes entries to come for archived ones.
    PQ_OK; PQ_FORGOTTEN, PQ_NO_MEMORY, PQ_TIMED_OUT, PQ_NO_MEMBER, PQ_CLOSED, PQ_FORKED: *journal is NULL. */
 PQ_CHECKED pq_code pq_archive(pq_member *member, uint64_t archived, uint64_t until, pq_journal **journal);
 

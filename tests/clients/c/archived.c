@@ -66,6 +66,8 @@ static void refuses_what_would_be_forgotten(uint32_t kept) {
     CHECK(archives(member, 0) == kept);
     is_refused(member);
     CHECK(archives(other, 7) == kept - 7);
+    /* What was archived stays so. */
+    CHECK(archives(other, 3) == kept - 3);
     makes(member, 7);
     is_refused(other);
     /* More than there are is all that there are. */
@@ -160,6 +162,17 @@ static void batches_count_for_what_they_pop(void) {
     CHECK(pq_pop_due_many(member, 9, some, 64, PQ_NOW, &done, NULL) == PQ_OK && done == 1 && is_item(some[0], 1, 2));
     CHECK(pq_pop_due_many(member, 9, some, 64, PQ_NOW, &done, NULL) == PQ_EMPTY && done == 0);
     have_entries(queue, member, 2);
+}
+
+/* A member that waits for an answer is refused, and that counts for nothing. */
+static void refusals_of_a_waiting_member_count_for_nothing(void) {
+    pq_queue *queue = refusing(0);
+    pq_member *member = joined(queue), *other = joined(queue);
+    pq_item item = item_of(1, 2);
+    CHECK(pq_post(other, PQ_PEEK, item) == PQ_OK && pq_post(other, PQ_PEEK, item) == PQ_PENDING);
+    CHECK(pq_combine(member) == PQ_OK && pq_poll(other, &item, NULL) == PQ_EMPTY);
+    pq_give_back(other);
+    have_entries(queue, member, 1);
 }
 
 /* What the workers did, or what the archive has. */
@@ -268,6 +281,7 @@ int main(int count, char **words) {
         refused_pushes_count_for_nothing(0);
         refused_pushes_count_for_nothing(1);
         batches_count_for_what_they_pop();
+        refusals_of_a_waiting_member_count_for_nothing();
     }
     if (strcmp(word, "most") == 0) {
         keeps_so_many(MOST);

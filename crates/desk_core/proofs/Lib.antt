@@ -34,3 +34,5 @@ pub mod Witnessed
 pub mod Beyond
 pub mod WorkedHistories
 pub mod Guards
+pub mod Looking
+pub mod WorkedLooks

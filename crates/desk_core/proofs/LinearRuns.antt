@@ -116,7 +116,7 @@ module _ (places room : ℕ) (views : List View) (meets : MeetsRule (fresh_desk 
   turns_at laws moves d run = take_turns laws (fresh_desk places room views) moves d meets run (nobody_waits meets.0 meets.1 meets.2)
 
   -- where any run stands
-  stands_at : QueueLaws → (moves : List Move) (d : Desk) → (run : DealtRun (fresh_desk places room views) moves d)
+  pub stands_at : QueueLaws → (moves : List Move) (d : Desk) → (run : DealtRun (fresh_desk places room views) moves d)
       → (journal : List Line) × At d (dealt_history (fresh_desk places room views) moves d run) journal × (d.room ≡ room)
   stands_at laws moves d run =
       let t = run_stands laws moves (fresh_desk places room views) d [] begins_at.0 begins_at.1 run in (t.now, t.at, t.room)
@@ -131,7 +131,7 @@ linearizes d history journal at turns =
 
 -- so all runs from a fresh desk are linearizable
 module _ (laws : QueueLaws) (places room : ℕ) (views : List View) (meets : MeetsRule (fresh_desk places room views)) where
-  linearized : (moves : List Move) (d : Desk) → (run : DealtRun (fresh_desk places room views) moves d)
+  pub linearized : (moves : List Move) (d : Desk) → (run : DealtRun (fresh_desk places room views) moves d)
       → (journal : List Line) × LockClause d journal × Linearizes room (dealt_history (fresh_desk places room views) moves d run) journal
   linearized moves d run =
       let t = stands_at places room views meets laws moves d run in
@@ -155,16 +155,16 @@ module _ (laws : QueueLaws) (places room : ℕ) (views : List View) (meets : Mee
     same_end : further.now ≡ journal'
     same_end = one_journal d further.now journal' (at_lock d (old ++ dealt_history m after d rest) further.now further.at) there
 
-    longer : StartsWith journal' journal
+    pub longer : StartsWith journal' journal
     longer = subst (λ js. StartsWith js journal) same_end further.starts
 
-    ends_before : (place : ℕ) (c : Call) → IsLineOf journal' place c → (answer : Answer)
+    pub ends_before : (place : ℕ) (c : Call) → IsLineOf journal' place c → (answer : Answer)
         → IsIn (dealt_history (fresh_desk places room views) before m past) (Ends place c.serial answer) → c.number ≤ length journal
     unfolding old
     ends_before place c l answer u =
         (further.was place c (at_m.kept.over place c.serial answer u) (subst (λ js. IsLineOf js place c) (sym same_end) l)).within
 
-    begins_behind : (place : ℕ) (c : Call) → IsLineOf journal' place c → (operation : Operation)
+    pub begins_behind : (place : ℕ) (c : Call) → IsLineOf journal' place c → (operation : Operation)
         → IsIn (dealt_history m after d rest) (Begins place c.serial operation) → length journal < c.number
     begins_behind place c l operation u =
         elim (dec_lt (length journal) c.number) [
@@ -189,16 +189,16 @@ module _ (laws : QueueLaws) where
       )
 
 -- steps alone are such a run, of which callers see the same
-taken : List Event → List Move
+unfoldable pub taken : List Event → List Move
 taken [] = []
 taken (x ∷ xs) = Takes x ∷ taken xs
 
-taken_run : (d : Desk) (xs : List Event) (e : Desk) → Run d xs e → DealtRun d (taken xs) e
+unfoldable pub taken_run : (d : Desk) (xs : List Event) (e : Desk) → Run d xs e → DealtRun d (taken xs) e
 unfolding taken
 taken_run d [] e run = run
 taken_run d (x ∷ xs) e run = (run.0, run.1, taken_run run.0 xs e run.2)
 
-same_history : (d : Desk) (xs : List Event) (e : Desk) → (run : Run d xs e) → dealt_history d (taken xs) e (taken_run d xs e run) ≡ history d xs e run
+pub same_history : (d : Desk) (xs : List Event) (e : Desk) → (run : Run d xs e) → dealt_history d (taken xs) e (taken_run d xs e run) ≡ history d xs e run
 unfolding taken taken_run
 same_history d [] e run = refl
 same_history d (x ∷ xs) e run = ap (λ more. acts d x run.0 run.1 ++ more) (same_history run.0 xs e run.2)

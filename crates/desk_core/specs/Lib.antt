@@ -25,3 +25,5 @@ pub mod Beyond
 pub mod WorkedHistories
 pub mod WrongSteps
 pub mod Guards
+pub mod Looking
+pub mod WorkedLooks

@@ -17,6 +17,8 @@ ghost use Rattle.desk_core.specs.Words.{WordsTellItems, MixedByWord, WordsMix};
 ghost use Rattle.desk_core.specs.Leads.{PostedAreAnswered, AnswersStay, LeadersKnowTheirAnswers};
 ghost use Rattle.desk_core.specs.Leads.{AnswersStayKnown, LeadersNoteWhatTheyRead};
 ghost use Rattle.desk_core.specs.Linearizable.{EveryRunIsLinearizable, OrderStays, LinesAreWithinCalls};
+ghost use Rattle.desk_core.specs.Looking.{LooksAreMore, LooksFindTheJournal};
+ghost use Rattle.desk_core.specs.Looking.{EveryRunLinearizesLooks, EveryDealtRunLinearizesLooks};
 ghost use Rattle.desk_core.specs.Needs.{OwnRequestNeeds};
 ghost use Rattle.desk_core.specs.Notes.{CatchUpKeeps, WritingKeeps, HearingKeeps, CopyingKeeps};
 ghost use Rattle.desk_core.specs.Rule.{OpeningsMeetRule, EveryStepKeepsRule, DealingKeepsRule, EveryRunMeetsRule};
@@ -26,6 +28,7 @@ ghost use Rattle.desk_core.specs.Positions.{PositionsAreForced};
 ghost use Rattle.desk_core.specs.Times.{EveryDealtRunIsTimed, EveryDealtRunIsWhole, TimesOrderCalls};
 ghost use Rattle.desk_core.specs.Witnessed.{TestimoniesAreTrue, LinearizedFollowTime};
 ghost use Rattle.desk_core.specs.WorkedHistories.{ComingOut, Overtaking, Together, StaleIsRefused};
+ghost use Rattle.desk_core.specs.WorkedLooks.{LooksBetween};
 ghost use Rattle.desk_core.specs.Worked.{ThreePens, HalfWritten, FullJournal, OwnRequests};
 
 use pq_types::laws::{law_items_stay_in_range, law_one_more_line, law_words_differ};
@@ -133,6 +136,19 @@ pub fn law_dealt_runs_are_linearizable()
     law_items_stay_in_range();
 }
 
+/// A look without a request has its place in that order. It finds a beginning of the journal, which linearizes what was
+/// seen before the look. Each call that ended before it has its line there, if it ever gets one; each that begins later has
+/// its line after that. Of two looks the later one finds at least as much. Without looks what is seen is the history.
+pub fn law_looks_are_within()
+    ensures linearized { EveryRunLinearizesLooks }
+    ensures dealt { EveryDealtRunLinearizesLooks }
+    ensures point { LooksFindTheJournal }
+    ensures more { LooksAreMore }
+{
+    law_one_more_line();
+    law_items_stay_in_range();
+}
+
 /// A desk at the end of a run from the opening with a dealer meets the rule, and whatever happens there leads
 /// to another such desk.
 pub fn law_reached_desks()
@@ -190,12 +206,13 @@ pub fn law_notes_keep_the_rule()
     ensures copying { CopyingKeeps }
 {}
 
-/// What callers see of a run, in full; and a history that no journal linearizes: a pop that begins when a push has
-/// ended is told the line before it.
+/// What callers see of a run, in full, once with a look; and a history that no journal linearizes: a pop that begins when
+/// a push has ended is told the line before it.
 pub fn law_histories_in_full()
     ensures overtaking { Overtaking }
     ensures together { Together }
     ensures coming_out { ComingOut }
+    ensures looking { LooksBetween }
     ensures stale { StaleIsRefused }
 {}
 

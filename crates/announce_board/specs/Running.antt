@@ -8,6 +8,7 @@ use Rattle.desk_core.specs.Dealing.{Move, DealtRun, dealt_history}
 use Rattle.desk_core.specs.Desk.{Desk, Has, acts_number, dealer_opening}
 use Rattle.desk_core.specs.Layout.{AreWords}
 use Rattle.desk_core.specs.Linearizable.{Linearizes}
+use Rattle.desk_core.specs.Looking.{LinearizesLooks, dealt_sights}
 use Rattle.desk_core.specs.Positions.{KeepsTheNext}
 use Rattle.desk_core.specs.Times.{IsWhole, AreTimed, CallsFollowTime}
 use Rattle.desk_core.specs.declared.model.PenState.{PenState}
@@ -20,7 +21,7 @@ use Rattle.announce_board.specs.Rule.{Keeps, book_at_home}
 -- dealer. The journal, that of the Book at home or in the leader's hand, linearizes what the callers have seen of that run.
 -- The positions that the pens keep are those of their acts in this history; each of its positions is some pen's, and it has
 -- no other act of a pen than those. So of the calls that any two pens have read, of which one ended before the other began, it
--- has the earlier line.
+-- has the earlier line. The looks of that run have their places in the same order.
 pub record IsLinearized (wide : Bool) (room places : ℕ) (s : State (Option Volume) View) : Type 0 where
   pub desk : Desk
   pub words : AreWords wide places s.words desk.held desk.control desk.item
@@ -31,6 +32,7 @@ pub record IsLinearized (wide : Bool) (room places : ℕ) (s : State (Option Vol
   pub journal : List Line
   pub lock : LockClause desk journal
   pub linearizes : Linearizes room (dealt_history (dealer_opening places room) moves desk run) journal
+  pub looks : LinearizesLooks room (dealt_sights (dealer_opening places room) moves desk run) journal
   pub timed : AreTimed s.views (dealt_history (dealer_opening places room) moves desk run)
   pub whole : (i : ℕ) (p : PenState) → Has s.views i p
       → IsWhole (dealt_history (dealer_opening places room) moves desk run) (acts_number s.views) p

@@ -7,9 +7,8 @@ ghost use Rattle.announce_board.specs.Allowed.{ReleaseAllowedBy, ReleaseWithAllo
 ghost use Rattle.announce_board.specs.Running.{TablesAreLinearized, TablesForcePositions};
 
 use desk_core::laws::{
-    law_dealt_runs_are_linearizable, law_desk_runs, law_each_step_keeps_the_rule,
-    law_lines_are_beyond, law_pens_know, law_positions_are_forced, law_reached_desks, law_times,
-    law_words_show_the_desk,
+    law_desk_runs, law_each_step_keeps_the_rule, law_lines_are_beyond, law_looks_are_within,
+    law_pens_know, law_positions_are_forced, law_reached_desks, law_times, law_words_show_the_desk,
 };
 use leftist_heap::Store;
 use pq_book::Entry;
@@ -17,13 +16,13 @@ use pq_types::Part;
 use pq_types::laws::law_words_differ;
 
 /// Whatever threads have done with a desk over such a store: it is at the end of a run of the desk's machine, and
-/// linearizable (Herlihy and Wing 1990) as that is, in the order of its journal. A step of a pen can give it no other
-/// positions in the history than the next ones.
+/// linearizable (Herlihy and Wing 1990) as that is, in the order of its journal, in which looks have their places too. A step
+/// of a pen can give it no other positions in the history than the next ones.
 pub fn law_running_desks_are_linearizable<S: Store<Entry<P>>, P: Part>()
     ensures linearized { TablesAreLinearized P.wide (AllHaveRoom S.room) }
     ensures forced { TablesForcePositions P.wide (AllHaveRoom S.room) }
 {
-    law_dealt_runs_are_linearizable();
+    law_looks_are_within();
     law_times();
     law_positions_are_forced();
 }

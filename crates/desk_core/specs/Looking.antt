@@ -100,7 +100,7 @@ EveryRunLinearizesLooks =
     (places room : ℕ) (events : List Event) (d : Desk) → room ≤ GREATEST_NUMBER → (run : Run (opening places room) events d)
     → (journal : List Line) × LockClause d journal × LinearizesLooks room (sights (opening places room) events d run) journal
 
--- and every run of a desk that opens with a dealer, whatever its journal is called
+-- and so is every run of a desk that opens with a dealer
 abbrev pub EveryDealtRunLinearizesLooks : Type 0
 EveryDealtRunLinearizesLooks =
     (places room : ℕ) (moves : List Move) (d : Desk) → room ≤ GREATEST_NUMBER

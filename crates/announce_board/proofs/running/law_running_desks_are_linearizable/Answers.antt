@@ -1,5 +1,6 @@
-use Rattle.std.proofs.Common.{refl}
-use Rattle.desk_core.specs.Desk.{Desk}
+use Rattle.std.proofs.Common.{List, refl, subst}
+use Rattle.desk_core.specs.Desk.{Desk, dealer_opening}
+use Rattle.desk_core.specs.Linearizable.{Act, Linearizes}
 use Rattle.announce_board.specs.Rule.{desk_of}
 use Rattle.announce_board.proofs.running.law_running_desks_are_linearizable.Goals as goal
 
@@ -7,7 +8,8 @@ pub returns-clause-linearized : goal.returns-clause-linearized
 returns-clause-linearized g c = λ room places s k.
     let d : Desk = desk_of room places k.held k.control k.cells s.homes s.views in
     let small = k.meets.2.room_in_range in
-    let t = c.law_dealt_runs_are_linearizable.ensures.linearizable places room k.reached.0 d small k.reached.1 in
+    let t = c.law_looks_are_within.ensures.dealt places room k.reached.0 d small k.reached.1 in
+    let same = c.law_looks_are_within.ensures.more.dealt (dealer_opening places room) d k.reached.0 k.reached.1 in
     record {
       desk = d;
       words = k.words;
@@ -17,7 +19,8 @@ returns-clause-linearized g c = λ room places s k.
       run = k.reached.1;
       journal = t.0;
       lock = t.1;
-      linearizes = t.2;
+      linearizes = subst (λ (h : List Act). Linearizes room h t.0) same t.2.calls;
+      looks = t.2;
       timed = c.law_times.ensures.timed places room k.reached.0 d k.reached.1;
       whole = c.law_times.ensures.whole places room k.reached.0 d small k.reached.1;
       follow = c.law_times.ensures.order places room k.reached.0 d small k.reached.1;

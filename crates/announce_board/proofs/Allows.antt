@@ -33,6 +33,7 @@ use Rattle.desk_core.specs.Dealing.{IsReached, Takes, MovesReach}
 use Rattle.desk_core.specs.Desk.{Desk, Has, time, volume, put, locked, freed, with_control, with_cell, with_pen}
 use Rattle.desk_core.specs.Steps.{Event, actor, Drafts, Posts, Tries, Reads, ReadsItem, LaysItem, Answers, Applies, Releases, ReleasesBy, Looks, SeesItem, TakesItem, Step}
 use Rattle.desk_core.specs.Keeping.{DraftKeeps, PostKeeps, LeadKeeps, MissKeeps, ReadKeeps, ReadItemKeeps, LayItemKeeps, AnswerKeeps, ApplyKeeps, ReleaseKeeps, ReleaseByKeeps, LookKeeps, SeeItemKeeps, TakeItemKeeps, DueIsNew, PensAreSeated}
+use Rattle.desk_core.specs.Looking as looking
 use Rattle.desk_core.specs.Knows.{Knows, LeadersKnow, HomeIsKnown}
 use Rattle.desk_core.specs.Clauses.{RuleGivesClauses}
 use Rattle.desk_core.specs.Layout.{lock_at, control_at, item_at, LockStored, ControlStored, ItemStored, Loaded, WordsAreReadBack}
@@ -43,7 +44,7 @@ use Rattle.desk_core.specs.declared.model.Due.{Due}
 use Rattle.desk_core.specs.declared.model.PenState.{PenState}
 use Rattle.desk_core.specs.declared.model.View.{View}
 use Rattle.desk_core.specs.declared.model.View.TheVariants.{Holder}
-use Rattle.announce_board.specs.Allowed.{AsMove, Plainly, desk_in}
+use Rattle.announce_board.specs.Allowed.{AsMove, AsLook, Plainly, desk_in}
 use Rattle.announce_board.specs.Rule.{Keeps, Seated, desk_of, book_in, book_at_home}
 use Rattle.announce_board.specs.Steps.{pen_at, StandsAt, WordDrafted, Drafted, PostStored, LockRead, LockTried, ControlRead, MailRead, CellRead, ItemRead, WordLaid, ItemLaid, AnswerStored, Released, BringsHome, BringsHomeBy, Applied, ReleasedWith, Looked, AnswerLooked, WordSeen, ItemSeen, Taken, ItemTaken}
 use Rattle.announce_board.proofs.Same.{same_request, same_answer, kind_posted, same_draft, same_waiting, same_due, same_notice, not_true, refused_alone, none_refused, same_applied, same_ended, same_book}
@@ -428,9 +429,9 @@ module _ (laws : Laws) (wide : Bool) (roomy : ℕ → Type 0) (room places slots
         ),
       )
 
-  pub release_allowed : (others : List (ℕ × Option Volume)) → m.1 ≡ (0, Some (volume p.room p.hand)) ∷ others → p.leading ≡ true
-      → AsMove wide roomy room places slots id m lock_at (λ _. 0) (λ _. Released (step slots lock_at 0 0 none) m 0)
-  release_allowed others held leads s k long at small =
+  pub release_looks : (others : List (ℕ × Option Volume)) → m.1 ≡ (0, Some (volume p.room p.hand)) ∷ others → p.leading ≡ true
+      → AsLook wide roomy room places slots id m lock_at (λ _. 0) (λ _. Released (step slots lock_at 0 0 none) m 0)
+  release_looks others held leads s k long at small =
       let book = volume p.room p.hand in
       let room_is = (laws.seated (d s k at) id p k.meets (has s k at)).room in
       let homes_are : put_back s.homes m.1 ≡ set s.homes 0 (some (Some book)) = ap (put_back s.homes) held in
@@ -451,14 +452,16 @@ module _ (laws : Laws) (wide : Bool) (roomy : ℕ → Type 0) (room places slots
               (laws.release (d s k at) id p k.meets (has s k at) leads);
           memory = k.memory;
         },
-        inl (
-          Releases id,
-          refl,
-          home_is s k at (λ y. Step (d s k at) (Releases id) y) false (put_back s.homes m.1) (slice_set s.views id (Holder (after_release p))) (Some (volume room p.hand)) back
-              (p, has s k at, leads, refl),
-        ),
+        home_is s k at (λ y. (step : Step (d s k at) (Releases id) y) × (looking.sights_of (d s k at) (Releases id) y step ≡ looking.Looked p.place p.hand ∷ [])) false (put_back s.homes m.1) (slice_set s.views id (Holder (after_release p))) (Some (volume room p.hand)) back
+            ((p, has s k at, leads, refl), refl),
         refl,
       )
+
+  pub release_allowed : (others : List (ℕ × Option Volume)) → m.1 ≡ (0, Some (volume p.room p.hand)) ∷ others → p.leading ≡ true
+      → AsMove wide roomy room places slots id m lock_at (λ _. 0) (λ _. Released (step slots lock_at 0 0 none) m 0)
+  release_allowed others held leads s k long at small =
+      let t = release_looks others held leads s k long at small in
+      (t.0, t.1, t.2, t.3, inl (Releases id, refl, t.4.0), t.5)
 
   pub release_with_allowed : (others : List (ℕ × Option Volume)) (operation : Operation) (answer : Answer) → BringsHomeBy m operation answer others
       → p.leading ≡ true → p.due ≡ None → IsIdle p.standing → p.posts < GREATEST_NUMBER → IsProperOperationOf true operation → MayDo p.room p.hand operation answer

@@ -1,6 +1,6 @@
 -- Each step keeps the rule of the table, and so may be taken: one statement for each kind, of the
 -- index and the word of the step. What `roomy` says stands at `Keeps`.
-use Rattle.std.specs.Prelude.{◌≡◌, ◌≢◌, ℕ, ◌+◌, ◌<◌, ◌==◌, ◌⊎◌, Bool, true, List, ◌∷◌, length, slice_index, Option, Some, None}
+use Rattle.std.specs.Prelude.{◌≡◌, ◌≢◌, ℕ, ◌+◌, ◌<◌, ◌==◌, ◌⊎◌, Bool, true, List, [], ◌∷◌, length, slice_index, Option, Some, None}
 use mathlib.Core.Option.{some, none}
 use lib.ListN.{get_elem?}
 use prog.Atomic.{either}
@@ -20,7 +20,8 @@ use Rattle.pq_types.specs.History.{MayAnswer, MayDo}
 use Rattle.pq_types.specs.Mail.{control_word}
 use Rattle.pq_book.specs.Book.{Volume}
 use Rattle.desk_core.specs.Desk.{Desk, volume}
-use Rattle.desk_core.specs.Steps.{Event, actor, Step}
+use Rattle.desk_core.specs.Looking.{Looked, sights_of}
+use Rattle.desk_core.specs.Steps.{Event, Releases, actor, Step}
 use Rattle.desk_core.specs.declared.model.View.{View}
 use Rattle.desk_core.specs.Words.{word_number, word_of}
 use Rattle.desk_core.specs.Layout.{lock_at, control_at, item_at}
@@ -56,6 +57,18 @@ AsMove wide roomy room places slots id m i f then =
     → (w : View) × (a : Act (Option Volume)) × Valid s.homes m.1 a
     × (k' : Keeps wide roomy room places (stepped s i (f (slice_index s.words i)) id m.1 w a))
     × (((e : Event) × (actor e ≡ id) × Step (desk_in k) e (desk_in k')) ⊎ (desk_in k' ≡ desk_in k))
+    × then (slice_index s.words i) (w, carried_after m.1 a)
+
+-- As the table asks, and the step is a look without a request by the pen at this seat: the machine's release, of which it is seen
+-- that the pen of this place finds the journal in its hand.
+abbrev pub AsLook : Form
+AsLook wide roomy room places slots id m i f then =
+    (s : State (Option Volume) View) (k : Keeps wide roomy room places s) → length s.homes ≡ slots
+    → get_elem? s.views id ≡ some m.0 → slice_index s.words i < 18446744073709551616
+    → (w : View) × (a : Act (Option Volume)) × Valid s.homes m.1 a
+    × (k' : Keeps wide roomy room places (stepped s i (f (slice_index s.words i)) id m.1 w a))
+    × ((step : Step (desk_in k) (Releases id) (desk_in k'))
+    × (sights_of (desk_in k) (Releases id) (desk_in k') step ≡ Looked (pen_at m).place (pen_at m).hand ∷ []))
     × then (slice_index s.words i) (w, carried_after m.1 a)
 
 -- what follows holds of every desk, and of each seat of it that is a pen's

@@ -1,7 +1,7 @@
 // What holds of a running desk between any two steps. A call of a law runs nothing: it hands the law's facts to the proof
 // of its caller.
 ghost use Rattle.pq_book.specs.Book.{AllHaveRoom};
-ghost use Rattle.announce_board.specs.Allowed.{AsMove, DraftAllowedBy, PostAllowedBy, LockReadAllowedBy, TryAllowedBy};
+ghost use Rattle.announce_board.specs.Allowed.{AsMove, AsLook, DraftAllowedBy, PostAllowedBy, LockReadAllowedBy, TryAllowedBy};
 ghost use Rattle.announce_board.specs.Allowed.{MailReadAllowedBy, ItemReadAllowedBy, ItemLaidAllowedBy, AnswerAllowedBy};
 ghost use Rattle.announce_board.specs.Allowed.{ReleaseAllowedBy, ReleaseWithAllowedBy, LookAllowedBy, SeeAllowedBy, TakeAllowedBy, ApplyAllowedBy};
 ghost use Rattle.announce_board.specs.Running.{TablesAreLinearized, TablesForcePositions};
@@ -28,7 +28,8 @@ pub fn law_running_desks_are_linearizable<S: Store<Entry<P>>, P: Part>()
 }
 
 /// Each step that a call takes at the table of a desk, whatever state of the table it finds, is the step of the desk's
-/// machine by its own pen, or the load of a free lock, which changes nothing.
+/// machine by its own pen, or the load of a free lock, which changes nothing. A release without a request is a look of the
+/// machine, and finds the journal in the pen's hand.
 pub fn law_steps_are_moves<S: Store<Entry<P>>, P: Part>()
     ensures draft { DraftAllowedBy AsMove P.wide (AllHaveRoom S.room) }
     ensures post { PostAllowedBy AsMove P.wide (AllHaveRoom S.room) }
@@ -40,6 +41,7 @@ pub fn law_steps_are_moves<S: Store<Entry<P>>, P: Part>()
     ensures answer { AnswerAllowedBy AsMove P.wide (AllHaveRoom S.room) }
     ensures apply { ApplyAllowedBy AsMove P.wide (AllHaveRoom S.room) }
     ensures release { ReleaseAllowedBy AsMove P.wide (AllHaveRoom S.room) }
+    ensures release_looks { ReleaseAllowedBy AsLook P.wide (AllHaveRoom S.room) }
     ensures release_with { ReleaseWithAllowedBy AsMove P.wide (AllHaveRoom S.room) }
     ensures look { LookAllowedBy AsMove P.wide (AllHaveRoom S.room) }
     ensures see_item { SeeAllowedBy AsMove P.wide (AllHaveRoom S.room) }

@@ -48,6 +48,7 @@ returns g c =
       answer = allows.answer_allowed laws _ _;
       apply = allows.apply_allowed laws _ _;
       release = allows.release_allowed laws _ _;
+      release_looks = allows.release_looks laws _ _;
       release_with = allows.release_with_allowed laws _ _;
       look = allows.look_allowed laws _ _;
       see_item = allows.see_allowed laws _ _;

@@ -1,6 +1,6 @@
 -- Where pens catch up, write notes and hear them, nothing changes but what pens know, and each still knows a beginning of the
 -- journal.
-use Rattle.std.proofs.Common.{◌≡◌, ◌≢◌, ℕ, ◌+◌, ◌<◌, inl, inr, ⊎_elim, List, [], ◌∷◌, ◌++◌, set, refl, ap, sym, ◌∙◌, subst, append-nil}
+use Rattle.std.proofs.Common.{◌≡◌, ◌≢◌, ℕ, ◌+◌, ◌<◌, inl, inr, ⊎_elim, Bool, true, List, [], ◌∷◌, ◌++◌, set, refl, ap, sym, ◌∙◌, subst, append-nil}
 use Rattle.std.specs.Prelude.{Some}
 use mathlib.Core.Option.{some}
 use lib.ListN.{get_elem?}
@@ -14,6 +14,7 @@ use Rattle.pq_book.specs.Book.{Volume}
 use Rattle.desk_core.specs.Clauses.{LockClause}
 use Rattle.desk_core.specs.Desk.{Desk, Has, volume}
 use Rattle.desk_core.specs.Notes.{after_catch_up, after_writing, with_told, after_hearing, CatchUpKeeps, WritingKeeps, HearingKeeps, CopyingKeeps}
+use Rattle.desk_core.specs.Testimonies.{after_retiring}
 use Rattle.desk_core.specs.Rule.{StartsWith, IsLed, IsDue, PenRule, RuleAt}
 use Rattle.desk_core.specs.declared.model.PenState.{PenState}
 use Rattle.desk_core.specs.declared.model.View.{View}
@@ -22,11 +23,13 @@ use Rattle.desk_core.proofs.Views.{has_here, has_else, same_pen, each_after, dea
 use Rattle.desk_core.proofs.StepFacts.{not_both_locks}
 use Rattle.desk_core.proofs.Clauses.{knows, clauses_hold}
 
--- the second pen is the first but for what it knows, a beginning of the journal, and the number of its steps
+-- the second pen is the first but for what it knows, a beginning of the journal, the number of its steps, and whether it has
+-- retired
 pub record Alike (journal : List Line) (p q : PenState) : Type 0 where
   pub knew : List Line
   pub count : ℕ
-  pub same : q ≡ record p { known = knew; steps = count }
+  pub gone : Bool
+  pub same : q ≡ record p { known = knew; steps = count; retired = gone }
   pub starts : StartsWith journal knew
 
 -- So is each pen of the second list to one of the first, and the other way round, at the same seat. No dealer is new there, and
@@ -39,7 +42,7 @@ pub record OnlyKnow (journal : List Line) (views views' : List View) : Type 0 wh
 
 pub alike_trans : (journal : List Line) (p q v : PenState) → Alike journal p q → Alike journal q v → Alike journal p v
 alike_trans journal p q v f g =
-    record { knew = g.knew; count = g.count; same = g.same ∙ ap (λ (y : PenState). record y { known = g.knew; steps = g.count }) f.same; starts = g.starts }
+    record { knew = g.knew; count = g.count; gone = g.gone; same = g.same ∙ ap (λ (y : PenState). record y { known = g.knew; steps = g.count; retired = g.gone }) f.same; starts = g.starts }
 
 pub only_trans : (journal : List Line) (a b c : List View) → OnlyKnow journal a b → OnlyKnow journal b c → OnlyKnow journal a c
 only_trans journal a b c f g =
@@ -53,9 +56,9 @@ only_trans journal a b c f g =
 pub same_place : (journal : List Line) (p q : PenState) → Alike journal p q → q.place ≡ p.place
 same_place journal p q f = ap (λ (v : PenState). v.place) f.same
 
-known_rule : (room : ℕ) (journal : List Line) (control : Control) (cell : Item) (p : PenState) (knew : List Line) (count : ℕ) → StartsWith journal knew
-    → PenRule room journal control cell p → PenRule room journal control cell (record p { known = knew; steps = count })
-known_rule room journal control cell p knew count starts m =
+known_rule : (room : ℕ) (journal : List Line) (control : Control) (cell : Item) (p : PenState) (knew : List Line) (count : ℕ) (gone : Bool) → StartsWith journal knew
+    → PenRule room journal control cell p → PenRule room journal control cell (record p { known = knew; steps = count; retired = gone })
+known_rule room journal control cell p knew count gone starts m =
     record { told = m.told; counted = m.counted; stands = m.stands; looked = m.looked; known = starts; own = m.own; blank = m.blank; filled = m.filled; barred = m.barred; seen = m.seen }
 
 module _ (d : Desk) (journal : List Line) (chief : ℕ) (r : RuleAt d journal chief) where
@@ -93,19 +96,19 @@ module _ (d : Desk) (journal : List Line) (chief : ℕ) (r : RuleAt d journal ch
             (let s = t.was j q b in
             let p = s.0 in
             subst (λ (v : PenState). PenRule d.room journal (d.control v.place) (d.item v.place) v) (sym s.2.same)
-            (known_rule d.room journal (d.control p.place) (d.item p.place) p s.2.knew s.2.count s.2.starts (r.pens j p s.1)));
+            (known_rule d.room journal (d.control p.place) (d.item p.place) p s.2.knew s.2.count s.2.gone s.2.starts (r.pens j p s.1)));
         notes = t.notes;
       }
 
   itself : (j : ℕ) (q : PenState) → Has d.views j q → Alike journal q q
-  itself j q b = record { knew = q.known; count = q.steps; same = refl; starts = (r.pens j q b).known }
+  itself j q b = record { knew = q.known; count = q.steps; gone = q.retired; same = refl; starts = (r.pens j q b).known }
 
   -- a pen knows another beginning of the journal
-  pub pen_knows : (i : ℕ) (p : PenState) → Has d.views i p → (knew : List Line) (count : ℕ) → StartsWith journal knew
-      → OnlyKnow journal d.views (set d.views i (Holder (record p { known = knew; steps = count })))
-  pen_knows i p a knew count starts =
-      let w : PenState = record p { known = knew; steps = count } in
-      let changed : Alike journal p w = record { knew = knew; count = count; same = refl; starts = starts } in
+  pub pen_knows : (i : ℕ) (p : PenState) → Has d.views i p → (knew : List Line) (count : ℕ) (gone : Bool) → StartsWith journal knew
+      → OnlyKnow journal d.views (set d.views i (Holder (record p { known = knew; steps = count; retired = gone })))
+  pen_knows i p a knew count gone starts =
+      let w : PenState = record p { known = knew; steps = count; retired = gone } in
+      let changed : Alike journal p w = record { knew = knew; count = count; gone = gone; same = refl; starts = starts } in
       record {
         was = λ j q b.
             each_after d.views i w (λ h v. (u : PenState) × Has d.views h u × Alike journal u v) (p, a, changed) (λ h v ne c. (v, c, itself h v c)) j q b;
@@ -193,11 +196,11 @@ whole journal = ([], sym (append-nil journal))
 -- the views after each of the three
 module _ (d : Desk) (journal : List Line) (chief : ℕ) (r : RuleAt d journal chief) (i : ℕ) (p : PenState) (a : Has d.views i p) where
   pub caught_up : OnlyKnow journal d.views (set d.views i (Holder (after_catch_up p journal)))
-  caught_up = pen_knows d journal chief r i p a journal (p.steps + 1) (whole journal)
+  caught_up = pen_knows d journal chief r i p a journal (p.steps + 1) p.retired (whole journal)
 
   pub written : OnlyKnow journal d.views (set d.views i (Holder (after_writing p)) ++ Note p.known ∷ [])
   written =
-      let first = pen_knows d journal chief r i p a p.known (p.steps + 1) (r.pens i p a).known in
+      let first = pen_knows d journal chief r i p a p.known (p.steps + 1) p.retired (r.pens i p a).known in
       let views : List View = set d.views i (Holder (after_writing p)) in
       only_trans journal d.views views (views ++ Note p.known ∷ []) first
       (note_more (record d { views = views }) journal chief (only_keeps d journal chief r views first) p.known (r.pens i p a).known)
@@ -209,7 +212,7 @@ module _ (d : Desk) (journal : List Line) (chief : ℕ) (r : RuleAt d journal ch
     pub heard : OnlyKnow journal d.views (set (set d.views i (Holder (after_hearing p told))) other (Note []))
     heard =
         let known = told_starts p.known told journal (r.pens i p a).known (r.notes other told there) in
-        let first = pen_knows d journal chief r i p a (with_told p.known told) (p.steps + 1) known in
+        let first = pen_knows d journal chief r i p a (with_told p.known told) (p.steps + 1) p.retired known in
         let views : List View = set d.views i (Holder (after_hearing p told)) in
         only_trans journal d.views views (set views other (Note [])) first
         (note_tells (record d { views = views }) journal chief (only_keeps d journal chief r views first) other told []
@@ -227,6 +230,15 @@ pub testified : (d : Desk) (journal : List Line) (chief : ℕ) → RuleAt d jour
     → OnlyKnow journal d.views (set d.views i (Holder p) ++ Testimony (p ∷ []) ∷ [])
 testified d journal chief r i p a =
     subst (λ (vs : List View). OnlyKnow journal d.views (vs ++ Testimony (p ∷ []) ∷ [])) (sym (set_again d.views i (Holder p) a)) (testimony_more d journal chief r (p ∷ []))
+
+-- the one that a pen gives as it retires
+pub retired : (d : Desk) (journal : List Line) (chief : ℕ) → RuleAt d journal chief → (i : ℕ) (p : PenState) → Has d.views i p
+    → OnlyKnow journal d.views (set d.views i (Holder (after_retiring p)) ++ Testimony (after_retiring p ∷ []) ∷ [])
+retired d journal chief r i p a =
+    let first = pen_knows d journal chief r i p a p.known p.steps true (r.pens i p a).known in
+    let views : List View = set d.views i (Holder (after_retiring p)) in
+    only_trans journal d.views views (views ++ Testimony (after_retiring p ∷ []) ∷ []) first
+    (testimony_more (record d { views = views }) journal chief (only_keeps d journal chief r views first) (after_retiring p ∷ []))
 
 pub gathered : (d : Desk) (journal : List Line) (chief : ℕ) → RuleAt d journal chief → (i j : ℕ) (pens more : List PenState) → get_elem? d.views i ≡ some (Testimony pens)
     → get_elem? d.views j ≡ some (Testimony more) → j ≢ i → OnlyKnow journal d.views (set (set d.views i (Testimony (pens ++ more))) j (Testimony []))

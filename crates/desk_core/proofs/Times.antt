@@ -22,7 +22,8 @@ use Rattle.desk_core.specs.Desk.{Desk, Has, acts_in, acts_number, time, dealer_o
 use Rattle.desk_core.specs.Steps.{Event, Drafts, Posts, Tries, Reads, ReadsItem, LaysItem, Answers, Applies, Releases, ReleasesBy, Looks, SeesItem, TakesItem, Step}
 use Rattle.desk_core.specs.Notes.{after_catch_up, after_writing, after_hearing}
 use Rattle.desk_core.specs.Linearizable.{Act, Begins, Ends, told, acts}
-use Rattle.desk_core.specs.Dealing.{Move, Deals, Takes, CatchesUp, Writes, Hears, Copies, Testifies, Gathers, Happens, DealtRun, acts_of, dealt_history}
+use Rattle.desk_core.specs.Dealing.{Move, Deals, Takes, CatchesUp, Writes, Hears, Copies, Testifies, Retires, Gathers, Happens, DealtRun, acts_of, dealt_history}
+use Rattle.desk_core.specs.Testimonies.{after_retiring}
 use Rattle.desk_core.specs.Times.{KeepsPosition, IsTimed, AreTimed, EveryDealtRunIsTimed, TimesOrderCalls}
 use Rattle.pq_types.specs.Control.{answer_with}
 use Rattle.desk_core.specs.declared.model.PenState.{PenState}
@@ -370,6 +371,11 @@ module _ (d : Desk) (old : List Act) (t : AreTimed d.views old) where
       leads_to e _ [] same
       (snoc_timed (set d.views i (Holder p)) (Testimony (p ∷ [])) (old ++ []) refl (λ q f. absurd (let g : Testimony (p ∷ []) ≡ Holder q = f in cc))
       (subst (λ (vs : List View). AreTimed vs (old ++ [])) (sym (set_again d.views i (Holder p) a)) still))
+  move_timed (Retires i) e (p, a, idle, same) =
+      let w = after_retiring p in
+      leads_to e _ [] same
+      (snoc_timed (set d.views i (Holder w)) (Testimony (w ∷ [])) (old ++ []) refl (λ q f. absurd (let g : Testimony (w ∷ []) ≡ Holder q = f in cc))
+      (quiet d.views i p w old a t refl refl refl))
   move_timed (Gathers i j) e (pens, more, a, there, ne, same) =
       let w = Testimony (pens ++ more) in
       leads_to e _ [] same

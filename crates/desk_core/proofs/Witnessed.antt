@@ -1,5 +1,5 @@
 -- Testimonies are true: what a pen kept when it gave one, the history and the journal have from then on.
-use Rattle.std.proofs.Common.{◌≡◌, ℕ, zero, suc, ◌+◌, ◌⊎◌, inl, inr, ⊎_elim, List, [], ◌∷◌, ◌++◌, set, slice_get, refl, sym, ◌∙◌, subst, append_assoc, append-nil, arith}
+use Rattle.std.proofs.Common.{◌≡◌, ℕ, zero, suc, ◌+◌, ◌⊎◌, inl, inr, ⊎_elim, Bool, true, List, [], ◌∷◌, ◌++◌, set, slice_get, refl, sym, ◌∙◌, subst, append_assoc, append-nil, arith}
 use Rattle.std.specs.Prelude.{Some, None}
 use mathlib.Core.Option.{some, some-injective, some-ne-none}
 use lib.ListN.{get_elem?}
@@ -11,7 +11,8 @@ use Rattle.desk_core.specs.Desk.{Desk, Has, acts_number, dealer_opening}
 use Rattle.desk_core.specs.Steps.{actor}
 use Rattle.desk_core.specs.Notes.{after_catch_up, after_writing, after_hearing}
 use Rattle.desk_core.specs.Linearizable.{Act, Linearizes}
-use Rattle.desk_core.specs.Dealing.{Move, Deals, Takes, CatchesUp, Writes, Hears, Copies, Testifies, Gathers, Happens, DealtRun, acts_of, dealt_history}
+use Rattle.desk_core.specs.Dealing.{Move, Deals, Takes, CatchesUp, Writes, Hears, Copies, Testifies, Retires, Gathers, Happens, DealtRun, acts_of, dealt_history}
+use Rattle.desk_core.specs.Testimonies.{after_retiring}
 use Rattle.desk_core.specs.Times.{AreTimed}
 use Rattle.desk_core.specs.Witnessed.{IsWitnessed, TestimoniesAreTrue, LinearizedFollowTime}
 use Rattle.desk_core.specs.declared.model.PenState.{PenState}
@@ -32,6 +33,21 @@ use Rattle.desk_core.proofs.Times.{later, move_timed, starts_timed, read_line}
 Gave : List View → PenState → Type 0
 Gave views p = (i : ℕ) × (pens : List PenState) × (get_elem? views i ≡ some (Testimony pens)) × ((k : ℕ) × (slice_get pens k ≡ Some p))
 
+-- a pen stands at some seat, that is this one but for whether it has retired
+abbrev Gives : List View → PenState → Type 0
+Gives views p = (i : ℕ) × (q : PenState) × Has views i q × ((gone : Bool) × (p ≡ record q { retired = gone }))
+
+-- what is true of a pen stays so as it retires
+still_witnessed : (room : ℕ) (history : List Act) (journal : List Line) (p : PenState) (gone : Bool) → IsWitnessed room history journal p
+    → IsWitnessed room history journal (record p { retired = gone })
+still_witnessed room history journal p gone w =
+    record {
+      room_is = w.room_is;
+      timed = record { begun = w.timed.begun; ended = w.timed.ended };
+      whole = λ n k. (let v = w.whole n k in record { begun = v.begun; ended = v.ended });
+      calls = w.calls;
+    }
+
 -- where a pen has come to a seat, or a view that is no testimony
 gave_set : (views : List View) (i : ℕ) (w : View) (p : PenState) → ((pens : List PenState) → w ≡ Testimony pens → ⊥) → Gave (set views i w) p → Gave views p
 unfolding Gave
@@ -45,8 +61,8 @@ gave_pen : (views : List View) (i : ℕ) (w p : PenState) → Gave (set views i 
 gave_pen views i w p g = gave_set views i (Holder w) p (λ pens e. (let f : Holder w ≡ Testimony pens = e in cc)) g
 
 module _ (laws : QueueLaws) (d : Desk) (old : List Act) (journal : List Line) (at : At d old journal) where
-  -- a pen of a testimony was one of an earlier one, or has just given it
-  gave : (x : Move) (e : Desk) → Happens d x e → (p : PenState) → Gave e.views p → Gave d.views p ⊎ ((i : ℕ) × Has d.views i p)
+  -- a pen of a testimony was one of an earlier one, or has just given it, where it may have retired
+  gave : (x : Move) (e : Desk) → Happens d x e → (p : PenState) → Gave e.views p → Gave d.views p ⊎ Gives d.views p
   unfolding Gave
   gave (Deals i) e (k, room, a, inside, same) p g =
       inl
@@ -80,8 +96,19 @@ module _ (laws : QueueLaws) (d : Desk) (old : List Act) (journal : List Line) (a
       (let f : Testimony (q ∷ []) ≡ Testimony pens = u in
       let h : q ∷ [] ≡ pens = cc in
       let o = one_alone q p k (subst (λ (l : List PenState). slice_get l k ≡ Some p) (sym h) c) in
-      inr (i, subst (Has d.views i) o.1 a)))
+      inr (i, p, subst (Has d.views i) o.1 a, (p.retired, refl))))
       (at_snoc (set d.views i (Holder q)) (Testimony (q ∷ [])) (Testimony pens) j b)
+  gave (Retires i) e (q, a, idle, same) p g =
+      let w = after_retiring q in
+      let (j, pens, b, (k, c)) = subst (λ (y : Desk). Gave y.views p) same g in
+      ⊎_elim
+      (λ u. inl (gave_pen d.views i w p (j, pens, u, (k, c))))
+      (λ u.
+      (let f : Testimony (w ∷ []) ≡ Testimony pens = u in
+      let h : w ∷ [] ≡ pens = cc in
+      let o = one_alone w p k (subst (λ (l : List PenState). slice_get l k ≡ Some p) (sym h) c) in
+      inr (i, q, a, (true, sym o.1))))
+      (at_snoc (set d.views i (Holder w)) (Testimony (w ∷ [])) (Testimony pens) j b)
   gave (Gathers i j) e (pens, more, a, there, ne, same) p g =
       let (h, all, b, (k, c)) = subst (λ (y : Desk). Gave y.views p) same g in
       inl
@@ -141,15 +168,18 @@ run_stood laws room (x ∷ xs) d e old journal s run =
           (⊎_elim
           (λ u. s.witnessed p u)
           (λ u.
+          let (i, q, a, (gone, same)) = u in
+          subst (IsWitnessed room old journal) (sym same)
+          (still_witnessed room old journal q gone
           record {
-            room_is = (s.at.rule.pens u.0 p u.1).told ∙ s.same_room;
-            timed = s.timed.pens u.0 p u.1;
+            room_is = (s.at.rule.pens i q a).told ∙ s.same_room;
+            timed = s.timed.pens i q a;
             whole = λ n k.
-                (let lt = kept_within old p n (s.timed.pens u.0 p u.1) k in
+                (let lt = kept_within old q n (s.timed.pens i q a) k in
                 let long = s.timed.counted in
-                whole_before old p n (acts_number d.views) (omega (arith, lt, long)) (whole d.views old s.timed s.at.rule.seated.apart u.0 p u.1));
-            calls = λ k b c. read_line journal p d.room k b (knows d journal s.at.chief s.at.rule u.0 p u.1) c;
-          })
+                whole_before old q n (acts_number d.views) (omega (arith, lt, long)) (whole d.views old s.timed s.at.rule.seated.apart i q a));
+            calls = λ k b c. read_line journal q d.room k b (knows d journal s.at.chief s.at.rule i q a) c;
+          }))
           (gave laws d old journal s.at x m run.1 p given));
     } in
     let t = run_stood laws room xs m e (old ++ new) g.0 next run.2 in

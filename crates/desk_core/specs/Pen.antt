@@ -44,6 +44,7 @@ new_pen room place =
       begins = [];
       ends = [];
       steps = 0;
+      retired = false;
     }
 
 -- it waits for no answer

@@ -82,6 +82,8 @@ pub struct PenState {
     pub ends: LinkedList<(u64, u64)>,
     /// The number of its steps.
     pub steps: u64,
+    /// Whether it has retired: it takes no step from then on.
+    pub retired: bool,
 }
 
 /// What a seat at the desk stands for: the places from this one on, whose pens are still to come,

@@ -39,6 +39,7 @@ use Rattle.desk_core.specs.Clauses.{RuleGivesClauses}
 use Rattle.desk_core.specs.Layout.{lock_at, control_at, item_at, LockStored, ControlStored, ItemStored, Loaded, WordsAreReadBack}
 use Rattle.desk_core.specs.Pen.{IsIdle, IsKept, after_draft, after_post, after_lead, after_miss, after_read, after_read_item, after_lay, after_answer, after_apply, after_release, after_release_by, after_look, after_see, after_take}
 use Rattle.desk_core.specs.Rule.{MeetsRule}
+use Rattle.desk_core.specs.Testimonies.{RetiredStay}
 use Rattle.desk_core.specs.declared.model.Standing.TheVariants.{Idle, Waiting}
 use Rattle.desk_core.specs.declared.model.Due.{Due}
 use Rattle.desk_core.specs.declared.model.PenState.{PenState}
@@ -47,6 +48,7 @@ use Rattle.desk_core.specs.declared.model.View.TheVariants.{Holder}
 use Rattle.announce_board.specs.Allowed.{AsMove, AsLook, Plainly, desk_in}
 use Rattle.announce_board.specs.Rule.{Keeps, Seated, desk_of, book_in, book_at_home}
 use Rattle.announce_board.specs.Steps.{pen_at, StandsAt, WordDrafted, Drafted, PostStored, LockRead, LockTried, ControlRead, MailRead, CellRead, ItemRead, WordLaid, ItemLaid, AnswerStored, Released, BringsHome, BringsHomeBy, Applied, ReleasedWith, Looked, AnswerLooked, WordSeen, ItemSeen, Taken, ItemTaken}
+use Rattle.announce_board.proofs.Retiring.{stays_pen}
 use Rattle.announce_board.proofs.Same.{same_request, same_answer, kind_posted, same_draft, same_waiting, same_due, same_notice, not_true, refused_alone, none_refused, same_applied, same_ended, same_book}
 
 -- the laws of the machine that the steps rest on
@@ -121,13 +123,17 @@ module _ (laws : Laws) (wide : Bool) (roomy : ℕ → Type 0) (room places slots
     goes : (x : Event) (e : Desk) → Step d x e → IsReached places room e
     goes x e move = laws.goes_on places room d e (Takes x) k.reached move
 
+    -- retired pens stay as they were, while this one takes a step
+    stays : (w : PenState) → RetiredStay (slice_set s.views id (Holder w))
+    stays w = stays_pen s.views id p w k.stay has refl
+
     inside : p.place < places
     inside = (laws.seated d id p k.meets has).inside
 
     -- nothing was stored, and the pen is now this one
     abbrev unchanged : (i : ℕ) (q : PenState) → IsReached places room (with_pen d id q) → MeetsRule (desk_of room places k.held k.control k.cells s.homes (slice_set s.views id (Holder q)))
         → Keeps wide roomy room places record { words = slice_set s.words i (slice_index s.words i); homes = s.homes; views = slice_set s.views id (Holder q) }
-    unchanged i q reached meets = record { held = k.held; control = k.control; cells = k.cells; words = laws.loaded wide places s.words k.held k.control k.cells i k.words; slots = k.slots; reached = reached; meets = meets; memory = k.memory }
+    unchanged i q reached meets = record { held = k.held; control = k.control; cells = k.cells; words = laws.loaded wide places s.words k.held k.control k.cells i k.words; slots = k.slots; reached = reached; meets = meets; stay = stays q; memory = k.memory }
 
     -- the Book in the slots is this one
     home_is : (P : Desk → Type 0) (held : Bool) (homes : List (home.Option (Option Volume))) (views : List View) (book : Option Volume) → book_at_home homes ≡ book
@@ -159,6 +165,7 @@ module _ (laws : Laws) (wide : Bool) (roomy : ℕ → Type 0) (room places slots
           reached = goes s k at (Drafts id z) (with_pen (with_cell (d s k at) p.place z) id (after_draft p z))
               (p, has s k at, idle, wider wide z (laws.mix.fits wide j x y range (k.words.ranges p.place (inside s k at))), refl);
           meets = laws.draft (d s k at) id p k.meets (has s k at) z idle;
+          stay = stays s k at (after_draft p z);
           memory = k.memory;
         },
         inl (Drafts id z, refl, (p, has s k at, idle, wider wide z (laws.mix.fits wide j x y range (k.words.ranges p.place (inside s k at))), refl)),
@@ -192,6 +199,7 @@ module _ (laws : Laws) (wide : Bool) (roomy : ℕ → Type 0) (room places slots
           reached = goes s k at (Posts id request) (with_pen (with_control (d s k at) p.place (posted (p.posts + 1) request)) id (after_post p request (time (d s k at))))
               (p, draft, has s k at, idle, few, proper, kept, refl);
           meets = laws.post (d s k at) id p k.meets (has s k at) request draft (time (d s k at)) idle few proper kept;
+          stay = stays s k at (after_post p request (time (d s k at)));
           memory = λ all. none_refused k.control p.place (posted (p.posts + 1) request) (k.memory all) (λ e. absurd (cc e));
         },
         inl (Posts id request, refl, (p, draft, has s k at, idle, few, proper, kept, refl)),
@@ -220,6 +228,7 @@ module _ (laws : Laws) (wide : Bool) (roomy : ℕ → Type 0) (room places slots
           slots = k.slots;
           reached = subst (λ v. IsReached places room (desk_of room places k.held k.control k.cells s.homes v)) (sym (set_again s.views id m.0 at)) k.reached;
           meets = subst (λ v. MeetsRule (desk_of room places k.held k.control k.cells s.homes v)) (sym (set_again s.views id m.0 at)) k.meets;
+          stay = subst RetiredStay (sym (set_again s.views id m.0 at)) k.stay;
           memory = k.memory;
         },
         inr (ap (λ v. desk_of room places k.held k.control k.cells s.homes v) (set_again s.views id m.0 at)),
@@ -272,6 +281,7 @@ module _ (laws : Laws) (wide : Bool) (roomy : ℕ → Type 0) (room places slots
         reached = home_is s k at (IsReached places room) true (set s.homes 0 none) (slice_set s.views id (Holder (after_lead p lead.0))) None out
             (goes s k at (Tries id) (with_pen (locked (d s k at)) id (after_lead p lead.0)) (p, has s k at, inl (free, (volume room lead.0, lead.1, refl))));
         meets = home_is s k at MeetsRule true (set s.homes 0 none) (slice_set s.views id (Holder (after_lead p lead.0))) None out lead.2;
+        stay = stays s k at (after_lead p lead.0);
         memory = k.memory;
       },
       inl (
@@ -362,6 +372,7 @@ module _ (laws : Laws) (wide : Bool) (roomy : ℕ → Type 0) (room places slots
           reached = goes s k at (LaysItem id z) (with_pen (with_cell (d s k at) due.place z) id (after_lay p due z))
               (p, due, has s k at, (k.meets.2.due id p (has s k at) due is_due).0, is_due, no_push, wider wide z (laws.mix.fits wide j x y range (k.words.ranges due.place lt)), refl);
           meets = laws.lay_item (d s k at) id p k.meets (has s k at) due z is_due no_push;
+          stay = stays s k at (after_lay p due z);
           memory = k.memory;
         },
         inl (LaysItem id z, refl, (p, due, has s k at, (k.meets.2.due id p (has s k at) due is_due).0, is_due, no_push, wider wide z (laws.mix.fits wide j x y range (k.words.ranges due.place lt)), refl)),
@@ -398,6 +409,7 @@ module _ (laws : Laws) (wide : Bool) (roomy : ℕ → Type 0) (room places slots
           reached = goes s k at (Answers id answer) (with_pen (with_control (d s k at) due.place (answered answer)) id (after_answer p due request answer))
               (p, due, request, has s k at, (k.meets.2.due id p (has s k at) due is_due).0, is_due, kind, known, laid, may', refl);
           meets = laws.answer (d s k at) id p k.meets (has s k at) due request answer is_due kind known laid may';
+          stay = stays s k at (after_answer p due request answer);
           memory = λ all. none_refused k.control due.place (answered answer) (k.memory all) (λ e. unrefused (subst roomy (sym (laws.seated (d s k at) id p k.meets (has s k at)).room) all) (refused_alone answer e));
         },
         inl (Answers id answer, refl, (p, due, request, has s k at, (k.meets.2.due id p (has s k at) due is_due).0, is_due, kind, known, laid, may', refl)),
@@ -450,6 +462,7 @@ module _ (laws : Laws) (wide : Bool) (roomy : ℕ → Type 0) (room places slots
               (goes s k at (Releases id) (with_pen (freed (d s k at) p.hand) id (after_release p)) (p, has s k at, leads, refl));
           meets = home_is s k at MeetsRule false (put_back s.homes m.1) (slice_set s.views id (Holder (after_release p))) (Some (volume room p.hand)) back
               (laws.release (d s k at) id p k.meets (has s k at) leads);
+          stay = stays s k at (after_release p);
           memory = k.memory;
         },
         home_is s k at (λ y. (step : Step (d s k at) (Releases id) y) × (looking.sights_of (d s k at) (Releases id) y step ≡ looking.Looked p.place p.hand ∷ [])) false (put_back s.homes m.1) (slice_set s.views id (Holder (after_release p))) (Some (volume room p.hand)) back
@@ -488,6 +501,7 @@ module _ (laws : Laws) (wide : Bool) (roomy : ℕ → Type 0) (room places slots
               (goes s k at (ReleasesBy id operation answer) (with_pen (freed (d s k at) js) id w) (p, has s k at, leads, none_due, idle, few, proper, may', refl));
           meets = home_is s k at MeetsRule false (put_back s.homes m.1) (slice_set s.views id (Holder w)) (Some (volume room js)) back
               (laws.release_by (d s k at) id p k.meets (has s k at) operation answer (time (d s k at)) leads none_due idle few proper may');
+          stay = stays s k at w;
           memory = k.memory;
         },
         inl (

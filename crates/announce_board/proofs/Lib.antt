@@ -13,3 +13,5 @@ mod Leads
 mod Agreeing
 mod NoteSteps
 mod TestimonySteps
+mod Retiring
+mod Dealing

@@ -127,8 +127,8 @@ other_answer notice.NoMemory x ne e = ne refl
 pub told_other : (n : Notice) (x : Item) (a : Answer) → Some n ≢ Some notice.NoMemory → a ≡ answer_with n x → Some a ≢ Some answer.NoMemory
 told_other n x a ne e f = let g : a ≡ answer.NoMemory = cc in other_answer n x ne (sym e ∙ g)
 
--- the pen of a seat that became this one
-pub pen_is : (before after : Seated) (p : PenState) → after ≡ (Holder p, before.1) → pen_at after ≡ p
+-- the pen of a seat that became this one, which has not retired
+pub pen_is : (before after : Seated) (p : PenState) → after ≡ (Holder p, before.1) → pen_at after ≡ record p { retired = false }
 pen_is before after p e = let f : Seated → PenState = pen_at in ap f e
 
 answer_found : (d : Desk) (p : PenState) (request : Request) → WaiterIsTold d p request → (d.control p.place ≡ posted p.posts request) ⊎ (is_answer (d.control p.place) ≡ true)

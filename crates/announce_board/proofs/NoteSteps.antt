@@ -16,21 +16,30 @@ use Rattle.desk_core.specs.Knows.{Knows}
 use Rattle.desk_core.specs.Layout.{lock_at, Loaded}
 use Rattle.desk_core.specs.Notes.{after_catch_up, after_writing, after_hearing, CatchUpKeeps, WritingKeeps, HearingKeeps, CopyingKeeps}
 use Rattle.desk_core.specs.Rule.{MeetsRule, StartsWith}
+use Rattle.desk_core.specs.Testimonies.{RetiredStay}
 use Rattle.desk_core.specs.declared.model.Call.{Call}
 use Rattle.desk_core.specs.declared.model.View.{View}
-use Rattle.desk_core.specs.declared.model.View.TheVariants.{Holder, Note}
+use Rattle.desk_core.specs.declared.model.View.TheVariants.{Holder, Note, Testimony}
 use Rattle.announce_board.specs.Rule.{Keeps, Seated, desk_of}
 use Rattle.announce_board.specs.Steps.{pen_at, Becomes}
 use Rattle.announce_board.specs.Notes.{told_of, told_in, IsNote, CatchesUp, after_note, while_hearing, after_hearing_all, CatchUpAllowed, WritingAllowed, HearingAllowed, CopyingAllowed, CallsAreFound}
 use Rattle.announce_board.proofs.Agreeing.{longer_in_common, both_begin}
+use Rattle.announce_board.proofs.Retiring.{AllRest, NotRetired, stays_pen, stays_set, stays_more}
 
 module _ (wide : Bool) (roomy : ℕ → Type 0) (room places : ℕ) (s : State (Option Volume) View) (k : Keeps wide roomy room places s) where
   abbrev d : Desk
   d = desk_of room places k.held k.control k.cells s.homes s.views
 
   -- the views alone have changed
-  viewed : (views : List View) → IsReached places room (record d { views = views }) → MeetsRule (record d { views = views }) → Keeps wide roomy room places record { words = s.words; homes = s.homes; views = views }
-  viewed views reached meets = record { held = k.held; control = k.control; cells = k.cells; words = k.words; slots = k.slots; reached = reached; meets = meets; memory = k.memory }
+  viewed : (views : List View) → IsReached places room (record d { views = views }) → MeetsRule (record d { views = views }) → RetiredStay views → Keeps wide roomy room places record { words = s.words; homes = s.homes; views = views }
+  viewed views reached meets stay = record { held = k.held; control = k.control; cells = k.cells; words = k.words; slots = k.slots; reached = reached; meets = meets; stay = stay; memory = k.memory }
+
+-- a note is no testimony, and no pen
+note_rests : (views : List View) (told : List Line) → AllRest views (Note told)
+note_rests views told pens i p e of gone = absurd (let f : Note told ≡ Testimony pens = e in cc)
+
+note_active : (told : List Line) → NotRetired (Note told)
+note_active told p e = absurd (let f : Note told ≡ Holder p = e in cc)
 
 pub catch_up_allowed : (wide : Bool) (roomy : ℕ → Type 0) → MovesReach → CatchUpKeeps → Loaded → CatchUpAllowed wide roomy
 catch_up_allowed wide roomy goes kept loaded room places slots id m is s k long at small =
@@ -48,6 +57,7 @@ catch_up_allowed wide roomy goes kept loaded room places slots id m is s k long 
         slots = k.slots;
         reached = goes places room now (with_pen now id (after_catch_up p t.0)) (MovesUp id) k.reached (p, t.0, at ∙ ap some is, t.1, refl);
         meets = t.3;
+        stay = stays_pen s.views id p (after_catch_up p t.0) k.stay (at ∙ ap some is) refl;
         memory = k.memory;
       },
       (t.0, subst (λ r. Knows r p t.0) (sym (k.meets.2.pens id p (at ∙ ap some is)).told) t.2, refl),
@@ -59,6 +69,8 @@ writing_allowed wide roomy goes kept room places slots id m is s k at =
     let now = d wide roomy room places s k in
     let views = set s.views id (Holder (after_writing p)) ++ Note p.known ∷ [] in
     viewed wide roomy room places s k views (goes places room now (record now { views = views }) (Writes id) k.reached (p, at ∙ ap some is, refl)) (kept (d wide roomy room places s k) id p k.meets (at ∙ ap some is))
+    (stays_more (set s.views id (Holder (after_writing p))) (Note p.known) (stays_pen s.views id p (after_writing p) k.stay (at ∙ ap some is) refl)
+    (note_rests (set s.views id (Holder (after_writing p))) p.known))
 
 pub hearing_allowed : (wide : Bool) (roomy : ℕ → Type 0) → MovesReach → HearingKeeps → HearingAllowed wide roomy
 hearing_allowed wide roomy goes kept room places slots id m is other note it s k at ne there =
@@ -75,6 +87,8 @@ hearing_allowed wide roomy goes kept room places slots id m is other note it s k
     (goes places room now heard (Hears id other) k.reached (p, told, here, was, refl)))
     (subst (λ known. MeetsRule (record now { views = set (set s.views id (Holder (record (after_hearing p told) { known = known }))) other (Note []) })) (sym longer)
     (kept now id p k.meets here other told was))
+    (stays_set (set s.views id w) other (Note told) (Note []) (stays_pen s.views id p (while_hearing p told) k.stay here refl)
+    (there ∙ ap some it) (note_active told) (note_rests (set s.views id w) []))
 
 pub copying_allowed : (wide : Bool) (roomy : ℕ → Type 0) → MovesReach → CopyingKeeps → CopyingAllowed wide roomy
 copying_allowed wide roomy goes kept room places id note it s k at =
@@ -86,6 +100,10 @@ copying_allowed wide roomy goes kept room places id note it s k at =
     (goes places room now copied (Copies id) k.reached (told, at ∙ ap some it, refl)))
     (subst (λ (v : View). MeetsRule (record (d wide roomy room places s k) { views = set s.views id v ++ v ∷ [] })) (sym it)
     (kept (d wide roomy room places s k) id (told_of note) k.meets (at ∙ ap some it)))
+    (subst (λ (v : View). RetiredStay (set s.views id v ++ v ∷ [])) (sym it)
+    (stays_more (set s.views id (Note told)) (Note told)
+    (stays_set s.views id (Note told) (Note told) k.stay (at ∙ ap some it) (note_active told) (note_rests s.views told))
+    (note_rests (set s.views id (Note told)) told)))
 
 all_at : (P : Call → Type 0) (xs ys : List Call) → ((i : ℕ) (c : Call) → slice_get (xs ++ ys) i ≡ Some c → P c) → AllByRecursion P xs
 all_at P [] ys f = tt

@@ -14,6 +14,8 @@ use Rattle.pq_types.specs.History.{line, MayAnswer, journal_after, last_serial}
 use Rattle.pq_book.specs.Book.{Volume}
 use Rattle.atomic_table.specs.Seated.{TableId}
 use Rattle.desk_core.specs.Desk.{volume}
+use Rattle.desk_core.specs.Pen.{after_answer, with_known}
+use Rattle.announce_board.specs.ItemWords.{laid_by}
 use Rattle.desk_core.specs.declared.model.Due.{Due}
 use Rattle.desk_core.specs.declared.model.PenState.{PenState}
 use Rattle.desk_core.specs.declared.model.View.TheVariants.{Holder}
@@ -81,14 +83,25 @@ serves_other words place p p' book h other k =
     other_answered p.room p.hand place h.serial k.serial h.request k.request h.answer k.answer h.may k.may
     (ap (λ (b : Volume). b.journal) (sym h.book_is ∙ k.book_is)) other
 
+-- a leader that answers has not retired
+still_active : (words : ℕ) (o : Option Item) (p : PenState) (due : Due) (q : Request) (a : Answer) → p.retired ≡ false
+    → record (laid_and_answered_by words o p due q a) { retired = false } ≡ laid_and_answered_by words o p due q a
+still_active words None p due q a e = ap (λ (b : Bool). record (after_answer p due q a) { retired = b }) (sym e)
+still_active words (Some x) p due q a e =
+    ap (λ (b : Bool). record (after_answer (laid_by words p due x) (with_known due x) q a) { retired = b }) (sym e)
+
 -- the seat after both parts of serving
 module _ (words place : ℕ) (before between after : Seated) (serial : ℕ) (q : Request) (a : Answer) (h : FindsPosted words place (pen_at before) serial q (pen_at between))
     (next : Becomes between (laid_and_answered_by words (answer_item a) (pen_at between) (due_of place serial q) q a) after) where
   abbrev p : PenState
   p = pen_at before
 
+  answered_is : pen_at after ≡ laid_and_answered_by words (answer_item a) (pen_at between) (due_of place serial q) q a
+  answered_is = pen_is between after (laid_and_answered_by words (answer_item a) (pen_at between) (due_of place serial q) q a) next
+      ∙ still_active words (answer_item a) (pen_at between) (due_of place serial q) q a refl
+
   pen_next : pen_at after ≡ served_by words p place serial q a
-  pen_next = pen_is between after (laid_and_answered_by words (answer_item a) (pen_at between) (due_of place serial q) q a) next
+  pen_next = answered_is
       ∙ ap (λ (r : PenState). laid_and_answered_by words (answer_item a) r (due_of place serial q) q a) h.next
 
   served_same : Same p (served_by words p place serial q a) × ((served_by words p place serial q a).hand ≡ journal_after p.hand place serial q a)
@@ -100,7 +113,7 @@ module _ (words place : ℕ) (before between after : Seated) (serial : ℕ) (q :
 
   pub serves_stays : StaysSeated before between → StaysSeated before after
   serves_stays s = record {
-    is = ap (λ (m : Seated). m.0) next ∙ ap Holder (sym (pen_is between after (laid_and_answered_by words (answer_item a) (pen_at between) (due_of place serial q) q a) next));
+    is = ap (λ (m : Seated). m.0) next ∙ ap Holder (sym answered_is);
     slots = ap (λ (m : Seated). m.1) next ∙ s.slots;
     place = ap (λ (r : PenState). r.place) pen_next ∙ served_same.0.0;
     leading = ap (λ (r : PenState). r.leading) pen_next ∙ served_same.0.1;

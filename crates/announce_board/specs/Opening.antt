@@ -16,7 +16,7 @@ use Rattle.desk_core.specs.Layout.{lock_at, word_count}
 use Rattle.desk_core.specs.Rule.{MeetsRule}
 use Rattle.desk_core.specs.declared.model.PenState.{PenState}
 use Rattle.desk_core.specs.declared.model.View.{View}
-use Rattle.desk_core.specs.declared.model.View.TheVariants.{Dealer, Holder}
+use Rattle.desk_core.specs.declared.model.View.TheVariants.{Dealer, Holder, Testimony}
 use Rattle.announce_board.specs.declared.error.DeskError.{DeskError}
 use Rattle.announce_board.specs.declared.error.DeskError.TheVariants.{LinesOutOfRange, NoMemory}
 use Rattle.announce_board.specs.Rule.{Keeps, Seated, dealt_one, pen_dealt}
@@ -82,6 +82,28 @@ pub record IsHeldWith (room : ℕ) (pen : PenState) : Type 0 where
   pub seat : ℕ
   pub has : Has desk.views seat pen
 
+-- among these pens there is one of each of so many places, which has retired
+abbrev pub AllRetired : ℕ → List PenState → Type 0
+AllRetired places pens = (place : ℕ) → place < places
+    → (k : ℕ) × (p : PenState) × (slice_get pens k ≡ Some p) × (p.place ≡ place) × (p.retired ≡ true)
+
+-- what follows holds of each of these pens that has retired
+abbrev pub OfEachRetired : List PenState → (PenState → Type 0) → Type 0
+OfEachRetired pens F = (k : ℕ) (p : PenState) → slice_get pens k ≡ Some p → p.retired ≡ true → F p
+
+-- the Book is the one at home at some such desk with this room, at which each of these pens that has retired has its seat
+pub record IsHomeWithAll (room : ℕ) (pens : List PenState) (book : Volume) : Type 0 where
+  pub desk : Desk
+  pub reached : IsReached desk.places room desk
+  pub meets : MeetsRule desk
+  pub at_home : desk.home ≡ Some book
+  pub room_is : book.room ≡ room
+  pub seated : OfEachRetired pens (λ p. (seat : ℕ) × Has desk.views seat p)
+
+-- each of these pens that has retired knows the journal of this Book
+abbrev pub AllKnow : List PenState → Volume → Type 0
+AllKnow pens book = OfEachRetired pens (λ p. Knows p.room p book.journal)
+
 -- the table of a desk before all steps keeps the rule
 abbrev pub OpeningKept : Bool → (ℕ → Type 0) → Type 0
 OpeningKept wide roomy = (room places : ℕ) → room ≤ GREATEST_NUMBER
@@ -95,7 +117,7 @@ DealingAllowed wide roomy = (room places id place known : ℕ) → place < place
 
 -- What the words and the slot of a table say at its end. A lock word 0: the Book is in its slot,
 -- lawful, and each pen knows its journal and does not lead. Any other: the lock is held, and where
--- there is one place alone its pen leads.
+-- there is one place alone its pen leads. Where a testimony has all pens, each of which has retired, the Book is in its slot.
 pub record Ends (room places : ℕ) (s : State (Option Volume) View) : Type 0 where
   pub free : slice_index s.words lock_at ≡ 0 → (book : Volume) × (get_elem? s.homes 0 ≡ some (some (Some book)))
       × (home : IsHomeBook room book) × (home.desk.views ≡ s.views)
@@ -105,6 +127,8 @@ pub record Ends (room places : ℕ) (s : State (Option Volume) View) : Type 0 wh
       → (slice_index s.words lock_at ≡ 1) × (held : IsHeld room) × (held.desk.views ≡ s.views)
   pub alone : slice_index s.words lock_at ≢ 0 → places ≡ 1 → (id : ℕ) (m : Seated) → m.0 ≡ Holder (pen_at m)
       → get_elem? s.views id ≡ some m.0 → (pen_at m).leading ≡ true
+  pub all : (id : ℕ) (pens : List PenState) → get_elem? s.views id ≡ some (Testimony pens) → AllRetired places pens
+      → (book : Volume) × (get_elem? s.homes 0 ≡ some (some (Some book))) × IsHomeWithAll room pens book × AllKnow pens book
 
 abbrev pub EndsAreTold : Bool → (ℕ → Type 0) → Type 0
 EndsAreTold wide roomy = (room places : ℕ) (s : State (Option Volume) View) → Keeps wide roomy room places s → Ends room places s

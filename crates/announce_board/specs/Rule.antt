@@ -14,6 +14,7 @@ use Rattle.desk_core.specs.Dealing.{IsReached}
 use Rattle.desk_core.specs.Desk.{Desk}
 use Rattle.desk_core.specs.Layout.{AreWords}
 use Rattle.desk_core.specs.Rule.{MeetsRule}
+use Rattle.desk_core.specs.Testimonies.{RetiredStay}
 use Rattle.desk_core.specs.declared.model.PenState.{PenState}
 use Rattle.desk_core.specs.declared.model.View.{View}
 use Rattle.desk_core.specs.declared.model.View.TheVariants.{Dealer, Holder, Note, Testimony}
@@ -48,7 +49,7 @@ NoneIsRefused control = (place : ℕ) → control place ≢ answered NoMemory
 -- The words of the table show some lock, controls and item cells; there is one slot; and the desk
 -- of these, with the Book of the slot and the views of the seats, is at the end of some run of the
 -- machine from its opening with a dealer, and so meets the rule of desks. Where
--- the Book is at home it has the desk's room, as that rule says. `roomy n` says that every store of
+-- the Book is at home it has the desk's room, as that rule says. Pens that have retired stay as they were. `roomy n` says that every store of
 -- the desk's kind has room for n items: where that is so of the journal's lines, no record says
 -- NoMemory. The items of the desk are wide or narrow.
 pub record Keeps (wide : Bool) (roomy : ℕ → Type 0) (room places : ℕ) (s : State (Option Volume) View) : Type 0 where
@@ -59,14 +60,19 @@ pub record Keeps (wide : Bool) (roomy : ℕ → Type 0) (room places : ℕ) (s :
   pub slots : length s.homes ≡ 1
   pub reached : IsReached places room (desk_of room places held control cells s.homes s.views)
   pub meets : MeetsRule (desk_of room places held control cells s.homes s.views)
+  pub stay : RetiredStay s.views
   pub memory : roomy room → NoneIsRefused control
 
--- the pen of a seat
+-- the pen for which a seat stands
+abbrev pub holder_of : View → PenState
+holder_of (Dealer place room) = new_pen room place
+holder_of (Holder p) = p
+holder_of (Note told) = new_pen 0 0
+holder_of (Testimony pens) = new_pen 0 0
+
+-- The pen of a seat, as one that has not retired: so a view is the `Holder` of its pen only where that pen has not.
 abbrev pub pen_of : View → PenState
-pen_of (Dealer place room) = new_pen room place
-pen_of (Holder p) = p
-pen_of (Note told) = new_pen 0 0
-pen_of (Testimony pens) = new_pen 0 0
+pen_of v = record (holder_of v) { retired = false }
 
 -- what a seat knows, and the slots that it holds
 abbrev pub Seated : Type 0

@@ -1,16 +1,18 @@
 -- Testimonies of the pens of a desk, by which they are seen side by side.
-use Rattle.std.specs.Prelude.{◌≡◌, ℕ, Bool, List, [], ◌∷◌, ◌++◌, Option}
+use Rattle.std.specs.Prelude.{◌≡◌, ℕ, Bool, false, List, [], ◌∷◌, ◌++◌, Option}
 use mathlib.Core.Option.{none}
 use Rattle.atomic_table.specs.Seated.{TableId}
 use Rattle.atomic_table.specs.Table.{Step, Allows, Splits, Joins, step}
 use Rattle.pq_book.specs.Book.{Volume}
 use Rattle.desk_core.specs.Layout.{lock_at}
+use Rattle.desk_core.specs.Testimonies.{after_retiring}
 use Rattle.desk_core.specs.Witnessed.{AreLinearized}
 use Rattle.desk_core.specs.declared.model.PenState.{PenState}
 use Rattle.desk_core.specs.declared.model.View.{View}
 use Rattle.desk_core.specs.declared.model.View.TheVariants.{Dealer, Holder, Note, Testimony}
 use Rattle.announce_board.specs.Allowed.{AtEachPen}
 use Rattle.announce_board.specs.Rule.{Keeps, Seated, pen_of}
+use Rattle.announce_board.specs.Steps.{pen_at}
 
 -- a testimony: the table of its desk, and the pens that gave it, as they were then
 pub record Testified : Type 0 where
@@ -37,6 +39,13 @@ IsTestimony views = views ≡ Testimony (pens_in views) ∷ []
 abbrev pub testimony_of : View → View
 testimony_of v = Testimony (pen_of v ∷ [])
 
+-- a pen once it has retired, and the testimony that it gives
+abbrev pub retiree : View → View
+retiree v = Holder (after_retiring (pen_of v))
+
+abbrev pub last_testimony : View → View
+last_testimony v = Testimony (after_retiring (pen_of v) ∷ [])
+
 -- that of two which are put together
 abbrev pub both_testify : View → View → View
 both_testify v w = Testimony (pens_of v ++ pens_of w)
@@ -49,6 +58,11 @@ Compared st before word after = (◌≡◌ {A = Seated} after before) × ((room 
 abbrev pub TestifyAllowed : Bool → (ℕ → Type 0) → Type 0
 TestifyAllowed wide roomy = AtEachPen (λ room places slots id m.
     Splits (Keeps wide roomy room places) id m.0 m.0 (testimony_of m.0))
+
+-- and each that does not lead may retire
+abbrev pub RetireAllowed : Bool → (ℕ → Type 0) → Type 0
+RetireAllowed wide roomy = AtEachPen (λ room places slots id m. (pen_at m).leading ≡ false
+    → Splits (Keeps wide roomy room places) id m.0 (retiree m.0) (last_testimony m.0))
 
 -- any two testimonies may be put together
 abbrev pub GatherAllowed : Bool → (ℕ → Type 0) → Type 0

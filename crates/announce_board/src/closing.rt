@@ -3,11 +3,13 @@ ghost use Rattle.std.specs.Prelude.{◌≡◌, ◌≢◌, true, false, Some, IfO
 ghost use Rattle.pq_book.specs.Book.{Volume};
 ghost use Rattle.desk_core.specs.Knows.{Knows};
 ghost use Rattle.announce_board.specs.Opening.{IsHomeBook, IsHomeWith, IsHeld, IsHeldWith};
+ghost use Rattle.announce_board.specs.Opening.{AllRetired, IsHomeWithAll, AllKnow};
 
 use crate::desk::Desk;
 use crate::error::LockHeld;
 use crate::laws::law_opening_and_end;
 use crate::rule::Slot;
+use crate::testimony::Testimony;
 use crate::tokens::Pen;
 use crate::words::LOCK;
 use leftist_heap::Store;
@@ -74,5 +76,26 @@ impl<S: Store<Entry<P>>, P: Part> Desk<S, P> {
         let slot = closed.take(0);
         closed.free();
         book_of(lock, slot)
+    }
+
+    /// Closes the desk with the testimony of all its pens, each of which has retired: none leads, and so the Book is at
+    /// home. Its journal has the calls of all of them, and what each last saw in its record still stood there at the end.
+    pub fn close_all(self, testimony: Testimony) -> Book<S, Global, P>
+        requires table { testimony.table ≡ self.table }
+        requires all { AllRetired self.places testimony.pens }
+        ensures home { IsHomeWithAll self.room testimony.pens result }
+        ensures knows { AllKnow testimony.pens result }
+    {
+        law_opening_and_end::<S, P>();
+        let Desk {
+            table,
+            places: _,
+            room: _,
+        } = self;
+        let Testimony { badge } = testimony;
+        let mut closed = table.close_with(badge.into_seat());
+        let slot = closed.take(0);
+        closed.free();
+        slot.unwrap().into_book()
     }
 }

@@ -1,14 +1,15 @@
 // Testimonies, by which the pens of a desk are seen side by side, in whatever threads they are: so it can be told of their
 // calls which one ended before which other began.
-ghost use Rattle.std.specs.Prelude.{◌≡◌, ℕ, ◌<◌, [], ◌∷◌, ◌++◌};
+ghost use Rattle.std.specs.Prelude.{◌≡◌, ℕ, ◌<◌, false, [], ◌∷◌, ◌++◌};
 ghost use Rattle.pq_book.specs.Book.{AllHaveRoom};
 ghost use Rattle.desk_core.specs.Layout.{lock_at};
+ghost use Rattle.desk_core.specs.Testimonies.{after_retiring};
 ghost use Rattle.desk_core.specs.Witnessed.{AreLinearized};
 ghost use Rattle.desk_core.specs.declared.model.View.TheVariants.{Holder};
 ghost use Rattle.desk_core.specs.declared.model.View.TheVariants as view;
 ghost use Rattle.announce_board.specs.Steps.{pen_at};
-ghost use Rattle.announce_board.specs.Testimonies.{Compared, TestifyAllowed, GatherAllowed, CompareAllowed};
-ghost use Rattle.announce_board.specs.Testimonies.{testimony_of, both_testify};
+ghost use Rattle.announce_board.specs.Testimonies.{Compared, TestifyAllowed, RetireAllowed, GatherAllowed, CompareAllowed};
+ghost use Rattle.announce_board.specs.Testimonies.{testimony_of, retiree, last_testimony, both_testify};
 
 use crate::desk::Desk;
 use crate::rule::{Board, BoardSeat, Slot};
@@ -26,7 +27,7 @@ use std::marker::Model;
 /// sees of it its desk's table, and the pens.
 #[derive(Drop)]
 pub struct Testimony {
-    badge: Badge<View>,
+    pub(crate) badge: Badge<View>,
 }
 
 impl Model for Testimony {
@@ -48,6 +49,15 @@ impl Split<View> for Testify {
     ghost right = { testimony_of };
 }
 
+/// A pen retires.
+struct Retire;
+
+impl Split<View> for Retire {
+    ghost left = { retiree };
+
+    ghost right = { last_testimony };
+}
+
 /// Two testimonies are put together.
 struct Gather;
 
@@ -64,9 +74,10 @@ impl<S: Store<Entry<P>>, P: Part> Play<Slot<S, P>, View> for Compare {
     ghost then = { Compared };
 }
 
-/// Pens give testimony, and testimonies are put together and compared, as the rule of the table allows.
+/// Pens give testimony and retire, and testimonies are put together and compared, as the rule of the table allows.
 fn law_testimonies_are_allowed<S: Store<Entry<P>>, P: Part>()
     ensures testify { TestifyAllowed P.wide (AllHaveRoom S.room) }
+    ensures retire { RetireAllowed P.wide (AllHaveRoom S.room) }
     ensures gather { GatherAllowed P.wide (AllHaveRoom S.room) }
     ensures compare { CompareAllowed P.wide (AllHaveRoom S.room) }
 {
@@ -86,6 +97,24 @@ fn give<S: Store<Entry<P>>, P: Part>(board: &Board<S, P>, seat: &mut BoardSeat<S
 {
     law_testimonies_are_allowed::<S, P>();
     let given = board.split_seat::<Testify>(seat);
+    Testimony {
+        badge: given.into_badge(),
+    }
+}
+
+// The pen, which does not lead, retires, and gives testimony of what it is then.
+fn give_last<S: Store<Entry<P>>, P: Part>(
+    board: &Board<S, P>,
+    mut seat: BoardSeat<S, P>,
+) -> Testimony
+    requires here { seat.table_id ≡ board.now.table_id }
+    requires is { seat.me.0 ≡ Holder (pen_at seat.me) }
+    requires led_not { (pen_at seat.me).leading ≡ false }
+    requires lock { lock_at < board.now.table_id.words }
+    ensures gives { result ≡ record { table = board.now.table_id; pens = after_retiring (pen_at seat.me) ∷ [] } }
+{
+    law_testimonies_are_allowed::<S, P>();
+    let given = board.split_seat::<Retire>(&mut seat);
     Testimony {
         badge: given.into_badge(),
     }
@@ -122,6 +151,16 @@ impl<S: Store<Entry<P>>, P: Part> Desk<S, P> {
         ensures gives { result ≡ record { table = self.now.table; pens = pen.old.state ∷ [] } }
     {
         give(&self.table.shared, &mut pen.seat)
+    }
+
+    /// The pen, which does not lead, retires: it takes no step from then on, and its testimony says what it stays.
+    pub fn retire(&self, pen: Pen<S, P>) -> Testimony
+        requires table { pen.table ≡ self.now.table }
+        requires led_not { pen.state.leading ≡ false }
+        ensures gives { result ≡ record { table = self.now.table; pens = after_retiring pen.state ∷ [] } }
+    {
+        let Pen { seat, .. } = pen;
+        give_last(&self.table.shared, seat)
     }
 
     /// Puts two testimonies of this desk together, and compares them by one load. There is one history, which has the acts of

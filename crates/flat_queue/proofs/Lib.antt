@@ -25,4 +25,5 @@ pub mod LineOrder
 pub mod TimeOrder
 pub mod NoteOrder
 pub mod Takings
+pub mod TakeStepping
 pub mod Dues

@@ -50,6 +50,17 @@ missed_on a m b h held =
       posts = ap (λ (z : Joined). z.pen.posts) held ∙ h.posts;
     }
 
+pub has_missed_so : (n : ℕ) (a b : Joined) → Misses n a b → HasMissed a b
+has_missed_so n a b h =
+    let same = misses_keep n a b h in
+    record {
+      tries = n;
+      misses = h;
+      queue = ap (λ (z : Joined). z.queue) same;
+      standing = ap (λ (z : Joined). z.pen.standing) same;
+      posts = ap (λ (z : Joined). z.pen.posts) same;
+    }
+
 -- a call behind such tries is one of the member before them
 pub one_behind : (a c : Joined) (read : Option Word) (steps : ℕ) (now : Standing) (calls : List Call) → HasPostedOne (missed_as a read steps) now calls c → HasPostedOne a now calls c
 one_behind a c read steps now calls h =
@@ -86,28 +97,35 @@ refused_behind a c read steps request BookFull few h = one_behind a c read steps
 refused_behind a c read steps request Spent few h = absurd (let le = h.0 in omega (arith, le, few))
 refused_behind a c read steps request GaveUp few h = absurd h.0
 
-ok_result : (a c : Joined) (read : Option Word) (steps : ℕ) (request : Request) (r : Result (ℕ × Reply) CallError)
-    → IfOk r (λ told. IsCalled (missed_as a read steps) request told.0 told.1 c) → IfOk r (λ told. IsCalled a request told.0 told.1 c)
-ok_result a c read steps request (Ok told) h = called_behind a c read steps request told.0 told.1 h
-ok_result a c read steps request (Err error) h = tt
+ok_result : {A : Type 0} (told : A → ℕ × Reply) (a c : Joined) (read : Option Word) (steps : ℕ) (request : Request) (r : Result A CallError)
+    → IfOk r (λ x. IsCalled (missed_as a read steps) request (told x).0 (told x).1 c) → IfOk r (λ x. IsCalled a request (told x).0 (told x).1 c)
+ok_result told a c read steps request (Ok x) h = called_behind a c read steps request (told x).0 (told x).1 h
+ok_result told a c read steps request (Err error) h = tt
 
-err_result : (a c : Joined) (read : Option Word) (steps : ℕ) (request : Request) (r : Result (ℕ × Reply) CallError) → a.pen.posts < most_posts a.queue.room
+err_result : {A : Type 0} (a c : Joined) (read : Option Word) (steps : ℕ) (request : Request) (r : Result A CallError) → a.pen.posts < most_posts a.queue.room
     → IfErr r (λ error. IsRefused ⊥ (missed_as a read steps) request error c) → IfErr r (λ error. IsRefused ⊥ a request error c)
 err_result a c read steps request (Ok told) few h = tt
 err_result a c read steps request (Err error) few h = refused_behind a c read steps request error few h
 
+-- tries use no serial
+pub few_behind : (a m : Joined) → HasMissed a m → a.pen.posts < most_posts a.queue.room → m.pen.posts < most_posts m.queue.room
+few_behind a m missed few =
+    let same : m.pen.posts ≡ a.pen.posts = missed.posts in
+    let room : most_posts m.queue.room ≡ most_posts a.queue.room = ap (λ q. most_posts q.room) missed.queue in
+    omega (arith, same, room, few)
+
 -- A call behind such tries, by these turns, is one of the member before them, by what the tries and these turns are together.
-pub call_behind : (T U : Joined → Request → Result (ℕ × Reply) CallError → Joined → Type 0) (a m c : Joined) (request : Request) (has_room : Type 0)
-    (result : Result (ℕ × Reply) CallError) → HasMissed a m → a.pen.posts < most_posts a.queue.room
+pub tells_behind : {A : Type 0} (told : A → ℕ × Reply) (T U : Joined → Request → Result (ℕ × Reply) CallError → Joined → Type 0) (a m c : Joined) (request : Request) (has_room : Type 0)
+    (result : Result A CallError) → HasMissed a m → a.pen.posts < most_posts a.queue.room
     → ((r : Result (ℕ × Reply) CallError) → T m request r c → U a request r c)
-    → MakesCall T (λ told. told) has_room m request result c → MakesCall U (λ told. told) has_room a request result c
-call_behind T U a m c request has_room result missed few together h =
-    let k : MakesCall T (λ told. told) has_room (missed_as a m.pen.read m.pen.steps) request result c =
-    subst (λ z. MakesCall T (λ told. told) has_room z request result c) (misses_keep missed.tries a m missed.misses) h in
+    → MakesCall T told has_room m request result c → MakesCall U told has_room a request result c
+tells_behind told T U a m c request has_room result missed few together h =
+    let k : MakesCall T told has_room (missed_as a m.pen.read m.pen.steps) request result c =
+    subst (λ z. MakesCall T told has_room z request result c) (misses_keep missed.tries a m missed.misses) h in
     let same : m.pen.posts ≡ a.pen.posts = missed.posts in
     let room : most_posts m.queue.room ≡ most_posts a.queue.room = ap (λ q. most_posts q.room) missed.queue in
     record {
-      ok = ok_result a c m.pen.read m.pen.steps request result k.ok;
+      ok = ok_result told a c m.pen.read m.pen.steps request result k.ok;
       err = err_result a c m.pen.read m.pen.steps request result few k.err;
       full = k.full;
       spent = k.spent;
@@ -115,3 +133,10 @@ call_behind T U a m c request has_room result missed few together h =
       never_gives_up = k.never_gives_up;
       memory = k.memory;
     }
+
+-- so is one that tells its line and its reply
+pub call_behind : (T U : Joined → Request → Result (ℕ × Reply) CallError → Joined → Type 0) (a m c : Joined) (request : Request) (has_room : Type 0)
+    (result : Result (ℕ × Reply) CallError) → HasMissed a m → a.pen.posts < most_posts a.queue.room
+    → ((r : Result (ℕ × Reply) CallError) → T m request r c → U a request r c)
+    → MakesCall T (λ told. told) has_room m request result c → MakesCall U (λ told. told) has_room a request result c
+call_behind T U a m c request has_room result missed few together h = tells_behind (λ told. told) T U a m c request has_room result missed few together h

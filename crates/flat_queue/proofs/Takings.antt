@@ -14,8 +14,9 @@ use Rattle.flat_queue.specs.Members.{Joined}
 use Rattle.flat_queue.specs.Calling.{MakesCall, popped, ended}
 use Rattle.flat_queue.specs.OwnRequest.{EntersAtOnceBy, EntersOrWaitsBy}
 use Rattle.flat_queue.specs.Looking.{Looked, ServesOthersBy, LooksFirstBy, MissesThenLooksBy}
-use Rattle.flat_queue.specs.Taking.{Awaited, PopsInVain, FindsNoneBy, Repeats, LooksForBy, TakesSo, TakesAtOnceBy, TakesNoneBy, TakesOneBy}
-use Rattle.flat_queue.specs.Taking.{IsLate, LooksOnceBy, LooksUntilBy, LooksOnBy, TakesUntilBy, OrEndsBy}
+use Rattle.flat_queue.specs.Turns.{Misses}
+use Rattle.flat_queue.specs.Taking.{Awaited, PopsInVain, FindsNoneBy, Repeats, LooksNowBy, LooksForBy, TriesUntilFreeBy, TakesSo, TakesAtOnceBy}
+use Rattle.flat_queue.specs.Taking.{TakesNoneBy, TakesNoneYetBy, TakesOneSoBy, TakesOneBy, MayEnd, LooksUntilBy, LooksOnBy, TakesUntilBy, OrEndsBy}
 use Rattle.flat_queue.specs.declared.taking.Awaited.TheVariants as awaited
 use Rattle.flat_queue.specs.declared.looking.Wanted.{Wanted}
 use Rattle.flat_queue.specs.declared.looking.Wanted.TheVariants as wanted
@@ -23,7 +24,7 @@ use Rattle.flat_queue.specs.declared.looking.Looked.TheVariants as looked
 use Rattle.flat_queue.specs.declared.error.CallError.{CallError}
 use Rattle.flat_queue.specs.declared.error.CallError.TheVariants as error
 use Rattle.flat_queue.proofs.OwnRequests.{called_own}
-use Rattle.flat_queue.proofs.Misses.{missed_as, misses_keep, called_behind, one_behind}
+use Rattle.flat_queue.proofs.Misses.{missed_as, misses_keep, HasMissed, has_missed_so, few_behind, tells_behind}
 
 -- the member is of the queue that it was, and idle
 abbrev pub IdleStill : Joined → Joined → Type 0
@@ -78,14 +79,12 @@ refused words before after result e is h =
     }
 
 -- a look that took an item is a call that did
-pub look_takes : (words : ℕ) (wants : Wanted) (a c : Joined) (number : ℕ) (x : Item) → a.pen.posts < most_posts a.queue.room
-    → MissesThenLooksBy words wants a (looked.Taken number x) c → TakesSo (LooksForBy words wants) a (Ok (number, x)) c
-look_takes words wants a c number x few h =
-    let m = missed_as a h.missed.pen.read h.missed.pen.steps in
-    let here : LooksFirstBy words wants m (looked.Taken number x) c = subst (λ z. LooksFirstBy words wants z (looked.Taken number x) c) (misses_keep h.tries a h.missed h.misses) h.looks in
-    let call : MakesCall (EntersAtOnceBy words) (λ told. told) ⊥ m Pop (ended (Some (Entered number (Got x)))) c = called_own words (Entered number (Got x)) m c Pop ⊥ here.0.0 here.0.1 few (λ r e. r) in
+pub takes_now : (words : ℕ) (wants : Wanted) (a c : Joined) (number : ℕ) (x : Item) → a.pen.posts < most_posts a.queue.room
+    → LooksFirstBy words wants a (looked.Taken number x) c → TakesSo (LooksNowBy words wants) a (Ok (number, x)) c
+takes_now words wants a c number x few h =
+    let call : MakesCall (EntersAtOnceBy words) (λ told. told) ⊥ a Pop (ended (Some (Entered number (Got x)))) c = called_own words (Entered number (Got x)) a c Pop ⊥ h.0.0 h.0.1 few (λ r e. r) in
     record {
-      ok = called_behind a c h.missed.pen.read h.missed.pen.steps Pop number (Got x) call.ok;
+      ok = call.ok;
       err = tt;
       full = λ e. absurd (cc e);
       spent = (λ e. absurd (cc e), λ le. absurd (omega (arith, le, few)));
@@ -95,15 +94,13 @@ look_takes words wants a c number x few h =
     }
 
 -- so is one that was told that the journal is full
-pub look_full : (words : ℕ) (wants : Wanted) (a c : Joined) → a.pen.posts < most_posts a.queue.room
-    → MissesThenLooksBy words wants a looked.BookFull c → TakesSo (LooksForBy words wants) a (Err error.BookFull) c
-look_full words wants a c few h =
-    let m = missed_as a h.missed.pen.read h.missed.pen.steps in
-    let here : LooksFirstBy words wants m looked.BookFull c = subst (λ z. LooksFirstBy words wants z looked.BookFull c) (misses_keep h.tries a h.missed h.misses) h.looks in
-    let call : MakesCall (EntersAtOnceBy words) (λ told. told) ⊥ m Pop (ended (Some answer.BookFull)) c = called_own words answer.BookFull m c Pop ⊥ here.0 here.1 few (λ r e. r) in
+pub full_now : (words : ℕ) (wants : Wanted) (a c : Joined) → a.pen.posts < most_posts a.queue.room
+    → LooksFirstBy words wants a looked.BookFull c → TakesSo (LooksNowBy words wants) a (Err error.BookFull) c
+full_now words wants a c few h =
+    let call : MakesCall (EntersAtOnceBy words) (λ told. told) ⊥ a Pop (ended (Some answer.BookFull)) c = called_own words answer.BookFull a c Pop ⊥ h.0 h.1 few (λ r e. r) in
     record {
       ok = tt;
-      err = one_behind a c h.missed.pen.read h.missed.pen.steps _ _ call.err;
+      err = call.err;
       full = λ e. call.full refl;
       spent = (λ e. absurd (cc e), λ le. absurd (omega (arith, le, few)));
       turns = λ f. (looked.BookFull, refl, h);
@@ -111,9 +108,27 @@ look_full words wants a c few h =
       memory = λ room e. cc e;
     }
 
+-- a look behind tries that found the lock held is one of the member before them
+pub looks_behind : (words : ℕ) (wants : Wanted) (a c z : Joined) (r : Result (ℕ × Reply) CallError) → HasMissed a z → LooksNowBy words wants z Pop r c → LooksForBy words wants a Pop r c
+looks_behind words wants a c z r m (told, is, h) = (told, is, record { tries = m.tries; missed = z; misses = m.misses; looks = h })
+
+pub look_takes : (words : ℕ) (wants : Wanted) (a c : Joined) (number : ℕ) (x : Item) → a.pen.posts < most_posts a.queue.room
+    → MissesThenLooksBy words wants a (looked.Taken number x) c → TakesSo (LooksForBy words wants) a (Ok (number, x)) c
+look_takes words wants a c number x few h =
+    let m = has_missed_so h.tries a h.missed h.misses in
+    tells_behind (λ told. (told.0, Got told.1)) (LooksNowBy words wants) (LooksForBy words wants) a h.missed c Pop ⊤ (Ok (number, x)) m few
+    (λ r. looks_behind words wants a c h.missed r m) (takes_now words wants h.missed c number x (few_behind a h.missed m few) h.looks)
+
+pub look_full : (words : ℕ) (wants : Wanted) (a c : Joined) → a.pen.posts < most_posts a.queue.room
+    → MissesThenLooksBy words wants a looked.BookFull c → TakesSo (LooksForBy words wants) a (Err error.BookFull) c
+look_full words wants a c few h =
+    let m = has_missed_so h.tries a h.missed h.misses in
+    tells_behind (λ (told : ℕ × Item). (told.0, Got told.1)) (LooksNowBy words wants) (LooksForBy words wants) a h.missed c Pop ⊤ (Err error.BookFull) m few
+    (λ r. looks_behind words wants a c h.missed r m) (full_now words wants h.missed c (few_behind a h.missed m few) h.looks)
+
 -- and one that had no serial left
-pub look_spent : (words : ℕ) (wants : Wanted) (a : Joined) → most_posts a.queue.room ≤ a.pen.posts → TakesSo (LooksForBy words wants) a (Err error.Spent) a
-look_spent words wants a le =
+pub take_spent : (Turns : Joined → Request → Result (ℕ × Reply) CallError → Joined → Type 0) (a : Joined) → most_posts a.queue.room ≤ a.pen.posts → TakesSo Turns a (Err error.Spent) a
+take_spent Turns a le =
     record {
       ok = tt;
       err = (le, refl);
@@ -135,47 +150,30 @@ vain_idle words wants a c told i h bare =
 pub finds_idle : (words : ℕ) (a c : Joined) → is_idle a.pen.standing ≡ true → FindsNoneBy words a c → IdleStill a c
 finds_idle words a c i h = vain_idle words wanted.Anything a c looked.Nothing i h (λ b l. l.0)
 
--- one more look in vain
-pub once_more : (words : ℕ) (a m c : Joined) → (n : ℕ) × Repeats (FindsNoneBy words) n a m → FindsNoneBy words m c → (n : ℕ) × Repeats (FindsNoneBy words) n a c
-once_more words a m c (n, f) v = (suc n, (m, f, v))
+-- what looks behind a pop in vain come to, where no deadline ends them
+pub behind_taken : (words : ℕ) (a b c : Joined) (line number : ℕ) (x : Item) → PopsInVain a line b → LooksOnBy words (LooksUntilBy words (λ told. ⊥) line) b (Ok (Some (awaited.Taken number x))) c
+    → TakesOneBy words a (Ok (number, x)) c
+behind_taken words a b c line number x v (n, m, f, l) = inr (line, m, record { popped = b; in_vain = v; looks = n; found_none = f }, l)
 
-pub looks_on : (words : ℕ) {A : Type 0} (Looks : Joined → A → Joined → Type 0) (a m c : Joined) (result : A) → (n : ℕ) × Repeats (FindsNoneBy words) n a m → Looks m result c
-    → LooksOnBy words Looks a result c
-looks_on words Looks a m c result (n, f) l = (n, m, f, l)
+pub behind_over : (words : ℕ) (a b c : Joined) (line : ℕ) → PopsInVain a line b → LooksOnBy words (LooksUntilBy words (λ told. ⊥) line) b (Ok None) c
+    → OrEndsBy words (TakesOneBy words) a (Ok None) c
+behind_over words a b c line v (n, m, f, l) = (line, m, record { popped = b; in_vain = v; looks = n; found_none = f }, l)
 
--- what looks behind a pop in vain come to
-pub behind : (words : ℕ) (a b c : Joined) (line : ℕ) (result : Result (Option (ℕ × Item)) CallError) → PopsInVain a line b → LooksOnBy words (LooksOnceBy words) b result c
-    → OrEndsBy words (TakesOneBy words) a result c
-behind words a b c line (Ok (Some told)) v (n, m, f, l) = inr (line, m, record { popped = b; in_vain = v; looks = n; found_none = f }, l)
-behind words a b c line (Ok None) v (n, m, f, l) = (line, m, record { popped = b; in_vain = v; looks = n; found_none = f }, l)
-behind words a b c line (Err e) v (n, m, f, l) = inr (line, m, record { popped = b; in_vain = v; looks = n; found_none = f }, l)
+pub behind_refused : (words : ℕ) (a b c : Joined) (line : ℕ) (e : CallError) → PopsInVain a line b → LooksOnBy words (LooksUntilBy words (λ told. ⊥) line) b (Err e) c
+    → TakesOneBy words a (Err e) c
+behind_refused words a b c line e v (n, m, f, l) = inr (line, m, record { popped = b; in_vain = v; looks = n; found_none = f }, l)
 
+-- and where one may
 pub behind_until : (words : ℕ) (may_tell : Option Instant → Type 0) (deadline : Instant) (a b c : Joined) (line : ℕ) (result : Result (Option Awaited) CallError) → PopsInVain a line b
-    → LooksOnBy words (LooksUntilBy words may_tell deadline line) b result c → OrEndsBy words (TakesUntilBy words may_tell deadline) a result c
+    → LooksOnBy words (LooksUntilBy words (MayEnd may_tell deadline) line) b result c → OrEndsBy words (TakesUntilBy words may_tell deadline) a result c
 behind_until words may_tell deadline a b c line (Ok (Some (awaited.Taken number x))) v (n, m, f, l) = inr (line, m, record { popped = b; in_vain = v; looks = n; found_none = f }, l)
-behind_until words may_tell deadline a b c line (Ok (Some (awaited.Late number now))) v (n, m, f, (none, (is, late))) =
-    (subst (λ k. TakesNoneBy words a k c) (sym is) record { popped = b; in_vain = v; looks = suc n; found_none = (m, f, none) }, late)
-behind_until words may_tell deadline a b c line (Ok (Some (awaited.NoClock number))) v (n, m, f, (none, (is, unread))) =
-    (subst (λ k. TakesNoneBy words a k c) (sym is) record { popped = b; in_vain = v; looks = suc n; found_none = (m, f, none) }, unread)
+behind_until words may_tell deadline a b c line (Ok (Some (awaited.Late number now))) v (n, m, f, (is, late, misses)) =
+    ((m, subst (λ k. TakesNoneBy words a k m) (sym is) record { popped = b; in_vain = v; looks = n; found_none = f }, misses), late)
+behind_until words may_tell deadline a b c line (Ok (Some (awaited.NoClock number))) v (n, m, f, (is, unread, misses)) =
+    ((m, subst (λ k. TakesNoneBy words a k m) (sym is) record { popped = b; in_vain = v; looks = n; found_none = f }, misses), unread)
+behind_until words may_tell deadline a b c line (Ok (Some (awaited.Held told))) v (n, m, f, l) = absurd l
 behind_until words may_tell deadline a b c line (Ok None) v (n, m, f, l) = (line, m, record { popped = b; in_vain = v; looks = n; found_none = f }, l)
 behind_until words may_tell deadline a b c line (Err e) v (n, m, f, l) = inr (line, m, record { popped = b; in_vain = v; looks = n; found_none = f }, l)
-
--- what the clock told behind a look in vain
-pub told_late : (words : ℕ) (may_tell : Option Instant → Type 0) (deadline : Instant) (line : ℕ) (a c : Joined) (told : Option Awaited) → FindsNoneBy words a c → IfSome told (IsLate may_tell deadline line)
-    → LooksUntilBy words may_tell deadline line a (Ok told) c
-told_late words may_tell deadline line a c None v l = v
-told_late words may_tell deadline line a c (Some (awaited.Taken n x)) v l = absurd l
-told_late words may_tell deadline line a c (Some (awaited.Late n now)) v l = (v, l)
-told_late words may_tell deadline line a c (Some (awaited.NoClock n)) v l = (v, l)
-
--- and behind the pop
-pub late_at_once : (words : ℕ) (may_tell : Option Instant → Type 0) (deadline : Instant) (line : ℕ) (a b : Joined) (told : Awaited) → PopsInVain a line b → IsLate may_tell deadline line told
-    → OrEndsBy words (TakesUntilBy words may_tell deadline) a (Ok (Some told)) b
-late_at_once words may_tell deadline line a b (awaited.Taken n x) v l = absurd l
-late_at_once words may_tell deadline line a b (awaited.Late n now) v (is, late) =
-    (subst (λ k. TakesNoneBy words a k b) (sym is) record { popped = b; in_vain = v; looks = zero; found_none = refl }, late)
-late_at_once words may_tell deadline line a b (awaited.NoClock n) v (is, unread) =
-    (subst (λ k. TakesNoneBy words a k b) (sym is) record { popped = b; in_vain = v; looks = zero; found_none = refl }, unread)
 
 -- one that popped in vain is idle still
 pub idle_still : (before after : Joined) (number : ℕ) → PopsInVain before number after → IdleStill before after
@@ -205,17 +203,29 @@ none_idle : (words : ℕ) (before after : Joined) (line : ℕ) → TakesNoneBy w
 none_idle words before after line t =
     let r = idle_still before t.popped line t.in_vain in let s = repeats_idle (FindsNoneBy words) (finds_idle words) t.looks t.popped after r.1 t.found_none in (s.0 ∙ r.0, s.1)
 
-pub takes_idle : (words : ℕ) (before after : Joined) (result : Result (ℕ × Item) CallError) → is_idle before.pen.standing ≡ true → TakesOneBy words before result after → IdleStill before after
-takes_idle words before after result i (inl t) = ends_idle (EntersOrWaitsBy words) before after result i t
-takes_idle words before after result i (inr (line, m, v, t)) =
+one_idle : (words : ℕ) (Turns : Joined → Request → Result (ℕ × Reply) CallError → Joined → Type 0) (before after : Joined) (result : Result (ℕ × Item) CallError) → is_idle before.pen.standing ≡ true
+    → TakesOneSoBy words Turns before result after → IdleStill before after
+one_idle words Turns before after result i (inl t) = ends_idle Turns before after result i t
+one_idle words Turns before after result i (inr (line, m, v, t)) =
     let r = none_idle words before m line v in let s = ends_idle (LooksForBy words wanted.Anything) m after result r.1 t in (s.0 ∙ r.0, s.1)
+
+pub takes_idle : (words : ℕ) (before after : Joined) (result : Result (ℕ × Item) CallError) → is_idle before.pen.standing ≡ true → TakesOneBy words before result after → IdleStill before after
+takes_idle words before after result i t = one_idle words (EntersOrWaitsBy words) before after result i t
+
+missed_idle : (n : ℕ) (before after : Joined) → is_idle before.pen.standing ≡ true → Misses n before after → IdleStill before after
+missed_idle n before after i h = let m = has_missed_so n before after h in (m.queue, ap is_idle m.standing ∙ i)
+
+none_yet_idle : (words : ℕ) (before after : Joined) (line : ℕ) → TakesNoneYetBy words before line after → IdleStill before after
+none_yet_idle words before after line (m, v, (n, h)) =
+    let r = none_idle words before m line v in let s = missed_idle n m after r.1 h in (s.0 ∙ r.0, s.1)
 
 pub until_idle : (words : ℕ) (may_tell : Option Instant → Type 0) (deadline : Instant) (before after : Joined) (result : Result Awaited CallError) → is_idle before.pen.standing ≡ true
     → TakesUntilBy words may_tell deadline before result after → IdleStill before after
-until_idle words may_tell deadline before after (Ok (awaited.Taken number x)) i t = takes_idle words before after (Ok (number, x)) i t
-until_idle words may_tell deadline before after (Ok (awaited.Late number now)) i (t, late) = none_idle words before after number t
-until_idle words may_tell deadline before after (Ok (awaited.NoClock number)) i (t, unread) = none_idle words before after number t
-until_idle words may_tell deadline before after (Err e) i t = takes_idle words before after (Err e) i t
+until_idle words may_tell deadline before after (Ok (awaited.Taken number x)) i t = one_idle words (TriesUntilFreeBy words) before after (Ok (number, x)) i t
+until_idle words may_tell deadline before after (Ok (awaited.Late number now)) i (t, late) = none_yet_idle words before after number t
+until_idle words may_tell deadline before after (Ok (awaited.NoClock number)) i (t, unread) = none_yet_idle words before after number t
+until_idle words may_tell deadline before after (Ok (awaited.Held told)) i ((n, h), late) = missed_idle n before after i h
+until_idle words may_tell deadline before after (Err e) i t = one_idle words (TriesUntilFreeBy words) before after (Err e) i t
 
 -- so does a take that may be told the end, where it does without one
 pub or_ends_idle : (words : ℕ) {A : Type 0} (Takes : Joined → Result A CallError → Joined → Type 0) (before after : Joined) (result : Result (Option A) CallError)

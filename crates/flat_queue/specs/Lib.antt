@@ -24,4 +24,5 @@ pub mod Resting
 pub mod TrailRounds
 pub mod TrailSweeping
 pub mod Taking
+pub mod TakeSteps
 pub mod Due

@@ -8,8 +8,9 @@ use Rattle.pq_types.specs.declared.request.Request.TheVariants.{Pop}
 use Rattle.pq_types.specs.declared.answer.Reply.TheVariants.{Got, Empty}
 use Rattle.flat_queue.specs.Members.{Joined}
 use Rattle.flat_queue.specs.Calling.{IsCalled, MakesCall}
-use Rattle.flat_queue.specs.OwnRequest.{EntersOrWaitsBy}
-use Rattle.flat_queue.specs.Looking.{Looked, MissesThenLooksBy}
+use Rattle.flat_queue.specs.OwnRequest.{EntersAtOnceBy, EntersOrWaitsBy}
+use Rattle.flat_queue.specs.Turns.{Misses}
+use Rattle.flat_queue.specs.Looking.{Looked, LooksFirstBy, MissesThenLooksBy}
 use Rattle.flat_queue.specs.declared.error.CallError.{CallError}
 use Rattle.flat_queue.specs.declared.error.CallError.TheVariants.{BookFull}
 use Rattle.flat_queue.specs.declared.looking.Wanted.{Wanted}
@@ -42,6 +43,11 @@ ended_look (looked.Stays x) = None
 ended_look looked.Nothing = None
 ended_look looked.BookFull = Some (Err BookFull)
 
+-- the member looked once for such an item, which is what the call came to
+abbrev pub LooksNowBy : ℕ → Wanted → Joined → Request → Result (ℕ × Reply) CallError → Joined → Type 0
+LooksNowBy words wants before request result after =
+    (told : Looked) × (ended_look told ≡ Some result) × LooksFirstBy words wants before told after
+
 -- the member found the lock held some times, and then looked for such an item, which is what the call came to
 abbrev pub LooksForBy : ℕ → Wanted → Joined → Request → Result (ℕ × Reply) CallError → Joined → Type 0
 LooksForBy words wants before request result after =
@@ -51,6 +57,11 @@ LooksForBy words wants before request result after =
 abbrev pub TakesSo : (Joined → Request → Result (ℕ × Reply) CallError → Joined → Type 0)
     → Joined → Result (ℕ × Item) CallError → Joined → Type 0
 TakesSo Turns before result after = MakesCall Turns (λ told. (told.0, Got told.1)) ⊤ before Pop result after
+
+-- the member found the lock held some times, and then found it free and entered: it posted nothing
+abbrev pub TriesUntilFreeBy : ℕ → Joined → Request → Result (ℕ × Reply) CallError → Joined → Type 0
+TriesUntilFreeBy words before request result after =
+    (tries : ℕ) × (missed : Joined) × Misses tries before missed × EntersAtOnceBy words missed request result after
 
 -- so did a pop
 abbrev pub TakesAtOnceBy : ℕ → Joined → Result (ℕ × Item) CallError → Joined → Type 0
@@ -67,54 +78,63 @@ pub record TakesNoneBy (words : ℕ) (before : Joined) (line : ℕ) (after : Joi
   pub looks : ℕ
   pub found_none : Repeats (FindsNoneBy words) looks popped after
 
--- The member's pop took the item out, on the line that is told, or was refused, and this is why; or it took none so far,
--- and then its look did so.
-abbrev pub TakesOneBy : ℕ → Joined → Result (ℕ × Item) CallError → Joined → Type 0
-TakesOneBy words before result after =
-    TakesAtOnceBy words before result after
+-- the same, and then it found the lock held some times
+abbrev pub TakesNoneYetBy : ℕ → Joined → ℕ → Joined → Type 0
+TakesNoneYetBy words before line after = (last : Joined) × TakesNoneBy words before line last × ((tries : ℕ) × Misses tries last after)
+
+-- The member's pop, by such turns, took the item out, on the line that is told, or was refused, and this is why; or it took none
+-- so far, and then its look did so.
+abbrev pub TakesOneSoBy : ℕ → (Joined → Request → Result (ℕ × Reply) CallError → Joined → Type 0)
+    → Joined → Result (ℕ × Item) CallError → Joined → Type 0
+TakesOneSoBy words Turns before result after =
+    TakesSo Turns before result after
     ⊎ ((line : ℕ) × (last : Joined) × TakesNoneBy words before line last × TakesByLookBy words last result after)
+
+-- the same, where its pop entered at once, or waited
+abbrev pub TakesOneBy : ℕ → Joined → Result (ℕ × Item) CallError → Joined → Type 0
+TakesOneBy words = TakesOneSoBy words (EntersOrWaitsBy words)
 
 -- a clock that may tell such times, or none, told this one, which is not before the deadline
 abbrev pub IsToldLate : (may_tell : Option Instant → Type 0) → Instant → Instant → Type 0
 IsToldLate may_tell deadline now = may_tell (Some now) × (instant_nanos deadline ≤ instant_nanos now)
 
--- the clock told a time that is not before the deadline, or none, and this is the line of the pop in vain
-abbrev pub IsLate : (may_tell : Option Instant → Type 0) → Instant → ℕ → Awaited → Type 0
-IsLate may_tell deadline line (awaited.Taken number x) = ⊥
-IsLate may_tell deadline line (awaited.Late number now) = (number ≡ line) × IsToldLate may_tell deadline now
-IsLate may_tell deadline line (awaited.NoClock number) = (number ≡ line) × may_tell None
+-- such a clock told so, or told that it can't be read
+abbrev pub MayEnd : (may_tell : Option Instant → Type 0) → Instant → Option Instant → Type 0
+MayEnd may_tell deadline (Some now) = IsToldLate may_tell deadline now
+MayEnd may_tell deadline None = may_tell None
 
--- one look for any item: it took one, or was refused; or it found none
-abbrev pub LooksOnceBy : ℕ → Joined → Result (Option (ℕ × Item)) CallError → Joined → Type 0
-LooksOnceBy words before (Ok None) after = FindsNoneBy words before after
-LooksOnceBy words before (Ok (Some told)) after = TakesByLookBy words before (Ok told) after
-LooksOnceBy words before (Err error) after = TakesByLookBy words before (Err error) after
-
--- the same until a deadline, behind a pop in vain on this line
-abbrev pub LooksUntilBy : ℕ → (may_tell : Option Instant → Type 0) → Instant → ℕ → Joined → Result (Option Awaited) CallError → Joined → Type 0
-LooksUntilBy words may_tell deadline line before (Ok None) after = FindsNoneBy words before after
-LooksUntilBy words may_tell deadline line before (Ok (Some (awaited.Taken number x))) after =
-    TakesByLookBy words before (Ok (number, x)) after
-LooksUntilBy words may_tell deadline line before (Ok (Some (awaited.Late number now))) after =
-    FindsNoneBy words before after × IsLate may_tell deadline line (awaited.Late number now)
-LooksUntilBy words may_tell deadline line before (Ok (Some (awaited.NoClock number))) after =
-    FindsNoneBy words before after × IsLate may_tell deadline line (awaited.NoClock number)
-LooksUntilBy words may_tell deadline line before (Err error) after = TakesByLookBy words before (Err error) after
+-- What the looks of a take come to behind its pop, which found none on this line, where the clock may tell this as the deadline:
+-- the last one took an item, or was refused; or it found none, at the end of the queue; or the take ends late, behind a look,
+-- or where it found the lock held since.
+abbrev pub LooksUntilBy : ℕ → (may_end : Option Instant → Type 0) → ℕ → Joined → Result (Option Awaited) CallError → Joined → Type 0
+LooksUntilBy words may_end line before (Ok None) after = FindsNoneBy words before after
+LooksUntilBy words may_end line before (Ok (Some (awaited.Taken number x))) after = TakesByLookBy words before (Ok (number, x)) after
+LooksUntilBy words may_end line before (Ok (Some (awaited.Late number now))) after =
+    (number ≡ line) × may_end (Some now) × ((tries : ℕ) × Misses tries before after)
+LooksUntilBy words may_end line before (Ok (Some (awaited.NoClock number))) after =
+    (number ≡ line) × may_end None × ((tries : ℕ) × Misses tries before after)
+LooksUntilBy words may_end line before (Ok (Some (awaited.Held told))) after = ⊥
+LooksUntilBy words may_end line before (Err error) after = TakesByLookBy words before (Err error) after
 
 -- such looks, one after another, of which the last one came to this, and the others found none
 abbrev pub LooksOnBy : ℕ → {A : Type 0} → (Joined → A → Joined → Type 0) → Joined → A → Joined → Type 0
 LooksOnBy words Looks before result after =
     (looks : ℕ) × (last : Joined) × Repeats (FindsNoneBy words) looks before last × Looks last result after
 
--- What a take until a deadline comes to: it took one or was refused, as one without a deadline; or it took none, and
--- behind its pop, or its last look, the clock told a time that is not before the deadline, or none.
+-- What a take until a deadline comes to: it took one or was refused, as one without a deadline, but that its pop posted
+-- nothing; or it took none, and the clock told a time that is not before the deadline, or none; or it made no pop, as it found the
+-- lock held until the clock told so.
 abbrev pub TakesUntilBy : ℕ → (may_tell : Option Instant → Type 0) → Instant → Joined → Result Awaited CallError → Joined → Type 0
-TakesUntilBy words may_tell deadline before (Ok (awaited.Taken number x)) after = TakesOneBy words before (Ok (number, x)) after
+TakesUntilBy words may_tell deadline before (Ok (awaited.Taken number x)) after =
+    TakesOneSoBy words (TriesUntilFreeBy words) before (Ok (number, x)) after
 TakesUntilBy words may_tell deadline before (Ok (awaited.Late number now)) after =
-    TakesNoneBy words before number after × IsToldLate may_tell deadline now
+    TakesNoneYetBy words before number after × IsToldLate may_tell deadline now
 TakesUntilBy words may_tell deadline before (Ok (awaited.NoClock number)) after =
-    TakesNoneBy words before number after × may_tell None
-TakesUntilBy words may_tell deadline before (Err error) after = TakesOneBy words before (Err error) after
+    TakesNoneYetBy words before number after × may_tell None
+TakesUntilBy words may_tell deadline before (Ok (awaited.Held told)) after =
+    ((tries : ℕ) × Misses tries before after) × MayEnd may_tell deadline told
+TakesUntilBy words may_tell deadline before (Err error) after =
+    TakesOneSoBy words (TriesUntilFreeBy words) before (Err error) after
 
 -- The same of a take that heeds the end of its queue: it came to what one does that doesn't, or was refused so; or it tells
 -- the end, and took none: its last look found none.

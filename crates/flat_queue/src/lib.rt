@@ -44,7 +44,11 @@
 //!   has the lock, and tells how many were entered and what refused the next. `Queue::carry_out_pushes`,
 //!   `carry_out_pushes_unless_shut` and `carry_out_pops` do so where they find the lock free, and wake nobody.
 //! - `Queue::take` pops, and where that is in vain looks by `take_first` until it got an item, and sleeps behind each look in
-//!   vain until somebody has pushed; `Queue::take_until` does so until a deadline. Only the pop in vain has a line.
+//!   vain until somebody has pushed; `Queue::take_until` does so until a deadline, which ends its wait for the lock too. Only the
+//!   pop in vain has a line.
+//! - `Queue::step_take` makes one step of a take, and never waits: it tries the lock once at most, and tells how the take ends, or
+//!   from which stage it goes on. A take is to sleep only behind a step that announced it, looked, and found no item. The
+//!   takes here are loops over these steps, which rest and sleep between them, until a `Deadline`.
 //! - `Queue::take_due` is a delay queue, whose priorities are times (`Times`): it takes the first item out once it is due, and
 //!   sleeps until then. Only what it takes has a line.
 //! - `TimeSource` is where these calls have the time from: each time that one of them tells is one that it may tell, also where
@@ -92,6 +96,7 @@ mod calling;
 mod closing;
 pub mod combining;
 pub mod counting;
+pub mod deadline;
 pub mod due;
 pub mod ending;
 pub mod error;
@@ -111,9 +116,9 @@ mod own_request;
 pub mod pending;
 pub mod queue;
 pub mod resting;
-mod searching;
 mod settling;
 mod shutting;
+pub mod take_steps;
 pub mod taking;
 pub mod testimony;
 pub mod tickets;
@@ -128,6 +133,7 @@ pub use backlog::Backlog;
 pub use batches::{Batch, MOST_BATCH};
 pub use combining::Round;
 pub use counting::{Counts, Unpushed};
+pub use deadline::{By, Deadline, Never};
 pub use due::Due;
 pub use ending::{Ending, Shut};
 pub use error::{CallError, PushError, QueueError};
@@ -140,6 +146,7 @@ pub use member::{Arrival, Member, Newcomer};
 pub use pending::{Called, Pending};
 pub use queue::Queue;
 pub use resting::{Naps, Pause, Rest};
+pub use take_steps::{Left, TakeStage, TakeStepped, Took};
 pub use taking::Awaited;
 pub use time_source::TimeSource;
 pub use times::Times;

@@ -1,15 +1,18 @@
 // A pop that waits for an item, and sleeps meanwhile.
-ghost use Rattle.std.specs.Prelude.{◌≡◌, true, Ok, None, IfSome};
+ghost use Rattle.std.specs.Prelude.{◌≡◌, true, Ok, None};
 ghost use Rattle.desk_core.specs.Words.{word_number};
 ghost use Rattle.announce_board.specs.Tokens.{is_idle};
 ghost use Rattle.flat_queue.specs.declared.event_count.Wakes.TheVariants.{EventOrEnd};
-ghost use Rattle.flat_queue.specs.Taking.{TakesOneBy, TakesUntilBy, OrEndsBy, IsLate};
+ghost use Rattle.flat_queue.specs.Taking.{TakesOneBy, TakesUntilBy, OrEndsBy, LooksUntilBy, LooksOnBy};
 
+use crate::deadline::{By, Deadline, Never};
 use crate::error::CallError;
 use crate::event_count::Wakes;
 use crate::handle::Handle;
 use crate::member::Member;
 use crate::queue::Queue;
+use crate::resting::Rest;
+use crate::take_steps::{Left, TakeStage, TakeStepped, awaited_by};
 use crate::time_source::TimeSource;
 use leftist_heap::Store;
 use pq_book::Entry;
@@ -22,10 +25,13 @@ use std::time::Instant;
 pub enum Awaited<I = Item> {
     /// The journal has this line of it, and this is the item.
     Taken(u64, I),
-    /// No item came: the line of the pop in vain, and the time that the clock told thereafter, which is not before the deadline.
+    /// No item came: the line of the pop in vain, and a time that the clock told, which is not before the deadline.
     Late(u64, Instant),
     /// There was no item, and the clock can't be read: the line of the pop in vain.
     NoClock(u64),
+    /// Others held the lock, and no pop was made: a time that the clock told, which is not before the deadline; or none, as it
+    /// can't be read.
+    Held(Option<Instant>),
 }
 
 impl<S: Store<Entry<P>>, P: Part> Queue<S, P> {
@@ -49,8 +55,10 @@ impl<S: Store<Entry<P>>, P: Part> Queue<S, P> {
         }
     }
 
-    /// The same until a deadline, by this clock: `Late` only where the clock tells that it has come, behind a pop or a look in
-    /// vain. Where it has passed before, it pops alone.
+    /// The same until a deadline, by this clock: `Late` only where the clock tells that it has come, behind a pop in vain. Where it
+    /// has passed before, it pops alone. The deadline ends a wait for the lock too: where others hold that, a take whose pop
+    /// found no item is `Late`, and one that has made no pop is `Held`. So its pop posts nothing, as a post can't be taken back: it
+    /// tries until the lock is free.
     pub fn take_until<R: Wait + TimeSource>(
         &self,
         rt: &R,
@@ -82,12 +90,17 @@ impl<S: Store<Entry<P>>, P: Part> Queue<S, P> {
     {
         match self.pop(rt, member) {
             Ok((number, Some(item))) => Ok(Some((number, item))),
-            Ok((_, None)) => self.look_on(rt, member, wakes),
+            Ok((line, None)) => match self.look_on(rt, member, line, &Never, wakes) {
+                Ok(Some(Awaited::Taken(number, item))) => Ok(Some((number, item))),
+                Ok(Some(_)) => unreachable!(),
+                Ok(None) => Ok(None),
+                Err(error) => Err(error),
+            },
             Err(error) => Err(self.pass_on(error)),
         }
     }
 
-    /// The same until a deadline.
+    /// The same until a deadline. It asks the clock once it has found the lock held, or no item.
     pub(crate) fn take_waking_until<R: Wait + TimeSource>(
         &self,
         rt: &R,
@@ -100,13 +113,78 @@ impl<S: Store<Entry<P>>, P: Part> Queue<S, P> {
         ensures takes { OrEndsBy (word_number P.wide) (TakesUntilBy (word_number P.wide) (R.may_tell rt.now) deadline) member.old result member.new }
         ensures heeds { result ≡ Ok None → wakes ≡ EventOrEnd }
     {
-        match self.pop(rt, member) {
-            Ok((number, Some(item))) => Ok(Some(Awaited::Taken(number, item))),
-            Ok((line, None)) => match late(rt, line, deadline) {
-                Some(awaited) => Ok(Some(awaited)),
-                None => self.look_on_until(rt, member, line, deadline, wakes),
-            },
-            Err(error) => Err(self.pass_on(error)),
+        let by = By {
+            clock: rt,
+            at: deadline,
+        };
+        let mut rests = member.rest().of_tries();
+        let mut clock = (Left::Enough, None);
+        for _ in rt.forever() {
+            let told = self.step_take(member, TakeStage::Pops, wakes, clock.0);
+            self.waiters.wake_owed();
+            match told {
+                TakeStepped::Ends(took) => return awaited_by(took, clock.1),
+                TakeStepped::Goes(next) => match next {
+                    TakeStage::Pops => rests.rest(rt, self.joined()),
+                    TakeStage::Announces(line) => {
+                        return self.look_on(rt, member, line, &by, wakes);
+                    }
+                    TakeStage::Looks(_, _, _) | TakeStage::Sleeps(_, _) => unreachable!(),
+                },
+            }
+            clock = by.left();
+        }
+        unreachable!()
+    }
+
+    // Looks for any item by steps, behind a pop that found none on this line, and sleeps between its looks, or rests where it
+    // found the lock held. `None` at the end of the queue: a look that began once that was over found no item.
+    #[tactic(auto, using(crate::proofs::TakeStepping::looks_first))]
+    fn look_on<R: Wait, D: Deadline>(
+        &self,
+        rt: &R,
+        member: &mut Member<S, P>,
+        line: u64,
+        deadline: &D,
+        wakes: Wakes,
+    ) -> Result<Option<Awaited<Item<P>>>, CallError>
+        requires queue { member.old.queue ≡ self.now }
+        requires idle { is_idle member.old.pen.standing ≡ true }
+        ensures looks { LooksOnBy (word_number P.wide) (LooksUntilBy (word_number P.wide) (D.may_end deadline.now) line)
+            member.old result member.new }
+        ensures heeds { result ≡ Ok None → wakes ≡ EventOrEnd }
+    {
+        let mut rests = member.rest().of_tries();
+        let mut stage = TakeStage::Announces(line);
+        for _ in rt.forever() {
+            let (left, now) = deadline.left();
+            let told = self.step_take(member, stage, wakes, left);
+            self.waiters.wake_owed();
+            match told {
+                TakeStepped::Ends(took) => return awaited_by(took, now),
+                TakeStepped::Goes(next) => {
+                    self.rest_before(rt, next, &mut rests, deadline, wakes);
+                    stage = next;
+                }
+            }
+        }
+        unreachable!()
+    }
+
+    // What one does before a step at this stage of a take: it sleeps, or rests.
+    fn rest_before<R: Wait, D: Deadline>(
+        &self,
+        rt: &R,
+        stage: TakeStage,
+        rests: &mut Rest,
+        deadline: &D,
+        wakes: Wakes,
+    ) {
+        match stage {
+            TakeStage::Sleeps(_, seen) => deadline.sleep(rt, &self.waiters, seen, wakes),
+            TakeStage::Pops | TakeStage::Announces(_) | TakeStage::Looks(_, _, _) => {
+                rests.rest(rt, self.joined());
+            }
         }
     }
 
@@ -118,27 +196,6 @@ impl<S: Store<Entry<P>>, P: Part> Queue<S, P> {
         self.waiters.wake_owed();
         error
     }
-}
-
-// How a wait ends behind a pop in vain that has this line: the deadline has come, or the clock can't be read. `None`:
-// it goes on.
-pub(crate) fn late<C: TimeSource, P: Part>(
-    clock: &C,
-    line: u64,
-    deadline: Instant,
-) -> Option<Awaited<Item<P>>>
-    ensures { IfSome result (IsLate (C.may_tell clock.now) deadline line) }
-{
-    let Some(now) = clock.time() else {
-        return Some(Awaited::NoClock(line));
-    };
-    if deadline
-        .checked_duration_since(now)
-        .is_some_and(|left| !left.is_zero())
-    {
-        return None;
-    }
-    Some(Awaited::Late(line, now))
 }
 
 impl<'q, S: Store<Entry<P>>, P: Part> Handle<'q, S, P> {

@@ -1,22 +1,33 @@
-use Rattle.std.proofs.Common.{ap, inl, subst, sym, ◌∙◌}
-use Rattle.std.specs.Prelude.{Ok, Err}
+use Rattle.std.proofs.Common.{◌≡◌, ◌∙◌, sym, subst}
 use Rattle.desk_core.specs.Words.{word_number}
-use Rattle.flat_queue.specs.Taking.{TakesAtOnceBy}
-use Rattle.flat_queue.proofs.Takings.{taken, refused, in_vain, behind_until}
+use Rattle.flat_queue.specs.Taking.{TakesUntilBy, OrEndsBy}
+use Rattle.flat_queue.specs.TakeSteps.{TakeStepsBy}
+use Rattle.flat_queue.specs.declared.take_steps.Left.TheVariants.{Nothing}
+use Rattle.flat_queue.specs.declared.take_steps.TakeStage.TheVariants.{Pops}
+use Rattle.flat_queue.specs.declared.take_steps.TakeStepped.TheVariants.{Goes}
+use Rattle.flat_queue.proofs.Takings.{behind_until}
+use Rattle.flat_queue.proofs.TakeStepping.{pop_ends, pop_behind, pop_goes, missed_yet}
 use Rattle.flat_queue.proofs.queue.Queue.take_waking_until.Goals as goal
 
-pub returns-in-Ok-default-Some-clause-takes : goal.returns-in-Ok-default-Some-clause-takes
-returns-in-Ok-default-Some-clause-takes g c =
-    let t = c.in-Ok-default-Some in
-    inl (taken _ c.args.member.now c.pop.new.member c.pop.result t.number t.item (t.is ∙ ap (λ f. Ok (t.number, f)) t.field-0-1-is) c.pop.ensures)
+pub returns-in-Ends-clause-takes : goal.returns-in-Ends-clause-takes
+returns-in-Ends-clause-takes g c =
+    let may_tell = g.R.TimeSource.may_tell c.args.rt.now in
+    subst (λ r. OrEndsBy (word_number g.P.Part.wide) (TakesUntilBy (word_number g.P.Part.wide) may_tell c.args.deadline) c.args.member.now r c.step_take-told.new.member) (sym c.awaited_by.ensures)
+    (pop_ends _ (c.loop.clock.0 ≡ Nothing) may_tell c.args.deadline c.args.member.now c.loop.member c.step_take-told.new.member c.in-Ends.took c.loop.clock.1 c.loop.invariant.2
+    c.in-Ends.ensures.steps c.loop.invariant.3)
 
-pub returns-in-None-clause-takes : goal.returns-in-None-clause-takes
-returns-in-None-clause-takes g c =
-    let t = c.in-Ok-default-None in
-    behind_until _ (g.R.TimeSource.may_tell c.args.rt.now) c.args.deadline c.args.member.now c.pop.new.member c.look_on_until.new.member t.line c.look_on_until.result
-    (in_vain _ c.args.member.now c.pop.new.member c.pop.result t.line (t.is ∙ ap (λ f. Ok (t.line, f)) t.field-0-1-is) c.pop.ensures) c.look_on_until.ensures.looks
+pub returns-in-Announces-clause-takes : goal.returns-in-Announces-clause-takes
+returns-in-Announces-clause-takes g c =
+    let it = c.in-Announces in
+    let after = c.step_take-told.new.member in
+    let h = subst (λ s. TakeStepsBy (word_number g.P.Part.wide) (c.loop.clock.0 ≡ Nothing) Pops c.loop.member (Goes s) after) it.is c.in-Goes.ensures.steps in
+    behind_until _ (g.R.TimeSource.may_tell c.args.rt.now) c.args.deadline c.args.member.now after c.look_on.new.member it.line c.look_on.result
+    (pop_behind c.args.member.now c.loop.member after it.line c.loop.invariant.2 h) c.look_on.ensures.looks
 
-pub returns-in-Err-clause-takes : goal.returns-in-Err-clause-takes
-returns-in-Err-clause-takes g c =
-    inl (subst (λ r. TakesAtOnceBy (word_number g.P.Part.wide) c.args.member.now (Err r) c.pop.new.member) (sym c.pass_on.ensures)
-    (refused _ c.args.member.now c.pop.new.member c.pop.result c.in-Err.error c.in-Err.is c.pop.ensures))
+pub loop-preserved : goal.loop-preserved
+loop-preserved g c =
+    let after = c.step_take-told.new.member in
+    let late = c.loop.clock.0 ≡ Nothing in
+    let h = subst (λ s. TakeStepsBy (word_number g.P.Part.wide) late Pops c.loop.member (Goes s) after) c.in-Pops.is c.in-Goes.ensures.steps in
+    let i = pop_goes (word_number g.P.Part.wide) late c.loop.member after Pops c.loop.invariant.1 h in
+    (i.0 ∙ c.loop.invariant.0, i.1, missed_yet c.args.member.now c.loop.member after c.loop.invariant.2 h, c.left-clock.ensures)

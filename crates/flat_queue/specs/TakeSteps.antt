@@ -1,0 +1,98 @@
+-- What one step of a take makes of its member.
+use Rattle.std.specs.Prelude.{◌≡◌, ℕ, ◌<◌, ◌⊎◌, Option, Some, None, Result, Ok, Err}
+use Rattle.std.specs.declared.time.Instant.{Instant}
+use Rattle.pq_types.specs.Item.{Item}
+use Rattle.pq_types.specs.Asked.{Answer}
+use Rattle.pq_types.specs.declared.answer.Reply.TheVariants.{Pushed, Got, Empty, Least as LeastIs}
+use Rattle.pq_types.specs.declared.answer.Answer.TheVariants.{Entered}
+use Rattle.pq_types.specs.declared.answer.Answer.TheVariants as answer
+use Rattle.flat_queue.specs.Limits.{most_posts}
+use Rattle.flat_queue.specs.Members.{Joined}
+use Rattle.flat_queue.specs.OwnRequest.{EntersAtOnceBy}
+use Rattle.flat_queue.specs.Turns.{FindsLockHeld}
+use Rattle.flat_queue.specs.Looking.{LooksFirstBy}
+use Rattle.flat_queue.specs.Taking.{Awaited, PopsInVain, TakesSo, LooksNowBy}
+use Rattle.flat_queue.specs.declared.error.CallError.{CallError}
+use Rattle.flat_queue.specs.declared.error.CallError.TheVariants as error
+use Rattle.flat_queue.specs.declared.looking.Wanted.TheVariants as wanted
+use Rattle.flat_queue.specs.declared.looking.Looked.TheVariants as looked
+use Rattle.flat_queue.specs.declared.taking.Awaited.TheVariants as awaited
+use Rattle.flat_queue.specs.declared.take_steps.TakeStage.{TakeStage}
+use Rattle.flat_queue.specs.declared.take_steps.TakeStage.TheVariants as stage
+use Rattle.flat_queue.specs.declared.take_steps.Took.{Took as TookOf}
+use Rattle.flat_queue.specs.declared.take_steps.Took.TheVariants as took
+use Rattle.flat_queue.specs.declared.take_steps.TakeStepped.{TakeStepped as TakeSteppedOf}
+use Rattle.flat_queue.specs.declared.take_steps.TakeStepped.TheVariants as stepped
+
+-- what a take came to, and what a step of it came to, of items of any width
+abbrev pub Took : Type 0
+Took = TookOf Item
+
+abbrev pub TakeStepped : Type 0
+TakeStepped = TakeSteppedOf Item
+
+-- the member looked once for any item, found none, and made no request; here, and in all that follows, items have so many words
+abbrev pub SeesNoneBy : ℕ → Joined → Joined → Type 0
+SeesNoneBy words before after = LooksFirstBy words wanted.Anything before looked.Nothing after
+
+-- the member, which has a serial left, tried the lock once, and found it held
+abbrev pub FindsHeldYet : Joined → Joined → Type 0
+FindsHeldYet before after = (before.pen.posts < most_posts before.queue.room) × FindsLockHeld before after
+
+-- The member tried once to carry a pop of its own out. The pop took the item out, or was refused; or it found none, and the
+-- take is to announce itself; or the member found the lock held, and tries again, or ends where the deadline has come.
+abbrev pub PopsOnceBy : ℕ → (late : Type 0) → Joined → TakeStepped → Joined → Type 0
+PopsOnceBy words late before (stepped.Ends (took.Taken number x)) after = TakesSo (EntersAtOnceBy words) before (Ok (number, x)) after
+PopsOnceBy words late before (stepped.Ends (took.Refused error)) after = TakesSo (EntersAtOnceBy words) before (Err error) after
+PopsOnceBy words late before (stepped.Ends (took.Late line)) after = ⊥
+PopsOnceBy words late before (stepped.Ends took.Held) after = late × FindsHeldYet before after
+PopsOnceBy words late before (stepped.Ends (took.Over line)) after = ⊥
+PopsOnceBy words late before (stepped.Goes stage.Pops) after = FindsHeldYet before after
+PopsOnceBy words late before (stepped.Goes (stage.Announces line)) after = PopsInVain before line after
+PopsOnceBy words late before (stepped.Goes (stage.Looks line seen is_last)) after = ⊥
+PopsOnceBy words late before (stepped.Goes (stage.Sleeps line seen)) after = ⊥
+
+-- The member looked once for any item, in a take whose pop found none on this line. The look took an item out, or was refused;
+-- or it found none, and the take sleeps, or ends as the deadline or the end of the queue has come; or the member found the lock
+-- held, and is to look again, or ends as the deadline has come.
+abbrev pub LooksOneTimeBy : ℕ → (late : Type 0) → (line : ℕ) → Joined → TakeStepped → Joined → Type 0
+LooksOneTimeBy words late line before (stepped.Ends (took.Taken number x)) after =
+    TakesSo (LooksNowBy words wanted.Anything) before (Ok (number, x)) after
+LooksOneTimeBy words late line before (stepped.Ends (took.Refused error)) after =
+    TakesSo (LooksNowBy words wanted.Anything) before (Err error) after
+LooksOneTimeBy words late line before (stepped.Ends (took.Late number)) after =
+    (number ≡ line) × late × (FindsHeldYet before after ⊎ SeesNoneBy words before after)
+LooksOneTimeBy words late line before (stepped.Ends took.Held) after = ⊥
+LooksOneTimeBy words late line before (stepped.Ends (took.Over number)) after = (number ≡ line) × SeesNoneBy words before after
+LooksOneTimeBy words late line before (stepped.Goes stage.Pops) after = ⊥
+LooksOneTimeBy words late line before (stepped.Goes (stage.Announces number)) after = ⊥
+LooksOneTimeBy words late line before (stepped.Goes (stage.Looks number seen is_last)) after =
+    (number ≡ line) × FindsHeldYet before after
+LooksOneTimeBy words late line before (stepped.Goes (stage.Sleeps number seen)) after = (number ≡ line) × SeesNoneBy words before after
+
+-- What a step at this stage made of its member, where `late` says that the deadline has come: it tried to pop once, or looked
+-- once; or it did nothing, as the deadline had come before its first look.
+abbrev pub TakeStepsBy : ℕ → (late : Type 0) → TakeStage → Joined → TakeStepped → Joined → Type 0
+TakeStepsBy words late stage.Pops before result after = PopsOnceBy words late before result after
+TakeStepsBy words late (stage.Announces line) before result after =
+    LooksOneTimeBy words late line before result after ⊎ ((result ≡ stepped.Ends (took.Late line)) × late × (after ≡ before))
+TakeStepsBy words late (stage.Looks line seen is_last) before result after = LooksOneTimeBy words late line before result after
+TakeStepsBy words late (stage.Sleeps line seen) before result after = LooksOneTimeBy words late line before result after
+
+-- what a step comes to whose pop was so answered
+abbrev pub popped_by : Answer → TakeStepped
+popped_by (Entered number Pushed) = stepped.Goes (stage.Announces number)
+popped_by (Entered number (Got x)) = stepped.Ends (took.Taken number x)
+popped_by (Entered number (LeastIs x)) = stepped.Goes (stage.Announces number)
+popped_by (Entered number Empty) = stepped.Goes (stage.Announces number)
+popped_by answer.BookFull = stepped.Ends (took.Refused error.BookFull)
+popped_by answer.NoMemory = stepped.Ends (took.Refused error.NoMemory)
+
+-- what a take comes back with that came to this, where the clock told this time last, or none
+abbrev pub awaited_by : Took → Option Instant → Result (Option Awaited) CallError
+awaited_by (took.Taken number x) told = Ok (Some (awaited.Taken number x))
+awaited_by (took.Refused error) told = Err error
+awaited_by (took.Late line) (Some now) = Ok (Some (awaited.Late line now))
+awaited_by (took.Late line) None = Ok (Some (awaited.NoClock line))
+awaited_by took.Held told = Ok (Some (awaited.Held told))
+awaited_by (took.Over line) told = Ok None

@@ -164,6 +164,7 @@ impl<S: Store<Entry<P>>, P: Part> Queue<S, P> {
                 TakeStepped::Ends(took) => return awaited_by(took, now),
                 TakeStepped::Goes(next) => {
                     self.rest_before(rt, next, &mut rests, deadline, wakes);
+                    rests = rests_at(next, rests, member.rest());
                     stage = next;
                 }
             }
@@ -195,6 +196,14 @@ impl<S: Store<Entry<P>>, P: Part> Queue<S, P> {
         self.waiters.count(1);
         self.waiters.wake_owed();
         error
+    }
+}
+
+// How a take rests on from this stage: a look that begins does so afresh, as its member is to.
+fn rests_at(stage: TakeStage, rests: Rest, afresh: Rest) -> Rest {
+    match stage {
+        TakeStage::Looks(_, _, _) => rests,
+        TakeStage::Pops | TakeStage::Announces(_) | TakeStage::Sleeps(_, _) => afresh.of_tries(),
     }
 }
 

@@ -451,3 +451,22 @@ fn a_handle_that_led_owes_no_wake(rt: HostRuntime) -> Result<(), Fail> {
     waiters.end_wait();
     Ok(())
 }
+
+// A take beside a thread that keeps the lock ends at its deadline. It has made no request, and leaves none behind.
+#[test]
+fn a_deadline_ends_a_wait_for_the_lock(rt: HostRuntime) -> Result<(), Fail> {
+    let (queue, mut newcomers) = opened(&rt, rt.alloc(), &[1, 2]);
+    let mut leader = entered(&rt, &queue, &mut newcomers);
+    let mut handle = entered(&rt, &queue, &mut newcomers);
+    let deadline = Instant::now(&rt)
+        .expect(&rt, "there is a clock")
+        .checked_add(Duration::from_millis(30))
+        .expect(&rt, "there is such a time");
+    let lead = leader.lead().expect(&rt, "the lock is free");
+    let told = handle.take_until(&rt, deadline);
+    leader.release(lead);
+    assert!(&rt; matches!(told, Ok(Awaited::Held(Some(now))) if now >= deadline));
+    assert!(&rt; handle.posts() == 0 && handle.settle() == Some(0));
+    is_awaited_by_nobody(&rt, &queue);
+    Ok(())
+}

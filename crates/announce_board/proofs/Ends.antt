@@ -7,7 +7,8 @@ use Rattle.atomic_table.specs.Table.{Final, Seen}
 use Rattle.pq_types.specs.declared.control.Control.TheVariants.{Nothing}
 use Rattle.pq_types.specs.Item.{item}
 use Rattle.pq_book.specs.Book.{Volume}
-use Rattle.desk_core.specs.Dealing.{Deals, MovesReach}
+use Rattle.desk_core.specs.Dealing.{Deals, MovesReach, EveryDealtRunIsLinearizable}
+use Rattle.desk_core.specs.Times.{EveryDealtRunIsTimed}
 use Rattle.desk_core.specs.Desk.{Desk, Has, volume}
 use Rattle.desk_core.specs.Keeping.{PensAreSeated}
 use Rattle.desk_core.specs.Knows.{Knows, HomeIsKnown}
@@ -20,8 +21,9 @@ use Rattle.desk_core.specs.declared.model.View.{View}
 use Rattle.desk_core.specs.declared.model.View.TheVariants.{Dealer, Holder, Testimony}
 use Rattle.announce_board.specs.Rule.{Keeps, Seated, desk_of, book_at_home}
 use Rattle.announce_board.specs.Steps.{pen_at}
-use Rattle.announce_board.specs.Opening.{OpeningKept, DealingAllowed, EndsAreTold, IsHomeBook, IsHomeWith, IsHeldWith, AllRetired, IsHomeWithAll, AllKnow}
+use Rattle.announce_board.specs.Opening.{OpeningKept, DealingAllowed, EndsAreTold, IsHomeBook, IsHomeWith, IsHeldWith, AllRetired, IsHomeWithAll, AllKnow, LinesAreOf}
 use Rattle.announce_board.proofs.Allows.{book_there}
+use Rattle.announce_board.proofs.Lines.{lines_are_of}
 use Rattle.announce_board.proofs.Retiring.{AllRest, NotRetired, pen_rests, stays_set, stays_more}
 use Rattle.announce_board.proofs.Same.{not_true}
 
@@ -90,8 +92,9 @@ nobody_leads d chief id pens places stay at all q has leads =
     let f : p ≡ q = cc in
     true≢false (sym leads ∙ (ap (λ (x : PenState). x.leading) (sym f) ∙ idle))
 
-pub ends_are_told : (wide : Bool) (roomy : ℕ → Type 0) → WordsAreReadBack → HomeIsKnown → PensAreSeated → EndsAreTold wide roomy
-ends_are_told wide roomy read known seated room places s k =
+pub ends_are_told : (wide : Bool) (roomy : ℕ → Type 0) → WordsAreReadBack → HomeIsKnown → PensAreSeated → EveryDealtRunIsLinearizable → EveryDealtRunIsTimed
+    → EndsAreTold wide roomy
+ends_are_told wide roomy read known seated linear timed room places s k =
     let back = read wide places s.words k.held k.control k.cells k.words in
     let d : Desk = desk_of room places k.held k.control k.cells s.homes s.views in
     let journal = k.meets.0 in
@@ -133,6 +136,7 @@ ends_are_told wide roomy read known seated room places s k =
             λ i p of gone.
                 let t = k.stay id pens i p at of gone in
                 subst (λ r. Knows r p journal) (sym (seated d t.0.0 p k.meets t.0.1).room) (known d t.0.0 p journal k.meets t.0.1 at_home),
+            lines_are_of linear timed places room d journal k.meets.2.room_in_range k.reached k.meets.2.seated at_home,
           );
     }
 
@@ -176,13 +180,13 @@ closes_with wide roomy ends room places id m words slots lock slot is (s, seen, 
 -- the Book that was in the slot of a table which was closed with a testimony of all pens
 pub closes_all : (wide : Bool) (roomy : ℕ → Type 0) → EndsAreTold wide roomy → (room places id : ℕ) (v : View) (pens : List PenState) (words : List ℕ) (slots : List (Option Volume)) (slot : Option Volume)
     → v ≡ Testimony pens → Final (Seen (Keeps wide roomy room places) id v) words slots → AllRetired places pens → get_elem? slots 0 ≡ some slot
-    → (book : Volume) × (slot ≡ Some book) × IsHomeWithAll room pens book × AllKnow pens book
+    → (book : Volume) × (slot ≡ Some book) × IsHomeWithAll room pens book × AllKnow pens book × LinesAreOf places book.journal
 closes_all wide roomy ends room places id v pens words slots slot is (s, seen, same, long, values) all last =
     let t = (ends room places s seen.0).all id pens (seen.1 ∙ ap some is) all in
     let there = values 0 (Some t.0) t.1 in
     let f : some (Some t.0) ≡ some slot = sym there ∙ last in
     let g : slot ≡ Some t.0 = cc in
-    (t.0, g, t.2, t.3)
+    (t.0, g, t.2, t.3, t.4)
 
 -- the one Book in a slot
 pub book_got : (book got : Volume) (slot : Option Volume) → slot ≡ Some book → slot ≡ Some got → book ≡ got
@@ -191,10 +195,10 @@ book_got book got slot e f = let g : Some book ≡ Some got = sym e ∙ f in cc
 -- the same, named otherwise
 pub closes_all_as : (wide : Bool) (roomy : ℕ → Type 0) → EndsAreTold wide roomy → (room room' places places' id : ℕ) (v : View) (pens : List PenState) (words : List ℕ) (slots : List (Option Volume)) (slot : Option Volume)
     → v ≡ Testimony pens → Final (Seen (Keeps wide roomy room places) id v) words slots → get_elem? slots 0 ≡ some slot → room ≡ room' → places ≡ places'
-    → AllRetired places' pens → (book : Volume) × (slot ≡ Some book) × IsHomeWithAll room' pens book × AllKnow pens book
+    → AllRetired places' pens → (book : Volume) × (slot ≡ Some book) × IsHomeWithAll room' pens book × AllKnow pens book × LinesAreOf places' book.journal
 closes_all_as wide roomy ends room room' places places' id v pens words slots slot is final last e f all =
     let t = closes_all wide roomy ends room places id v pens words slots slot is final (subst (λ n. AllRetired n pens) (sym f) all) last in
-    (t.0, t.1, subst (λ r. IsHomeWithAll r pens t.0) e t.2, t.3)
+    (t.0, t.1, subst (λ r. IsHomeWithAll r pens t.0) e t.2, t.3, subst (λ n. LinesAreOf n t.0.journal) f t.4)
 
 -- the lock word of a table that was closed with the seat of a pen, where it was not 0
 pub closes_held : (wide : Bool) (roomy : ℕ → Type 0) → EndsAreTold wide roomy → (room places id : ℕ) (m : Seated) (words : List ℕ) (slots : List (Option Volume)) (lock : ℕ) → m.0 ≡ Holder (pen_at m)

@@ -15,3 +15,4 @@ mod NoteSteps
 mod TestimonySteps
 mod Retiring
 mod Dealing
+mod Lines

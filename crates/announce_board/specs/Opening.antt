@@ -7,6 +7,7 @@ use Rattle.std.specs.List.{All}
 use Rattle.atomic_table.specs.Table.{State, Splits, opening}
 use Rattle.atomic_table.specs.Seated.{TableId}
 use Rattle.pq_types.specs.declared.journal.TheConstants.{GREATEST_NUMBER}
+use Rattle.pq_types.specs.Asked.{Line}
 use Rattle.pq_book.specs.Book.{Volume}
 use Rattle.desk_core.specs.Pen.{new_pen}
 use Rattle.desk_core.specs.Dealing.{IsReached}
@@ -104,6 +105,10 @@ pub record IsHomeWithAll (room : ℕ) (pens : List PenState) (book : Volume) : T
 abbrev pub AllKnow : List PenState → Volume → Type 0
 AllKnow pens book = OfEachRetired pens (λ p. Knows p.room p book.journal)
 
+-- each line of this journal is of one of so many places
+abbrev pub LinesAreOf : ℕ → List Line → Type 0
+LinesAreOf places journal = (i : ℕ) (l : Line) → slice_get journal i ≡ Some l → l.place < places
+
 -- the table of a desk before all steps keeps the rule
 abbrev pub OpeningKept : Bool → (ℕ → Type 0) → Type 0
 OpeningKept wide roomy = (room places : ℕ) → room ≤ GREATEST_NUMBER
@@ -129,6 +134,7 @@ pub record Ends (room places : ℕ) (s : State (Option Volume) View) : Type 0 wh
       → get_elem? s.views id ≡ some m.0 → (pen_at m).leading ≡ true
   pub all : (id : ℕ) (pens : List PenState) → get_elem? s.views id ≡ some (Testimony pens) → AllRetired places pens
       → (book : Volume) × (get_elem? s.homes 0 ≡ some (some (Some book))) × IsHomeWithAll room pens book × AllKnow pens book
+      × LinesAreOf places book.journal
 
 abbrev pub EndsAreTold : Bool → (ℕ → Type 0) → Type 0
 EndsAreTold wide roomy = (room places : ℕ) (s : State (Option Volume) View) → Keeps wide roomy room places s → Ends room places s

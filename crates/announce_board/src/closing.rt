@@ -3,7 +3,7 @@ ghost use Rattle.std.specs.Prelude.{◌≡◌, ◌≢◌, true, false, Some, IfO
 ghost use Rattle.pq_book.specs.Book.{Volume};
 ghost use Rattle.desk_core.specs.Knows.{Knows};
 ghost use Rattle.announce_board.specs.Opening.{IsHomeBook, IsHomeWith, IsHeld, IsHeldWith};
-ghost use Rattle.announce_board.specs.Opening.{AllRetired, IsHomeWithAll, AllKnow};
+ghost use Rattle.announce_board.specs.Opening.{AllRetired, IsHomeWithAll, AllKnow, LinesAreOf};
 
 use crate::desk::Desk;
 use crate::error::LockHeld;
@@ -79,12 +79,15 @@ impl<S: Store<Entry<P>>, P: Part> Desk<S, P> {
     }
 
     /// Closes the desk with the testimony of all its pens, each of which has retired: none leads, and so the Book is at
-    /// home. Its journal has the calls of all of them, and what each last saw in its record still stood there at the end.
+    /// home. Of each place its journal has the calls that the pen has read, and at most the entered answer for which it
+    /// waits; of an idle pen exactly its calls; and it has no line of another place. What each last saw in its record still
+    /// stood there at the end.
     pub fn close_all(self, testimony: Testimony) -> Book<S, Global, P>
         requires table { testimony.table ≡ self.table }
         requires all { AllRetired self.places testimony.pens }
         ensures home { IsHomeWithAll self.room testimony.pens result }
         ensures knows { AllKnow testimony.pens result }
+        ensures only { LinesAreOf self.places result.journal }
     {
         law_opening_and_end::<S, P>();
         let Desk {

@@ -9,8 +9,9 @@ ghost use Rattle.announce_board.specs.Told.{WaitersAreTold, PostsAreNew, DuesSta
 
 use crate::running::law_steps_are_moves;
 use desk_core::laws::{
-    law_calls_are_lines, law_desk_runs, law_each_step_keeps_the_rule, law_lines_are_beyond,
-    law_pens_know, law_reached_desks, law_words_show_the_desk,
+    law_calls_are_lines, law_dealt_runs_are_linearizable, law_desk_runs,
+    law_each_step_keeps_the_rule, law_lines_are_beyond, law_pens_know, law_reached_desks,
+    law_times, law_words_show_the_desk,
 };
 use leftist_heap::Store;
 use pq_book::Entry;
@@ -61,6 +62,8 @@ pub fn law_opening_and_end<S: Store<Entry<P>>, P: Part>()
     law_words_show_the_desk();
     law_pens_know();
     law_reached_desks();
+    law_dealt_runs_are_linearizable();
+    law_times();
 }
 
 /// What a pen knows of an item cell still stands there.

@@ -25,6 +25,8 @@
 //!   `Desk::release_with` give no `NoMemory`, and `Desk::look` finds none.
 //! - `Desk::close` gives the Book of some desk that meets the rule, and `Desk::close_with` one
 //!   whose journal has all calls of that pen.
+//! - `Desk::retire` takes a pen that does not lead for its last testimony. `Desk::close_all`, with that of all pens, is never
+//!   refused: its Book has the calls of all of them, and no line of another place.
 //! - But for the opening only `Desk::serve`, `Desk::apply`, `Desk::release_with` and `Desk::release_by_ticket` take memory, for
 //!   a push or a move alone; and no call waits.
 //!

@@ -1,4 +1,4 @@
-//! A priority queue that threads share, over the verified library flatpq.
+//! A priority queue that threads share, over flatpq, whose core is verified.
 //!
 //! A [`TaskQueue`] has payloads of any type, each by a [`Key`]. The smallest key comes out first, and payloads of equal keys in the order in
 //! which they were pushed or moved there. Any number of threads may call it.

@@ -3,6 +3,7 @@ ghost use Rattle.std.specs.Prelude.{◌≡◌, ℕ, IfOk, slice_get, Some};
 ghost use Rattle.announce_board.specs.Asking.{asked};
 
 mod comers;
+mod desk_closes;
 mod desk_drops;
 mod desk_places;
 mod desk_schedules;

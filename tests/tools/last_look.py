@@ -1,7 +1,7 @@
 """A model of the takes of Rattle's handles that are told the end of a queue, of which tests/tools/wakes tries every schedule: is nothing
 left behind a look in vain that began once the queue was seen shut, and nobody posting a push?
 
-Written by hand, after crates/flat_queue/src/ending.rt, hint.rt, others.rt, searching.rt and shutting.rt. One takes what there is, one
+Written by hand, after crates/flat_queue/src/ending.rt, hint.rt, others.rt, shutting.rt and take_steps.rt. One takes what there is, one
 posts a push, one carries a push out itself, and one shuts the queue; and any other leads as often as it likes. Each load and store of
 the end and of the hint is a step of its own, and so is each place that a sweep serves. The first pop of a take is posted, or its own.
 

@@ -1,18 +1,20 @@
 """The record of the wrong bodies that the prover refused, REFUSED: a line for each crate, 'crate count edits sources date toolchain'.
 
-The two sums are of the crate's edits and of its src, specs and proofs, as they stood when all of its wrong bodies were tried.
+The two sums are of the crate's edits, and of the src, specs and proofs of the crate and of those that it stands on, as they stood when all
+of its wrong bodies were tried.
 """
 import datetime
 import hashlib
 import os
 import subprocess
 
+from crate_list import with_below
 from edits import WRONG_BODIES, edits_of
 from sources import PARTS
 from tree import TOP
 
 RECORD = f"{TOP}/REFUSED"
-HEAD = "# crate, wrong bodies that the prover refused, sum of these edits, sum of the crate's sources, date, toolchain\n"
+HEAD = "# crate, wrong bodies that the prover refused, sum of these edits, sum of the sources, date, toolchain\n"
 
 
 def sum_of_edits(crate):
@@ -21,7 +23,7 @@ def sum_of_edits(crate):
     return hashlib.sha256(repr(told).encode()).hexdigest()[:16]
 
 
-def sum_of_sources(crate):
+def sum_of_files(crate):
     """Returns a sum of all files of the crate that a proof reads."""
     whole, top = hashlib.sha256(), f"{TOP}/crates/{crate}"
     for folder in sorted(folder for part in PARTS for folder, _, _ in os.walk(f"{top}/{part}")):
@@ -29,12 +31,29 @@ def sum_of_sources(crate):
             if os.path.isfile(f"{folder}/{name}"):
                 with open(f"{folder}/{name}", "rb") as it:
                     whole.update(f"{hashlib.sha256(it.read()).hexdigest()}  {os.path.relpath(folder, top)}/{name}\n".encode())
-    return whole.hexdigest()[:16]
+    return whole.hexdigest()
+
+
+def sum_of_sources(crate):
+    """Returns a sum of all files that a proof of the crate reads: its own, and those of the crates that it stands on."""
+    told = [(it, sum_of_files(it)) for it in with_below([crate])]
+    return hashlib.sha256(repr(told).encode()).hexdigest()[:16]
 
 
 def sums_of(crate):
-    """Returns the number of the crate's wrong bodies, the sum of these, and that of its sources."""
+    """Returns the number of the crate's wrong bodies, the sum of these, and that of the sources."""
     return str(len(edits_of(WRONG_BODIES, crate))), sum_of_edits(crate), sum_of_sources(crate)
+
+
+def toolchain():
+    """Returns the name of the toolchain."""
+    return subprocess.run(["rt", "version"], capture_output=True, text=True, check=True).stdout.split()[0]
+
+
+def is_recorded(crate):
+    """Whether all wrong bodies of the crate, as they are, were refused over the sources as they are, by this toolchain."""
+    told = recorded().get(crate, ())
+    return told[:3] == sums_of(crate) and told[-1] == toolchain()
 
 
 def recorded():
@@ -48,8 +67,7 @@ def recorded():
 def write(sums):
     """Enters these crates, whose sums are those from before the trial, where they still have them: those that were left out."""
     changed = [crate for crate, told in sums.items() if sums_of(crate) != told]
-    kit = subprocess.run(["rt", "version"], capture_output=True, text=True, check=True).stdout.split()[0]
-    lines = recorded() | {crate: (*told, str(datetime.date.today()), kit) for crate, told in sums.items() if crate not in changed}
+    lines = recorded() | {crate: (*told, str(datetime.date.today()), toolchain()) for crate, told in sums.items() if crate not in changed}
     with open(f"{RECORD}.new", "w", encoding="utf-8") as it:
         it.write(HEAD)
         it.writelines(f"{' '.join([crate, *lines[crate]])}\n" for crate in sorted(lines) if edits_of(WRONG_BODIES, crate))

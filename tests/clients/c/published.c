@@ -148,7 +148,8 @@ static void a_note_is_there(enum way way) {
     queue = opened(2);
     pq_member *here = joined(queue);
     pthread_t thread = started(writes_note, joined(queue));
-    while (way != BY_JOURNAL && code == PQ_EMPTY) {
+    /* (a call with PQ_NOW times out where the other thread has the lock) */
+    while (way != BY_JOURNAL && (code == PQ_EMPTY || code == PQ_TIMED_OUT)) {
         code = way == BY_PEEK      ? pq_peek(here, &item, PQ_FOREVER, NULL)
                : way == BY_POP_DUE ? pq_pop_due(here, 8, &item, PQ_FOREVER, NULL)
                                    : pq_take_due(here, &item, PQ_NOW, NULL);

@@ -1,5 +1,5 @@
 -- Each step keeps the rule of the table.
-use Rattle.std.proofs.Common.{◌≡◌, ◌≢◌, ℕ, suc, zero, ◌+◌, ◌<◌, ◌⊎◌, inl, inr, Bool, true, false, true≢false, List, [], ◌∷◌, length, set, refl, ap, sym, ◌∙◌, subst, arith}
+use Rattle.std.proofs.Common.{◌≡◌, ◌≢◌, ℕ, ◌+◌, ◌<◌, ◌≤◌, ◌⊎◌, inl, inr, Bool, true, false, true≢false, List, [], ◌∷◌, length, set, refl, ap, sym, ◌∙◌, subst, arith}
 use Rattle.std.specs.Prelude.{Option, Some, None, slice_index, slice_set, ◌==◌}
 use Rattle.std.proofs.lemmas.List.{length-set}
 use mathlib.Core.Option.{some, none}
@@ -39,7 +39,8 @@ use Rattle.desk_core.specs.Clauses.{RuleGivesClauses}
 use Rattle.desk_core.specs.Layout.{lock_at, control_at, item_at, LockStored, ControlStored, ItemStored, Loaded, WordsAreReadBack}
 use Rattle.desk_core.specs.Pen.{IsIdle, IsKept, after_draft, after_post, after_lead, after_miss, after_read, after_read_item, after_lay, after_answer, after_apply, after_release, after_release_by, after_look, after_see, after_take}
 use Rattle.desk_core.specs.Rule.{MeetsRule}
-use Rattle.desk_core.specs.Testimonies.{RetiredStay}
+use Rattle.desk_core.specs.Duties.{DutiesAreKept, weight_of}
+use Rattle.desk_core.specs.declared.model.Duty.TheVariants.{Active}
 use Rattle.desk_core.specs.declared.model.Standing.TheVariants.{Idle, Waiting}
 use Rattle.desk_core.specs.declared.model.Due.{Due}
 use Rattle.desk_core.specs.declared.model.PenState.{PenState}
@@ -48,7 +49,9 @@ use Rattle.desk_core.specs.declared.model.View.TheVariants.{Holder}
 use Rattle.announce_board.specs.Allowed.{AsMove, AsLook, Plainly, desk_in}
 use Rattle.announce_board.specs.Rule.{Keeps, Seated, desk_of, book_in, book_at_home}
 use Rattle.announce_board.specs.Steps.{pen_at, StandsAt, WordDrafted, Drafted, PostStored, LockRead, LockTried, ControlRead, MailRead, CellRead, ItemRead, WordLaid, ItemLaid, AnswerStored, Released, BringsHome, BringsHomeBy, Applied, ReleasedWith, Looked, AnswerLooked, WordSeen, ItemSeen, Taken, ItemTaken}
-use Rattle.announce_board.proofs.Retiring.{stays_pen}
+use Rattle.announce_board.proofs.Duties.{acts_on}
+use Rattle.announce_board.proofs.Sums.{length_at}
+use Rattle.announce_board.proofs.Weights.{weighs_on}
 use Rattle.announce_board.proofs.Same.{same_request, same_answer, kind_posted, same_draft, same_waiting, same_due, same_notice, not_true, refused_alone, none_refused, same_applied, same_ended, same_book}
 
 -- the laws of the machine that the steps rest on
@@ -87,11 +90,6 @@ pub record Laws : Type 0 where
 pub at_both : (F : ℕ → ℕ → Type 0) (i j n k : ℕ) → i ≡ j → n ≡ k → F j k → F i n
 at_both F i j n k e f h = subst (λ x. F x n) (sym e) (subst (F j) (sym f) h)
 
-pub length_at : {A : Type 0} (xs : List A) (i : ℕ) (a : A) → get_elem? xs i ≡ some a → i < length xs
-length_at [] i a e = absurd (cc e)
-length_at (x ∷ xs) zero a e = omega arith
-length_at (x ∷ xs) (suc i) a e = let h = length_at xs i a e in omega arith
-
 pub book_there : (x : home.Option (home.Option (Option Volume))) (b : Volume) → book_in x ≡ Some b → x ≡ some (some (Some b))
 book_there none b e = absurd (cc e)
 book_there (some none) b e = absurd (cc e)
@@ -123,17 +121,21 @@ module _ (laws : Laws) (wide : Bool) (roomy : ℕ → Type 0) (room places slots
     goes : (x : Event) (e : Desk) → Step d x e → IsReached places room e
     goes x e move = laws.goes_on places room d e (Takes x) k.reached move
 
-    -- retired pens stay as they were, while this one takes a step
-    stays : (w : PenState) → RetiredStay (slice_set s.views id (Holder w))
-    stays w = stays_pen s.views id p w k.stay has refl
+    -- duties stay kept, while this pen takes a step and acts on
+    stays : (w : PenState) → w.duty ≡ Active → DutiesAreKept (slice_set s.views id (Holder w))
+    stays w acts = acts_on s.views id p w k.duties has refl acts
+
+    -- and nothing weighs more
+    weighs : (w : PenState) → w.duty ≡ Active → weight_of places (slice_set s.views id (Holder w)) ≤ places
+    weighs w acts = let same = weighs_on places s.views id p w has refl acts in let within = k.weight in omega (arith, same, within)
 
     inside : p.place < places
     inside = (laws.seated d id p k.meets has).inside
 
     -- nothing was stored, and the pen is now this one
-    abbrev unchanged : (i : ℕ) (q : PenState) → IsReached places room (with_pen d id q) → MeetsRule (desk_of room places k.held k.control k.cells s.homes (slice_set s.views id (Holder q)))
+    abbrev unchanged : (i : ℕ) (q : PenState) → q.duty ≡ Active → IsReached places room (with_pen d id q) → MeetsRule (desk_of room places k.held k.control k.cells s.homes (slice_set s.views id (Holder q)))
         → Keeps wide roomy room places record { words = slice_set s.words i (slice_index s.words i); homes = s.homes; views = slice_set s.views id (Holder q) }
-    unchanged i q reached meets = record { held = k.held; control = k.control; cells = k.cells; words = laws.loaded wide places s.words k.held k.control k.cells i k.words; slots = k.slots; reached = reached; meets = meets; stay = stays q; memory = k.memory }
+    unchanged i q acts reached meets = record { held = k.held; control = k.control; cells = k.cells; words = laws.loaded wide places s.words k.held k.control k.cells i k.words; slots = k.slots; reached = reached; meets = meets; duties = stays q acts; weight = weighs q acts; memory = k.memory }
 
     -- the Book in the slots is this one
     home_is : (P : Desk → Type 0) (held : Bool) (homes : List (home.Option (Option Volume))) (views : List View) (book : Option Volume) → book_at_home homes ≡ book
@@ -165,7 +167,8 @@ module _ (laws : Laws) (wide : Bool) (roomy : ℕ → Type 0) (room places slots
           reached = goes s k at (Drafts id z) (with_pen (with_cell (d s k at) p.place z) id (after_draft p z))
               (p, has s k at, idle, wider wide z (laws.mix.fits wide j x y range (k.words.ranges p.place (inside s k at))), refl);
           meets = laws.draft (d s k at) id p k.meets (has s k at) z idle;
-          stay = stays s k at (after_draft p z);
+          duties = stays s k at (after_draft p z) refl;
+          weight = weighs s k at (after_draft p z) refl;
           memory = k.memory;
         },
         inl (Drafts id z, refl, (p, has s k at, idle, wider wide z (laws.mix.fits wide j x y range (k.words.ranges p.place (inside s k at))), refl)),
@@ -199,7 +202,8 @@ module _ (laws : Laws) (wide : Bool) (roomy : ℕ → Type 0) (room places slots
           reached = goes s k at (Posts id request) (with_pen (with_control (d s k at) p.place (posted (p.posts + 1) request)) id (after_post p request (time (d s k at))))
               (p, draft, has s k at, idle, few, proper, kept, refl);
           meets = laws.post (d s k at) id p k.meets (has s k at) request draft (time (d s k at)) idle few proper kept;
-          stay = stays s k at (after_post p request (time (d s k at)));
+          duties = stays s k at (after_post p request (time (d s k at))) refl;
+          weight = weighs s k at (after_post p request (time (d s k at))) refl;
           memory = λ all. none_refused k.control p.place (posted (p.posts + 1) request) (k.memory all) (λ e. absurd (cc e));
         },
         inl (Posts id request, refl, (p, draft, has s k at, idle, few, proper, kept, refl)),
@@ -228,7 +232,8 @@ module _ (laws : Laws) (wide : Bool) (roomy : ℕ → Type 0) (room places slots
           slots = k.slots;
           reached = subst (λ v. IsReached places room (desk_of room places k.held k.control k.cells s.homes v)) (sym (set_again s.views id m.0 at)) k.reached;
           meets = subst (λ v. MeetsRule (desk_of room places k.held k.control k.cells s.homes v)) (sym (set_again s.views id m.0 at)) k.meets;
-          stay = subst RetiredStay (sym (set_again s.views id m.0 at)) k.stay;
+          duties = subst DutiesAreKept (sym (set_again s.views id m.0 at)) k.duties;
+          weight = subst (λ v. weight_of places v ≤ places) (sym (set_again s.views id m.0 at)) k.weight;
           memory = k.memory;
         },
         inr (ap (λ v. desk_of room places k.held k.control k.cells s.homes v) (set_again s.views id m.0 at)),
@@ -238,7 +243,7 @@ module _ (laws : Laws) (wide : Bool) (roomy : ℕ → Type 0) (room places slots
         Holder (after_miss p),
         keeps,
         tt,
-        unchanged s k at lock_at (after_miss p) (missed s k at (read.lock_held ne).0) (laws.miss (d s k at) id p k.meets (has s k at)),
+        unchanged s k at lock_at (after_miss p) refl (missed s k at (read.lock_held ne).0) (laws.miss (d s k at) id p k.meets (has s k at)),
         inl (Tries id, refl, (p, has s k at, inr ((read.lock_held ne).0, refl))),
         (λ e. absurd (ne e), λ _. ((read.lock_held ne).1, refl)),
       ))
@@ -281,7 +286,8 @@ module _ (laws : Laws) (wide : Bool) (roomy : ℕ → Type 0) (room places slots
         reached = home_is s k at (IsReached places room) true (set s.homes 0 none) (slice_set s.views id (Holder (after_lead p lead.0))) None out
             (goes s k at (Tries id) (with_pen (locked (d s k at)) id (after_lead p lead.0)) (p, has s k at, inl (free, (volume room lead.0, lead.1, refl))));
         meets = home_is s k at MeetsRule true (set s.homes 0 none) (slice_set s.views id (Holder (after_lead p lead.0))) None out lead.2;
-        stay = stays s k at (after_lead p lead.0);
+        duties = stays s k at (after_lead p lead.0) refl;
+        weight = weighs s k at (after_lead p lead.0) refl;
         memory = k.memory;
       },
       inl (
@@ -310,7 +316,7 @@ module _ (laws : Laws) (wide : Bool) (roomy : ℕ → Type 0) (room places slots
         Holder (after_miss p),
         keeps,
         tt,
-        unchanged s k at lock_at (after_miss p) (missed s k at ((laws.read_back wide places s.words k.held k.control k.cells k.words).lock_held ne).0) (laws.miss (d s k at) id p k.meets (has s k at)),
+        unchanged s k at lock_at (after_miss p) refl (missed s k at ((laws.read_back wide places s.words k.held k.control k.cells k.words).lock_held ne).0) (laws.miss (d s k at) id p k.meets (has s k at)),
         inl (Tries id, refl, (p, has s k at, inr (((laws.read_back wide places s.words k.held k.control k.cells k.words).lock_held ne).0, refl))),
         (λ e. absurd (ne e), λ _. (((laws.read_back wide places s.words k.held k.control k.cells k.words).lock_held ne).1, refl)),
       ))
@@ -323,7 +329,7 @@ module _ (laws : Laws) (wide : Bool) (roomy : ℕ → Type 0) (room places slots
         Holder (after_read p place (k.control place)),
         keeps,
         tt,
-        unchanged s k at (control_at place) (after_read p place (k.control place))
+        unchanged s k at (control_at place) (after_read p place (k.control place)) refl
             (goes s k at (Reads id place) (with_pen (d s k at) id (after_read p place (k.control place))) (p, has s k at, leads, lt, refl)) (laws.read (d s k at) id p k.meets (has s k at) place leads),
         inl (Reads id place, refl, (p, has s k at, leads, lt, refl)),
         λ other e.
@@ -340,7 +346,7 @@ module _ (laws : Laws) (wide : Bool) (roomy : ℕ → Type 0) (room places slots
         Holder (after_read_item p due (k.cells due.place)),
         keeps,
         tt,
-        unchanged s k at (item_at due.place + j) (after_read_item p due (k.cells due.place))
+        unchanged s k at (item_at due.place + j) (after_read_item p due (k.cells due.place)) refl
             (goes s k at (ReadsItem id) (with_pen (d s k at) id (after_read_item p due (k.cells due.place))) (p, due, has s k at, (k.meets.2.due id p (has s k at) due is_due).0, is_due, push, refl))
             (laws.read_item (d s k at) id p k.meets (has s k at) due is_due),
         inl (ReadsItem id, refl, (p, due, has s k at, (k.meets.2.due id p (has s k at) due is_due).0, is_due, push, refl)),
@@ -372,7 +378,8 @@ module _ (laws : Laws) (wide : Bool) (roomy : ℕ → Type 0) (room places slots
           reached = goes s k at (LaysItem id z) (with_pen (with_cell (d s k at) due.place z) id (after_lay p due z))
               (p, due, has s k at, (k.meets.2.due id p (has s k at) due is_due).0, is_due, no_push, wider wide z (laws.mix.fits wide j x y range (k.words.ranges due.place lt)), refl);
           meets = laws.lay_item (d s k at) id p k.meets (has s k at) due z is_due no_push;
-          stay = stays s k at (after_lay p due z);
+          duties = stays s k at (after_lay p due z) refl;
+          weight = weighs s k at (after_lay p due z) refl;
           memory = k.memory;
         },
         inl (LaysItem id z, refl, (p, due, has s k at, (k.meets.2.due id p (has s k at) due is_due).0, is_due, no_push, wider wide z (laws.mix.fits wide j x y range (k.words.ranges due.place lt)), refl)),
@@ -409,7 +416,8 @@ module _ (laws : Laws) (wide : Bool) (roomy : ℕ → Type 0) (room places slots
           reached = goes s k at (Answers id answer) (with_pen (with_control (d s k at) due.place (answered answer)) id (after_answer p due request answer))
               (p, due, request, has s k at, (k.meets.2.due id p (has s k at) due is_due).0, is_due, kind, known, laid, may', refl);
           meets = laws.answer (d s k at) id p k.meets (has s k at) due request answer is_due kind known laid may';
-          stay = stays s k at (after_answer p due request answer);
+          duties = stays s k at (after_answer p due request answer) refl;
+          weight = weighs s k at (after_answer p due request answer) refl;
           memory = λ all. none_refused k.control due.place (answered answer) (k.memory all) (λ e. unrefused (subst roomy (sym (laws.seated (d s k at) id p k.meets (has s k at)).room) all) (refused_alone answer e));
         },
         inl (Answers id answer, refl, (p, due, request, has s k at, (k.meets.2.due id p (has s k at) due is_due).0, is_due, kind, known, laid, may', refl)),
@@ -432,7 +440,7 @@ module _ (laws : Laws) (wide : Bool) (roomy : ℕ → Type 0) (room places slots
         Holder w,
         keeps,
         tt,
-        unchanged s k at lock_at w (goes s k at (Applies id request answer) (with_pen (d s k at) id w) (p, has s k at, leads, idle, few, proper, may', refl))
+        unchanged s k at lock_at w refl (goes s k at (Applies id request answer) (with_pen (d s k at) id w) (p, has s k at, leads, idle, few, proper, may', refl))
             (laws.apply (d s k at) id p k.meets (has s k at) request answer now leads idle few proper may'),
         inl (Applies id request answer, refl, (p, has s k at, leads, idle, few, proper, may', refl)),
         λ q a other home. (
@@ -462,7 +470,8 @@ module _ (laws : Laws) (wide : Bool) (roomy : ℕ → Type 0) (room places slots
               (goes s k at (Releases id) (with_pen (freed (d s k at) p.hand) id (after_release p)) (p, has s k at, leads, refl));
           meets = home_is s k at MeetsRule false (put_back s.homes m.1) (slice_set s.views id (Holder (after_release p))) (Some (volume room p.hand)) back
               (laws.release (d s k at) id p k.meets (has s k at) leads);
-          stay = stays s k at (after_release p);
+          duties = stays s k at (after_release p) refl;
+          weight = weighs s k at (after_release p) refl;
           memory = k.memory;
         },
         home_is s k at (λ y. (step : Step (d s k at) (Releases id) y) × (looking.sights_of (d s k at) (Releases id) y step ≡ looking.Looked p.place p.hand ∷ [])) false (put_back s.homes m.1) (slice_set s.views id (Holder (after_release p))) (Some (volume room p.hand)) back
@@ -501,7 +510,8 @@ module _ (laws : Laws) (wide : Bool) (roomy : ℕ → Type 0) (room places slots
               (goes s k at (ReleasesBy id operation answer) (with_pen (freed (d s k at) js) id w) (p, has s k at, leads, none_due, idle, few, proper, may', refl));
           meets = home_is s k at MeetsRule false (put_back s.homes m.1) (slice_set s.views id (Holder w)) (Some (volume room js)) back
               (laws.release_by (d s k at) id p k.meets (has s k at) operation answer (time (d s k at)) leads none_due idle few proper may');
-          stay = stays s k at w;
+          duties = stays s k at w refl;
+          weight = weighs s k at w refl;
           memory = k.memory;
         },
         inl (
@@ -524,7 +534,7 @@ module _ (laws : Laws) (wide : Bool) (roomy : ℕ → Type 0) (room places slots
         Holder (after_look p request (k.control p.place) (time (d s k at))),
         keeps,
         tt,
-        unchanged s k at (control_at p.place) (after_look p request (k.control p.place) (time (d s k at)))
+        unchanged s k at (control_at p.place) (after_look p request (k.control p.place) (time (d s k at))) refl
             (goes s k at (Looks id) (with_pen (d s k at) id (after_look p request (k.control p.place) (time (d s k at)))) (p, request, has s k at, waits, refl)) (laws.look (d s k at) id p k.meets (has s k at) request (time (d s k at)) waits),
         inl (Looks id, refl, (p, request, has s k at, waits, refl)),
         λ other e. (
@@ -543,7 +553,7 @@ module _ (laws : Laws) (wide : Bool) (roomy : ℕ → Type 0) (room places slots
         Holder (after_see p (k.cells p.place)),
         keeps,
         tt,
-        unchanged s k at (item_at p.place + j) (after_see p (k.cells p.place))
+        unchanged s k at (item_at p.place + j) (after_see p (k.cells p.place)) refl
             (goes s k at (SeesItem id) (with_pen (d s k at) id (after_see p (k.cells p.place))) (p, request, notice, has s k at, waits, own, item, refl))
             (laws.see_item (d s k at) id p k.meets (has s k at) request waits (ap is_answer own)),
         inl (SeesItem id, refl, (p, request, notice, has s k at, waits, own, item, refl)),
@@ -561,7 +571,7 @@ module _ (laws : Laws) (wide : Bool) (roomy : ℕ → Type 0) (room places slots
         Holder (after_take p request notice (k.cells p.place) (time (d s k at))),
         keeps,
         tt,
-        unchanged s k at (item_at p.place + j) (after_take p request notice (k.cells p.place) (time (d s k at)))
+        unchanged s k at (item_at p.place + j) (after_take p request notice (k.cells p.place) (time (d s k at))) refl
             (goes s k at (TakesItem id) (with_pen (d s k at) id (after_take p request notice (k.cells p.place) (time (d s k at)))) (p, request, notice, has s k at, waits, own, item, refl))
             (laws.take_item (d s k at) id p k.meets (has s k at) request notice (time (d s k at)) waits own),
         inl (TakesItem id, refl, (p, request, notice, has s k at, waits, own, item, refl)),

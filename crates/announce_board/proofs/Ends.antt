@@ -1,6 +1,6 @@
 -- The table of a desk at its opening, as pens are dealt, and at its end.
-use Rattle.std.proofs.Common.{◌≡◌, ◌≢◌, ℕ, zero, suc, ◌+◌, ⊎_elim, Bool, true, false, true≢false, List, [], ◌∷◌, set, refl, ap, sym, ◌∙◌, subst, arith}
-use Rattle.std.specs.Prelude.{Option, Some, None, slice_index}
+use Rattle.std.proofs.Common.{◌≡◌, ◌≢◌, ℕ, ◌+◌, ⊎_elim, Bool, true, false, true≢false, List, [], ◌∷◌, set, refl, ap, sym, ◌∙◌, subst, arith}
+use Rattle.std.specs.Prelude.{Option, Some, None, slice_get, slice_index}
 use mathlib.Core.Option.{some, some-injective, some-ne-none}
 use lib.ListN.{get_elem?}
 use Rattle.atomic_table.specs.Table.{Final, Seen}
@@ -14,30 +14,19 @@ use Rattle.desk_core.specs.Keeping.{PensAreSeated}
 use Rattle.desk_core.specs.Knows.{Knows, HomeIsKnown}
 use Rattle.desk_core.specs.Layout.{ZerosAreFresh, WordsAreReadBack, lock_at}
 use Rattle.desk_core.specs.Pen.{new_pen}
-use Rattle.desk_core.specs.Testimonies.{RetiredStay}
 use Rattle.desk_core.specs.Rule.{OpeningsMeetRule, DealingKeepsRule, Places}
 use Rattle.desk_core.specs.declared.model.PenState.{PenState}
 use Rattle.desk_core.specs.declared.model.View.{View}
 use Rattle.desk_core.specs.declared.model.View.TheVariants.{Dealer, Holder, Testimony}
 use Rattle.announce_board.specs.Rule.{Keeps, Seated, desk_of, book_at_home}
 use Rattle.announce_board.specs.Steps.{pen_at}
-use Rattle.announce_board.specs.Opening.{OpeningKept, DealingAllowed, EndsAreTold, IsHomeBook, IsHomeWith, IsHeldWith, AllRetired, IsHomeWithAll, AllKnow, LinesAreOf}
+use Rattle.announce_board.specs.Opening.{OpeningKept, DealingAllowed, EndsAreTold, IsHomeBook, IsHomeWith, IsHeldWith, HasAll, ClosedByAll}
 use Rattle.announce_board.proofs.Allows.{book_there}
 use Rattle.announce_board.proofs.Lines.{lines_are_of}
-use Rattle.announce_board.proofs.Retiring.{AllRest, NotRetired, pen_rests, stays_set, stays_more}
+use Rattle.announce_board.proofs.Gathered.{nobody_leads, keepers_testify, pens_apart}
+use Rattle.announce_board.proofs.Duties.{none_yet, quiet_set, quiet_more, pen_quiet, dealer_quiet}
+use Rattle.announce_board.proofs.Weights.{weighs_more, weighs_dealt}
 use Rattle.announce_board.proofs.Same.{not_true}
-
--- no testimony stands at the opening
-no_testimony : (room i : ℕ) (pens : List PenState) → get_elem? (Dealer 0 room ∷ []) i ≡ some (Testimony pens) → ⊥
-no_testimony room zero pens e = let f : Dealer 0 room ≡ Testimony pens = some-injective (Dealer 0 room) (Testimony pens) e in cc
-no_testimony room (suc i) pens e = some-ne-none (Testimony pens) (sym e)
-
--- a dealer is no pen, and no testimony
-dealer_active : (place room : ℕ) → NotRetired (Dealer place room)
-dealer_active place room p e = absurd (let f : Dealer place room ≡ Holder p = e in cc)
-
-dealer_rests : (views : List View) (place room : ℕ) → AllRest views (Dealer place room)
-dealer_rests views place room pens k p e of gone = absurd (let f : Dealer place room ≡ Testimony pens = e in cc)
 
 pub opening_kept : (wide : Bool) (roomy : ℕ → Type 0) → OpeningsMeetRule → ZerosAreFresh → OpeningKept wide roomy
 opening_kept wide roomy opens zeros room places small = record {
@@ -48,7 +37,8 @@ opening_kept wide roomy opens zeros room places small = record {
   slots = refl;
   reached = ([], refl);
   meets = opens.dealer places room small;
-  stay = λ i pens k p e of gone. absurd (no_testimony room i pens e);
+  duties = quiet_more [] (Dealer 0 room) none_yet (dealer_quiet 0 room);
+  weight = (let a = weighs_more places [] (Dealer 0 room) in omega (arith, a));
   memory = λ all place e. absurd (cc e);
 }
 
@@ -61,10 +51,10 @@ dealing_allowed wide roomy goes deals room places id place known lt s k at = rec
   slots = k.slots;
   reached = goes places room (desk_of room places k.held k.control k.cells s.homes s.views) _ (Deals id) k.reached (place, known, at, lt, refl);
   meets = deals (desk_of room places k.held k.control k.cells s.homes s.views) id place known k.meets at lt;
-  stay = stays_more (set s.views id (Dealer (place + 1) known)) (Holder (new_pen known place))
-      (stays_set s.views id (Dealer place known) (Dealer (place + 1) known) k.stay at (dealer_active place known)
-      (dealer_rests s.views (place + 1) known))
-      (pen_rests (set s.views id (Dealer (place + 1) known)) (new_pen known place));
+  duties = quiet_more (set s.views id (Dealer (place + 1) known)) (Holder (new_pen known place))
+      (quiet_set s.views id (Dealer place known) (Dealer (place + 1) known) k.duties at (dealer_quiet place known) (dealer_quiet (place + 1) known))
+      (pen_quiet (new_pen known place) refl);
+  weight = (let same = weighs_dealt places s.views id place known at lt in let within = k.weight in omega (arith, same, within));
   memory = k.memory;
 }
 
@@ -80,17 +70,6 @@ leads_alone d chief seat p places one has (held, home, (q, there, leads)) =
     let e : Holder p ≡ Holder q = some-injective (Holder p) (Holder q) (sym has ∙ (ap (λ i. get_elem? d.views i) at ∙ there)) in
     let f : p ≡ q = cc in
     ap (λ (x : PenState). x.leading) f ∙ leads
-
--- where all pens have retired none leads
-nobody_leads : (d : Desk) (chief id : ℕ) (pens : List PenState) → Places d → RetiredStay d.views → get_elem? d.views id ≡ some (Testimony pens)
-    → AllRetired d.places pens → (q : PenState) → Has d.views chief q → q.leading ≡ true → ⊥
-nobody_leads d chief id pens places stay at all q has leads =
-    let (k, p, of, here, gone) = all q.place (places.inside chief q has) in
-    let ((seat, there), idle) = stay id pens k p at of gone in
-    let same : seat ≡ chief = places.apart seat chief p q there has here in
-    let e : Holder p ≡ Holder q = some-injective (Holder p) (Holder q) (sym there ∙ (ap (λ i. get_elem? d.views i) same ∙ has)) in
-    let f : p ≡ q = cc in
-    true≢false (sym leads ∙ (ap (λ (x : PenState). x.leading) (sym f) ∙ idle))
 
 pub ends_are_told : (wide : Bool) (roomy : ℕ → Type 0) → WordsAreReadBack → HomeIsKnown → PensAreSeated → EveryDealtRunIsLinearizable → EveryDealtRunIsTimed
     → EndsAreTold wide roomy
@@ -117,26 +96,29 @@ ends_are_told wide roomy read known seated linear timed room places s k =
       alone = λ ne one id m is at.
           let held : k.held ≡ true = (back.lock_held ne).0 in
           ⊎_elim (λ u. absurd (true≢false (sym held ∙ u.0))) (leads_alone d k.meets.1 id (pen_at m) k.meets.2.seated one (at ∙ ap some is)) lock;
-      all = λ id pens at retired.
+      all = λ id pens n at has_all.
           let at_home : book_at_home s.homes ≡ Some (volume room journal) =
           ⊎_elim
           (λ u. u.1)
-          (λ u. absurd (nobody_leads d k.meets.1 id pens k.meets.2.seated k.stay at retired u.2.0 u.2.1 u.2.2))
-          lock in (
+          (λ u. absurd (nobody_leads s.views id pens n k.duties at places k.weight has_all k.meets.1 u.2.0 u.2.1 u.2.2))
+          lock in
+          let sits = λ (i : ℕ) (p : PenState) (of : slice_get pens i ≡ Some p). (k.duties.stay id pens n i p at of (has_all.retired i p of)).0 in (
             volume room journal,
             book_there (get_elem? s.homes 0) (volume room journal) at_home,
             record {
-              desk = d;
-              reached = k.reached;
-              meets = k.meets;
-              at_home = at_home;
-              room_is = refl;
-              seated = λ i p of gone. (k.stay id pens i p at of gone).0;
+              home = record { desk = d; reached = k.reached; meets = k.meets; at_home = at_home; room_is = refl; seated = sits };
+              knows = λ i p of.
+                  (let t = sits i p of in
+                  subst (λ r. Knows r p journal) (sym (seated d t.0 p k.meets t.1).room) (known d t.0 p journal k.meets t.1 at_home));
+              only = λ i l e.
+                  (let (j, p, has, here, (m, keeps)) = lines_are_of linear timed places room d journal k.meets.2.room_in_range k.reached at_home i l e in
+                  let (h, of) = keepers_testify s.views id pens n k.duties at places k.weight has_all j p has m keeps in
+                  (h, p, of, here));
+              placed = record {
+                inside = λ i p of. (let t = sits i p of in k.meets.2.seated.inside t.0 p t.1);
+                apart = λ i j p q of there same. pens_apart s.views id pens n k.duties at i j p q of there (has_all.retired i p of) (has_all.retired j q there) same;
+              };
             },
-            λ i p of gone.
-                let t = k.stay id pens i p at of gone in
-                subst (λ r. Knows r p journal) (sym (seated d t.0.0 p k.meets t.0.1).room) (known d t.0.0 p journal k.meets t.0.1 at_home),
-            lines_are_of linear timed places room d journal k.meets.2.room_in_range k.reached k.meets.2.seated at_home,
           );
     }
 
@@ -179,14 +161,14 @@ closes_with wide roomy ends room places id m words slots lock slot is (s, seen, 
 
 -- the Book that was in the slot of a table which was closed with a testimony of all pens
 pub closes_all : (wide : Bool) (roomy : ℕ → Type 0) → EndsAreTold wide roomy → (room places id : ℕ) (v : View) (pens : List PenState) (words : List ℕ) (slots : List (Option Volume)) (slot : Option Volume)
-    → v ≡ Testimony pens → Final (Seen (Keeps wide roomy room places) id v) words slots → AllRetired places pens → get_elem? slots 0 ≡ some slot
-    → (book : Volume) × (slot ≡ Some book) × IsHomeWithAll room pens book × AllKnow pens book × LinesAreOf places book.journal
-closes_all wide roomy ends room places id v pens words slots slot is (s, seen, same, long, values) all last =
-    let t = (ends room places s seen.0).all id pens (seen.1 ∙ ap some is) all in
+    → (n : ℕ) → v ≡ Testimony pens n → Final (Seen (Keeps wide roomy room places) id v) words slots → HasAll places pens n → get_elem? slots 0 ≡ some slot
+    → (book : Volume) × (slot ≡ Some book) × ClosedByAll room places pens book
+closes_all wide roomy ends room places id v pens words slots slot n is (s, seen, same, long, values) all last =
+    let t = (ends room places s seen.0).all id pens n (seen.1 ∙ ap some is) all in
     let there = values 0 (Some t.0) t.1 in
     let f : some (Some t.0) ≡ some slot = sym there ∙ last in
     let g : slot ≡ Some t.0 = cc in
-    (t.0, g, t.2, t.3, t.4)
+    (t.0, g, t.2)
 
 -- the one Book in a slot
 pub book_got : (book got : Volume) (slot : Option Volume) → slot ≡ Some book → slot ≡ Some got → book ≡ got
@@ -194,11 +176,11 @@ book_got book got slot e f = let g : Some book ≡ Some got = sym e ∙ f in cc
 
 -- the same, named otherwise
 pub closes_all_as : (wide : Bool) (roomy : ℕ → Type 0) → EndsAreTold wide roomy → (room room' places places' id : ℕ) (v : View) (pens : List PenState) (words : List ℕ) (slots : List (Option Volume)) (slot : Option Volume)
-    → v ≡ Testimony pens → Final (Seen (Keeps wide roomy room places) id v) words slots → get_elem? slots 0 ≡ some slot → room ≡ room' → places ≡ places'
-    → AllRetired places' pens → (book : Volume) × (slot ≡ Some book) × IsHomeWithAll room' pens book × AllKnow pens book × LinesAreOf places' book.journal
-closes_all_as wide roomy ends room room' places places' id v pens words slots slot is final last e f all =
-    let t = closes_all wide roomy ends room places id v pens words slots slot is final (subst (λ n. AllRetired n pens) (sym f) all) last in
-    (t.0, t.1, subst (λ r. IsHomeWithAll r pens t.0) e t.2, t.3, subst (λ n. LinesAreOf n t.0.journal) f t.4)
+    → (n : ℕ) → v ≡ Testimony pens n → Final (Seen (Keeps wide roomy room places) id v) words slots → get_elem? slots 0 ≡ some slot → room ≡ room' → places ≡ places'
+    → HasAll places' pens n → (book : Volume) × (slot ≡ Some book) × ClosedByAll room' places' pens book
+closes_all_as wide roomy ends room room' places places' id v pens words slots slot n is final last e f all =
+    let t = closes_all wide roomy ends room places id v pens words slots slot n is final (subst (λ k. HasAll k pens n) (sym f) all) last in
+    (t.0, t.1, subst (λ r. ClosedByAll r places' pens t.0) e (subst (λ k. ClosedByAll room k pens t.0) f t.2))
 
 -- the lock word of a table that was closed with the seat of a pen, where it was not 0
 pub closes_held : (wide : Bool) (roomy : ℕ → Type 0) → EndsAreTold wide roomy → (room places id : ℕ) (m : Seated) (words : List ℕ) (slots : List (Option Volume)) (lock : ℕ) → m.0 ≡ Holder (pen_at m)

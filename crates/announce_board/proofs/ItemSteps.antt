@@ -14,6 +14,7 @@ use Rattle.desk_core.specs.Words.{word_number, word_of, mixed, WordsTellItems}
 use Rattle.desk_core.specs.Pen.{IsKept, with_known, after_draft, after_read_item, after_lay, after_see, after_take}
 use Rattle.desk_core.specs.declared.model.Standing.TheVariants.{Idle, Waiting}
 use Rattle.desk_core.specs.declared.model.Due.{Due}
+use Rattle.desk_core.specs.declared.model.Duty.TheVariants.{Active}
 use Rattle.desk_core.specs.declared.model.PenState.{PenState}
 use Rattle.desk_core.specs.declared.model.View.TheVariants.{Holder}
 use Rattle.announce_board.specs.Rule.{Seated}
@@ -28,16 +29,16 @@ use Rattle.announce_board.specs.Told.{CellsStand}
 use Rattle.announce_board.proofs.Looks.{pen_is}
 
 -- a seat after a step that keeps its place
-pub at_after : (table : TableId) (m n : Seated) (q : PenState) (place : ℕ) → IsAt table m place → Becomes m (record q { retired = false }) n → q.place ≡ (pen_at m).place
+pub at_after : (table : TableId) (m n : Seated) (q : PenState) (place : ℕ) → IsAt table m place → Becomes m (record q { duty = Active }) n → q.place ≡ (pen_at m).place
     → IsAt table n place
 at_after table m n q place at e same =
-    let pen = pen_is m n (record q { retired = false }) e in
+    let pen = pen_is m n (record q { duty = Active }) e in
     record { is = ap (λ (s : Seated). s.0) e ∙ ap Holder (sym pen); here = at.here ∙ sym (ap (λ (r : PenState). r.place) pen ∙ same); inside = at.inside }
 
-pub serving_after : (table : TableId) (places place : ℕ) (m n : Seated) (q : PenState) → IsServing table places m place → Becomes m (record q { retired = false }) n → q.leading ≡ (pen_at m).leading
+pub serving_after : (table : TableId) (places place : ℕ) (m n : Seated) (q : PenState) → IsServing table places m place → Becomes m (record q { duty = Active }) n → q.leading ≡ (pen_at m).leading
     → IsServing table places n place
 serving_after table places place m n q at e same =
-    let pen = pen_is m n (record q { retired = false }) e in
+    let pen = pen_is m n (record q { duty = Active }) e in
     record { is = ap (λ (s : Seated). s.0) e ∙ ap Holder (sym pen); leads = ap (λ (r : PenState). r.leading) pen ∙ (same ∙ at.leads); within = at.within; inside = at.inside }
 
 -- two steps more

@@ -13,6 +13,11 @@ mod Leads
 mod Agreeing
 mod NoteSteps
 mod TestimonySteps
+mod SleepSteps
 mod Retiring
+mod Sums
+mod Duties
+mod Weights
+mod Gathered
 mod Dealing
 mod Lines

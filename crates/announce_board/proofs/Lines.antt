@@ -1,5 +1,5 @@
--- The lines of the journal at home are of the desk's places alone.
-use Rattle.std.proofs.Common.{◌≡◌, ℕ, ◌+◌, ◌-◌, ◌<◌, ◌≤◌, ⊎_elim, List, slice_get, ap, sym, ◌∙◌, subst, arith}
+-- The lines of the journal at home are of the places of pens that have come out.
+use Rattle.std.proofs.Common.{◌≡◌, ℕ, ◌+◌, ◌-◌, ◌≤◌, ⊎_elim, List, slice_get, ap, sym, ◌∙◌, subst, arith}
 use Rattle.std.specs.Prelude.{Some, None}
 use Rattle.std.proofs.lemmas.Option.{slice_get_within}
 use Rattle.pq_types.specs.Asked.{Line}
@@ -11,10 +11,8 @@ use Rattle.desk_core.specs.CallLines.{IsLineOf}
 use Rattle.desk_core.specs.Dealing.{IsReached, EveryDealtRunIsLinearizable, dealt_history}
 use Rattle.desk_core.specs.Desk.{Desk, Has, volume, dealer_opening}
 use Rattle.desk_core.specs.Linearizable.{Act, Begins, Ends}
-use Rattle.desk_core.specs.Rule.{Places}
 use Rattle.desk_core.specs.Times.{KeepsPosition, AreTimed, EveryDealtRunIsTimed}
 use Rattle.desk_core.specs.declared.model.PenState.{PenState}
-use Rattle.announce_board.specs.Opening.{LinesAreOf}
 
 -- the place of an act
 abbrev place_of : Act → ℕ
@@ -50,9 +48,11 @@ lock_is d a b lock home =
     (λ u. absurd (let f : None ≡ Some (volume d.room b) = sym u.1 ∙ home in cc))
     lock
 
+-- each line of the journal at home is of the place of a pen that has a seat, and keeps a position
 pub lines_are_of : EveryDealtRunIsLinearizable → EveryDealtRunIsTimed → (places room : ℕ) (d : Desk) (journal : List Line) → room ≤ GREATEST_NUMBER
-    → IsReached places room d → Places d → d.home ≡ Some (volume d.room journal) → LinesAreOf d.places journal
-lines_are_of linear timed places room d journal small (moves, run) seated home i l e =
+    → IsReached places room d → d.home ≡ Some (volume d.room journal) → (i : ℕ) (l : Line) → slice_get journal i ≡ Some l
+    → (j : ℕ) × (p : PenState) × Has d.views j p × (p.place ≡ l.place) × ((n : ℕ) × KeepsPosition p n)
+lines_are_of linear timed places room d journal small (moves, run) home i l e =
     let history = dealt_history (dealer_opening places room) moves d run in
     let z = linear places room moves d small run in
     let t = timed places room moves d run in
@@ -60,5 +60,4 @@ lines_are_of linear timed places room d journal small (moves, run) seated home i
     let c = call_of (i + 1) l.serial l.operation l.reply in
     let (n, at) = z.2.begun l.place c (subst (λ js. IsLineOf js l.place c) (sym same) (line_at journal i l e)) in
     let (j, p, has, keeps) = t.kept n (slice_get_within history n (Begins l.place c.serial c.operation) at) in
-    let here : p.place ≡ l.place = kept_here d history t j p has n keeps (Begins l.place c.serial c.operation) at in
-    subst (λ k. k < d.places) here (seated.inside j p has)
+    (j, p, has, kept_here d history t j p has n keeps (Begins l.place c.serial c.operation) at, (n, keeps))

@@ -19,6 +19,7 @@ use Rattle.desk_core.specs.Calls.{gained}
 use Rattle.desk_core.specs.Desk.{Desk}
 use Rattle.desk_core.specs.Pen.{after_look}
 use Rattle.desk_core.specs.declared.model.Standing.TheVariants.{Idle, Waiting}
+use Rattle.desk_core.specs.declared.model.Duty.TheVariants.{Active}
 use Rattle.desk_core.specs.declared.model.PenState.{PenState}
 use Rattle.desk_core.specs.declared.model.View.TheVariants.{Holder}
 use Rattle.announce_board.specs.Rule.{Seated}
@@ -127,8 +128,8 @@ other_answer notice.NoMemory x ne e = ne refl
 pub told_other : (n : Notice) (x : Item) (a : Answer) → Some n ≢ Some notice.NoMemory → a ≡ answer_with n x → Some a ≢ Some answer.NoMemory
 told_other n x a ne e f = let g : a ≡ answer.NoMemory = cc in other_answer n x ne (sym e ∙ g)
 
--- the pen of a seat that became this one, which has not retired
-pub pen_is : (before after : Seated) (p : PenState) → after ≡ (Holder p, before.1) → pen_at after ≡ record p { retired = false }
+-- the pen of a seat that became this one, which acts
+pub pen_is : (before after : Seated) (p : PenState) → after ≡ (Holder p, before.1) → pen_at after ≡ record p { duty = Active }
 pen_is before after p e = let f : Seated → PenState = pen_at in ap f e
 
 answer_found : (d : Desk) (p : PenState) (request : Request) → WaiterIsTold d p request → (d.control p.place ≡ posted p.posts request) ⊎ (is_answer (d.control p.place) ≡ true)

@@ -1,5 +1,5 @@
 -- Pens that catch up, write notes and hear them keep the rule of the table.
-use Rattle.std.proofs.Common.{◌≡◌, ℕ, suc, Bool, List, [], ◌∷◌, ◌++◌, set, refl, ap, sym, ◌∙◌, subst, ⊎_elim, append-nil}
+use Rattle.std.proofs.Common.{◌≡◌, ℕ, suc, ◌≤◌, Bool, List, [], ◌∷◌, ◌++◌, set, refl, ap, sym, ◌∙◌, subst, ⊎_elim, append-nil, arith}
 use Rattle.std.specs.Prelude.{Option, Some, slice_get}
 use Rattle.std.specs.List.{AllByRecursion}
 use mathlib.Core.Option.{some}
@@ -16,30 +16,26 @@ use Rattle.desk_core.specs.Knows.{Knows}
 use Rattle.desk_core.specs.Layout.{lock_at, Loaded}
 use Rattle.desk_core.specs.Notes.{after_catch_up, after_writing, after_hearing, CatchUpKeeps, WritingKeeps, HearingKeeps, CopyingKeeps}
 use Rattle.desk_core.specs.Rule.{MeetsRule, StartsWith}
-use Rattle.desk_core.specs.Testimonies.{RetiredStay}
+use Rattle.desk_core.specs.Duties.{DutiesAreKept, weight_of}
 use Rattle.desk_core.specs.declared.model.Call.{Call}
 use Rattle.desk_core.specs.declared.model.View.{View}
-use Rattle.desk_core.specs.declared.model.View.TheVariants.{Holder, Note, Testimony}
+use Rattle.desk_core.specs.declared.model.View.TheVariants.{Holder, Note}
 use Rattle.announce_board.specs.Rule.{Keeps, Seated, desk_of}
 use Rattle.announce_board.specs.Steps.{pen_at, Becomes}
 use Rattle.announce_board.specs.Notes.{told_of, told_in, IsNote, CatchesUp, after_note, while_hearing, after_hearing_all, CatchUpAllowed, WritingAllowed, HearingAllowed, CopyingAllowed, CallsAreFound}
 use Rattle.announce_board.proofs.Agreeing.{longer_in_common, both_begin}
-use Rattle.announce_board.proofs.Retiring.{AllRest, NotRetired, stays_pen, stays_set, stays_more}
+use Rattle.announce_board.proofs.Duties.{acts_on, quiet_set, quiet_more, note_quiet}
+use Rattle.announce_board.proofs.Weights.{weighs_set, weighs_more, weighs_on}
 
 module _ (wide : Bool) (roomy : ℕ → Type 0) (room places : ℕ) (s : State (Option Volume) View) (k : Keeps wide roomy room places s) where
   abbrev d : Desk
   d = desk_of room places k.held k.control k.cells s.homes s.views
 
   -- the views alone have changed
-  viewed : (views : List View) → IsReached places room (record d { views = views }) → MeetsRule (record d { views = views }) → RetiredStay views → Keeps wide roomy room places record { words = s.words; homes = s.homes; views = views }
-  viewed views reached meets stay = record { held = k.held; control = k.control; cells = k.cells; words = k.words; slots = k.slots; reached = reached; meets = meets; stay = stay; memory = k.memory }
-
--- a note is no testimony, and no pen
-note_rests : (views : List View) (told : List Line) → AllRest views (Note told)
-note_rests views told pens i p e of gone = absurd (let f : Note told ≡ Testimony pens = e in cc)
-
-note_active : (told : List Line) → NotRetired (Note told)
-note_active told p e = absurd (let f : Note told ≡ Holder p = e in cc)
+  viewed : (views : List View) → IsReached places room (record d { views = views }) → MeetsRule (record d { views = views }) → DutiesAreKept views → weight_of places views ≤ places
+      → Keeps wide roomy room places record { words = s.words; homes = s.homes; views = views }
+  viewed views reached meets duties weight =
+      record { held = k.held; control = k.control; cells = k.cells; words = k.words; slots = k.slots; reached = reached; meets = meets; duties = duties; weight = weight; memory = k.memory }
 
 pub catch_up_allowed : (wide : Bool) (roomy : ℕ → Type 0) → MovesReach → CatchUpKeeps → Loaded → CatchUpAllowed wide roomy
 catch_up_allowed wide roomy goes kept loaded room places slots id m is s k long at small =
@@ -57,7 +53,8 @@ catch_up_allowed wide roomy goes kept loaded room places slots id m is s k long 
         slots = k.slots;
         reached = goes places room now (with_pen now id (after_catch_up p t.0)) (MovesUp id) k.reached (p, t.0, at ∙ ap some is, t.1, refl);
         meets = t.3;
-        stay = stays_pen s.views id p (after_catch_up p t.0) k.stay (at ∙ ap some is) refl;
+        duties = acts_on s.views id p (after_catch_up p t.0) k.duties (at ∙ ap some is) refl refl;
+        weight = (let same = weighs_on places s.views id p (after_catch_up p t.0) (at ∙ ap some is) refl refl in let within = k.weight in omega (arith, same, within));
         memory = k.memory;
       },
       (t.0, subst (λ r. Knows r p t.0) (sym (k.meets.2.pens id p (at ∙ ap some is)).told) t.2, refl),
@@ -67,10 +64,14 @@ pub writing_allowed : (wide : Bool) (roomy : ℕ → Type 0) → MovesReach → 
 writing_allowed wide roomy goes kept room places slots id m is s k at =
     let p = pen_at m in
     let now = d wide roomy room places s k in
-    let views = set s.views id (Holder (after_writing p)) ++ Note p.known ∷ [] in
+    let writer = set s.views id (Holder (after_writing p)) in
+    let views = writer ++ Note p.known ∷ [] in
+    let same = weighs_on places s.views id p (after_writing p) (at ∙ ap some is) refl refl in
+    let more = weighs_more places writer (Note p.known) in
+    let within = k.weight in
     viewed wide roomy room places s k views (goes places room now (record now { views = views }) (Writes id) k.reached (p, at ∙ ap some is, refl)) (kept (d wide roomy room places s k) id p k.meets (at ∙ ap some is))
-    (stays_more (set s.views id (Holder (after_writing p))) (Note p.known) (stays_pen s.views id p (after_writing p) k.stay (at ∙ ap some is) refl)
-    (note_rests (set s.views id (Holder (after_writing p))) p.known))
+    (quiet_more writer (Note p.known) (acts_on s.views id p (after_writing p) k.duties (at ∙ ap some is) refl refl) (note_quiet p.known))
+    (omega (arith, same, more, within))
 
 pub hearing_allowed : (wide : Bool) (roomy : ℕ → Type 0) → MovesReach → HearingKeeps → HearingAllowed wide roomy
 hearing_allowed wide roomy goes kept room places slots id m is other note it s k at ne there =
@@ -81,29 +82,37 @@ hearing_allowed wide roomy goes kept room places slots id m is other note it s k
     let was : get_elem? s.views other ≡ some (Note told) = sym (set_else s.views id other w ne) ∙ (there ∙ ap some it) in
     let longer = longer_in_common p.known told k.meets.0 (k.meets.2.pens id p here).known (k.meets.2.notes other told was) in
     let now = d wide roomy room places s k in
+    let same = weighs_on places s.views id p (while_hearing p told) here refl refl in
+    let spent = weighs_set places (set s.views id w) other (Note told) (Note []) (there ∙ ap some it) in
+    let within = k.weight in
     let heard : Desk = record now { views = set (set s.views id (Holder (after_hearing p told))) other (Note []) } in
     viewed wide roomy room places s k (set (set s.views id w) other (Note []))
     (subst (λ known. IsReached places room (record now { views = set (set s.views id (Holder (record (after_hearing p told) { known = known }))) other (Note []) })) (sym longer)
     (goes places room now heard (Hears id other) k.reached (p, told, here, was, refl)))
     (subst (λ known. MeetsRule (record now { views = set (set s.views id (Holder (record (after_hearing p told) { known = known }))) other (Note []) })) (sym longer)
     (kept now id p k.meets here other told was))
-    (stays_set (set s.views id w) other (Note told) (Note []) (stays_pen s.views id p (while_hearing p told) k.stay here refl)
-    (there ∙ ap some it) (note_active told) (note_rests (set s.views id w) []))
+    (quiet_set (set s.views id w) other (Note told) (Note []) (acts_on s.views id p (while_hearing p told) k.duties here refl refl)
+    (there ∙ ap some it) (note_quiet told) (note_quiet []))
+    (omega (arith, same, spent, within))
 
 pub copying_allowed : (wide : Bool) (roomy : ℕ → Type 0) → MovesReach → CopyingKeeps → CopyingAllowed wide roomy
 copying_allowed wide roomy goes kept room places id note it s k at =
     let now = d wide roomy room places s k in
     let told = told_of note in
     let copied : Desk = record now { views = set s.views id (Note told) ++ Note told ∷ [] } in
+    let same = weighs_set places s.views id (Note told) (Note told) (at ∙ ap some it) in
+    let more = weighs_more places (set s.views id (Note told)) (Note told) in
+    let within = k.weight in
     viewed wide roomy room places s k (set s.views id note ++ note ∷ [])
     (subst (λ (v : View). IsReached places room (record now { views = set s.views id v ++ v ∷ [] })) (sym it)
     (goes places room now copied (Copies id) k.reached (told, at ∙ ap some it, refl)))
     (subst (λ (v : View). MeetsRule (record (d wide roomy room places s k) { views = set s.views id v ++ v ∷ [] })) (sym it)
     (kept (d wide roomy room places s k) id (told_of note) k.meets (at ∙ ap some it)))
-    (subst (λ (v : View). RetiredStay (set s.views id v ++ v ∷ [])) (sym it)
-    (stays_more (set s.views id (Note told)) (Note told)
-    (stays_set s.views id (Note told) (Note told) k.stay (at ∙ ap some it) (note_active told) (note_rests s.views told))
-    (note_rests (set s.views id (Note told)) told)))
+    (subst (λ (v : View). DutiesAreKept (set s.views id v ++ v ∷ [])) (sym it)
+    (quiet_more (set s.views id (Note told)) (Note told)
+    (quiet_set s.views id (Note told) (Note told) k.duties (at ∙ ap some it) (note_quiet told) (note_quiet told))
+    (note_quiet told)))
+    (subst (λ (v : View). weight_of places (set s.views id v ++ v ∷ []) ≤ places) (sym it) (omega (arith, same, more, within)))
 
 all_at : (P : Call → Type 0) (xs ys : List Call) → ((i : ℕ) (c : Call) → slice_get (xs ++ ys) i ≡ Some c → P c) → AllByRecursion P xs
 all_at P [] ys f = tt

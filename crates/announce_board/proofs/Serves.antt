@@ -17,6 +17,8 @@ use Rattle.desk_core.specs.Desk.{volume}
 use Rattle.desk_core.specs.Pen.{after_answer, with_known}
 use Rattle.announce_board.specs.ItemWords.{laid_by}
 use Rattle.desk_core.specs.declared.model.Due.{Due}
+use Rattle.desk_core.specs.declared.model.Duty.{Duty}
+use Rattle.desk_core.specs.declared.model.Duty.TheVariants.{Active}
 use Rattle.desk_core.specs.declared.model.PenState.{PenState}
 use Rattle.desk_core.specs.declared.model.View.TheVariants.{Holder}
 use Rattle.announce_board.specs.Rule.{Seated}
@@ -83,12 +85,12 @@ serves_other words place p p' book h other k =
     other_answered p.room p.hand place h.serial k.serial h.request k.request h.answer k.answer h.may k.may
     (ap (λ (b : Volume). b.journal) (sym h.book_is ∙ k.book_is)) other
 
--- a leader that answers has not retired
-still_active : (words : ℕ) (o : Option Item) (p : PenState) (due : Due) (q : Request) (a : Answer) → p.retired ≡ false
-    → record (laid_and_answered_by words o p due q a) { retired = false } ≡ laid_and_answered_by words o p due q a
-still_active words None p due q a e = ap (λ (b : Bool). record (after_answer p due q a) { retired = b }) (sym e)
+-- a leader that answers acts
+still_active : (words : ℕ) (o : Option Item) (p : PenState) (due : Due) (q : Request) (a : Answer) → p.duty ≡ Active
+    → record (laid_and_answered_by words o p due q a) { duty = Active } ≡ laid_and_answered_by words o p due q a
+still_active words None p due q a e = ap (λ (duty : Duty). record (after_answer p due q a) { duty = duty }) (sym e)
 still_active words (Some x) p due q a e =
-    ap (λ (b : Bool). record (after_answer (laid_by words p due x) (with_known due x) q a) { retired = b }) (sym e)
+    ap (λ (duty : Duty). record (after_answer (laid_by words p due x) (with_known due x) q a) { duty = duty }) (sym e)
 
 -- the seat after both parts of serving
 module _ (words place : ℕ) (before between after : Seated) (serial : ℕ) (q : Request) (a : Answer) (h : FindsPosted words place (pen_at before) serial q (pen_at between))

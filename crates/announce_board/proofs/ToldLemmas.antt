@@ -38,7 +38,7 @@ use Rattle.desk_core.specs.declared.model.View.TheVariants.{Holder}
 use Rattle.desk_core.specs.Knows.{Knows, IsReplyTo}
 use Rattle.announce_board.specs.Asking.{IsAnswerBy, IsAnswerTo, IsAboveAll, IsFullFor}
 use Rattle.announce_board.specs.Told.{WaitersAreTold, PostsAreNew, DuesStand, AboveTheLast, CellsStand}
-use Rattle.announce_board.proofs.Allows.{length_at}
+use Rattle.announce_board.proofs.Sums.{length_at}
 
 reply_fits : (xs : List Item) (q : Request) → IsReplyTo q (reply_to xs q)
 reply_fits xs (Push x) = refl

@@ -13,3 +13,4 @@ pub mod InCommon
 pub mod Notes
 pub mod Running
 pub mod Testimonies
+pub mod Sleeping

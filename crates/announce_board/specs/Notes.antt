@@ -29,7 +29,7 @@ abbrev pub told_of : View → List Line
 told_of (Dealer place room) = []
 told_of (Holder p) = []
 told_of (Note told) = told
-told_of (Testimony pens) = []
+told_of (Testimony pens licences) = []
 
 -- that of a badge that has one view
 abbrev pub told_in : List View → List Line

@@ -1,5 +1,5 @@
 -- How a desk is opened and closed.
-use Rattle.std.specs.Prelude.{◌≡◌, ◌≢◌, ℕ, ◌<◌, ◌≤◌, Bool, true, false, List, [], ◌∷◌}
+use Rattle.std.specs.Prelude.{◌≡◌, ◌≢◌, ℕ, ◌+◌, ◌<◌, ◌≤◌, Bool, true, false, List, [], ◌∷◌}
 use Rattle.std.specs.Prelude.{length, replicate, slice_get, slice_index, Option, Some}
 use mathlib.Core.Option.{some}
 use lib.ListN.{get_elem?}
@@ -15,6 +15,7 @@ use Rattle.desk_core.specs.Desk.{Desk, Has, volume}
 use Rattle.desk_core.specs.Knows.{Knows}
 use Rattle.desk_core.specs.Layout.{lock_at, word_count}
 use Rattle.desk_core.specs.Rule.{MeetsRule}
+use Rattle.desk_core.specs.declared.model.Duty.TheVariants.{Retired}
 use Rattle.desk_core.specs.declared.model.PenState.{PenState}
 use Rattle.desk_core.specs.declared.model.View.{View}
 use Rattle.desk_core.specs.declared.model.View.TheVariants.{Dealer, Holder, Testimony}
@@ -83,31 +84,46 @@ pub record IsHeldWith (room : ℕ) (pen : PenState) : Type 0 where
   pub seat : ℕ
   pub has : Has desk.views seat pen
 
--- among these pens there is one of each of so many places, which has retired
-abbrev pub AllRetired : ℕ → List PenState → Type 0
-AllRetired places pens = (place : ℕ) → place < places
-    → (k : ℕ) × (p : PenState) × (slice_get pens k ≡ Some p) × (p.place ≡ place) × (p.retired ≡ true)
+-- what follows holds of each of these pens
+abbrev pub OfEachOf : List PenState → (PenState → Type 0) → Type 0
+OfEachOf pens F = (k : ℕ) (p : PenState) → slice_get pens k ≡ Some p → F p
 
--- what follows holds of each of these pens that has retired
-abbrev pub OfEachRetired : List PenState → (PenState → Type 0) → Type 0
-OfEachRetired pens F = (k : ℕ) (p : PenState) → slice_get pens k ≡ Some p → p.retired ≡ true → F p
+-- Each pen of a testimony has retired, and its pens and its licences together are as many as the places. So no other pen acts: it
+-- is still to come, or sleeps.
+pub record HasAll (places : ℕ) (pens : List PenState) (licences : ℕ) : Type 0 where
+  pub retired : OfEachOf pens (λ p. p.duty ≡ Retired)
+  pub counted : length pens + licences ≡ places
 
--- the Book is the one at home at some such desk with this room, at which each of these pens that has retired has its seat
+-- the Book is the one at home at some such desk with this room, at which each of these pens has its seat
 pub record IsHomeWithAll (room : ℕ) (pens : List PenState) (book : Volume) : Type 0 where
   pub desk : Desk
   pub reached : IsReached desk.places room desk
   pub meets : MeetsRule desk
   pub at_home : desk.home ≡ Some book
   pub room_is : book.room ≡ room
-  pub seated : OfEachRetired pens (λ p. (seat : ℕ) × Has desk.views seat p)
+  pub seated : OfEachOf pens (λ p. (seat : ℕ) × Has desk.views seat p)
 
--- each of these pens that has retired knows the journal of this Book
+-- each of these pens knows the journal of this Book
 abbrev pub AllKnow : List PenState → Volume → Type 0
-AllKnow pens book = OfEachRetired pens (λ p. Knows p.room p book.journal)
+AllKnow pens book = OfEachOf pens (λ p. Knows p.room p book.journal)
 
--- each line of this journal is of one of so many places
-abbrev pub LinesAreOf : ℕ → List Line → Type 0
-LinesAreOf places journal = (i : ℕ) (l : Line) → slice_get journal i ≡ Some l → l.place < places
+-- each line of this journal is of the place of one of these pens
+abbrev pub LinesAreOfThese : List PenState → List Line → Type 0
+LinesAreOfThese pens journal = (i : ℕ) (l : Line) → slice_get journal i ≡ Some l
+    → (k : ℕ) × (p : PenState) × (slice_get pens k ≡ Some p) × (p.place ≡ l.place)
+
+-- each of these pens has a place of its own among so many
+pub record HavePlaces (places : ℕ) (pens : List PenState) : Type 0 where
+  pub inside : OfEachOf pens (λ p. p.place < places)
+  pub apart :
+      (j k : ℕ) (p q : PenState) → slice_get pens j ≡ Some p → slice_get pens k ≡ Some q → p.place ≡ q.place → j ≡ k
+
+-- what is so of the Book of a desk with this room and so many places where a testimony of these pens has all
+pub record ClosedByAll (room places : ℕ) (pens : List PenState) (book : Volume) : Type 0 where
+  pub home : IsHomeWithAll room pens book
+  pub knows : AllKnow pens book
+  pub only : LinesAreOfThese pens book.journal
+  pub placed : HavePlaces places pens
 
 -- the table of a desk before all steps keeps the rule
 abbrev pub OpeningKept : Bool → (ℕ → Type 0) → Type 0
@@ -122,7 +138,7 @@ DealingAllowed wide roomy = (room places id place known : ℕ) → place < place
 
 -- What the words and the slot of a table say at its end. A lock word 0: the Book is in its slot,
 -- lawful, and each pen knows its journal and does not lead. Any other: the lock is held, and where
--- there is one place alone its pen leads. Where a testimony has all pens, each of which has retired, the Book is in its slot.
+-- there is one place alone its pen leads. Where a testimony has all pens, the Book is in its slot.
 pub record Ends (room places : ℕ) (s : State (Option Volume) View) : Type 0 where
   pub free : slice_index s.words lock_at ≡ 0 → (book : Volume) × (get_elem? s.homes 0 ≡ some (some (Some book)))
       × (home : IsHomeBook room book) × (home.desk.views ≡ s.views)
@@ -132,9 +148,9 @@ pub record Ends (room places : ℕ) (s : State (Option Volume) View) : Type 0 wh
       → (slice_index s.words lock_at ≡ 1) × (held : IsHeld room) × (held.desk.views ≡ s.views)
   pub alone : slice_index s.words lock_at ≢ 0 → places ≡ 1 → (id : ℕ) (m : Seated) → m.0 ≡ Holder (pen_at m)
       → get_elem? s.views id ≡ some m.0 → (pen_at m).leading ≡ true
-  pub all : (id : ℕ) (pens : List PenState) → get_elem? s.views id ≡ some (Testimony pens) → AllRetired places pens
-      → (book : Volume) × (get_elem? s.homes 0 ≡ some (some (Some book))) × IsHomeWithAll room pens book × AllKnow pens book
-      × LinesAreOf places book.journal
+  pub all : (id : ℕ) (pens : List PenState) (licences : ℕ) → get_elem? s.views id ≡ some (Testimony pens licences)
+      → HasAll places pens licences
+      → (book : Volume) × (get_elem? s.homes 0 ≡ some (some (Some book))) × ClosedByAll room places pens book
 
 abbrev pub EndsAreTold : Bool → (ℕ → Type 0) → Type 0
 EndsAreTold wide roomy = (room places : ℕ) (s : State (Option Volume) View) → Keeps wide roomy room places s → Ends room places s

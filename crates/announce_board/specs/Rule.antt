@@ -1,5 +1,5 @@
 -- The rule of a desk's table, which holds between any two atomic steps.
-use Rattle.std.specs.Prelude.{◌≡◌, ◌≢◌, ℕ, ◌+◌, Bool, true, false, List, [], ◌∷◌, length, Option, None}
+use Rattle.std.specs.Prelude.{◌≡◌, ◌≢◌, ℕ, ◌+◌, ◌≤◌, Bool, true, false, List, [], ◌∷◌, length, Option, None}
 use mathlib.Core.Option as home
 use mathlib.Core.Option.{some, none}
 use lib.ListN.{get_elem?}
@@ -14,7 +14,8 @@ use Rattle.desk_core.specs.Dealing.{IsReached}
 use Rattle.desk_core.specs.Desk.{Desk}
 use Rattle.desk_core.specs.Layout.{AreWords}
 use Rattle.desk_core.specs.Rule.{MeetsRule}
-use Rattle.desk_core.specs.Testimonies.{RetiredStay}
+use Rattle.desk_core.specs.Duties.{DutiesAreKept, weight_of}
+use Rattle.desk_core.specs.declared.model.Duty.TheVariants.{Active}
 use Rattle.desk_core.specs.declared.model.PenState.{PenState}
 use Rattle.desk_core.specs.declared.model.View.{View}
 use Rattle.desk_core.specs.declared.model.View.TheVariants.{Dealer, Holder, Note, Testimony}
@@ -49,7 +50,8 @@ NoneIsRefused control = (place : ℕ) → control place ≢ answered NoMemory
 -- The words of the table show some lock, controls and item cells; there is one slot; and the desk
 -- of these, with the Book of the slot and the views of the seats, is at the end of some run of the
 -- machine from its opening with a dealer, and so meets the rule of desks. Where
--- the Book is at home it has the desk's room, as that rule says. Pens that have retired stay as they were. `roomy n` says that every store of
+-- the Book is at home it has the desk's room, as that rule says. Retired pens stand in testimonies, and stay as they were; sleeping
+-- pens are as new. The pens that act, the retired ones and the licences are no more than the places. `roomy n` says that every store of
 -- the desk's kind has room for n items: where that is so of the journal's lines, no record says
 -- NoMemory. The items of the desk are wide or narrow.
 pub record Keeps (wide : Bool) (roomy : ℕ → Type 0) (room places : ℕ) (s : State (Option Volume) View) : Type 0 where
@@ -60,7 +62,8 @@ pub record Keeps (wide : Bool) (roomy : ℕ → Type 0) (room places : ℕ) (s :
   pub slots : length s.homes ≡ 1
   pub reached : IsReached places room (desk_of room places held control cells s.homes s.views)
   pub meets : MeetsRule (desk_of room places held control cells s.homes s.views)
-  pub stay : RetiredStay s.views
+  pub duties : DutiesAreKept s.views
+  pub weight : weight_of places s.views ≤ places
   pub memory : roomy room → NoneIsRefused control
 
 -- the pen for which a seat stands
@@ -68,11 +71,11 @@ abbrev pub holder_of : View → PenState
 holder_of (Dealer place room) = new_pen room place
 holder_of (Holder p) = p
 holder_of (Note told) = new_pen 0 0
-holder_of (Testimony pens) = new_pen 0 0
+holder_of (Testimony pens licences) = new_pen 0 0
 
--- The pen of a seat, as one that has not retired: so a view is the `Holder` of its pen only where that pen has not.
+-- The pen of a seat, as one that acts: so a view is the `Holder` of its pen only where that pen does.
 abbrev pub pen_of : View → PenState
-pen_of v = record (holder_of v) { retired = false }
+pen_of v = record (holder_of v) { duty = Active }
 
 -- what a seat knows, and the slots that it holds
 abbrev pub Seated : Type 0
@@ -88,10 +91,10 @@ abbrev pub dealt_one : View → View
 dealt_one (Dealer place room) = Dealer (place + 1) room
 dealt_one (Holder p) = Holder p
 dealt_one (Note told) = Note told
-dealt_one (Testimony pens) = Testimony pens
+dealt_one (Testimony pens licences) = Testimony pens licences
 
 abbrev pub pen_dealt : View → View
 pen_dealt (Dealer place room) = Holder (new_pen room place)
 pen_dealt (Holder p) = Holder p
 pen_dealt (Note told) = Note told
-pen_dealt (Testimony pens) = Testimony pens
+pen_dealt (Testimony pens licences) = Testimony pens licences

@@ -1,5 +1,5 @@
 -- Testimonies of the pens of a desk, by which they are seen side by side.
-use Rattle.std.specs.Prelude.{◌≡◌, ℕ, Bool, false, List, [], ◌∷◌, ◌++◌, Option}
+use Rattle.std.specs.Prelude.{◌≡◌, ℕ, ◌+◌, Bool, false, List, [], ◌∷◌, ◌++◌, Option}
 use mathlib.Core.Option.{none}
 use Rattle.atomic_table.specs.Seated.{TableId}
 use Rattle.atomic_table.specs.Table.{Step, Allows, Splits, Joins, step}
@@ -14,41 +14,58 @@ use Rattle.announce_board.specs.Allowed.{AtEachPen}
 use Rattle.announce_board.specs.Rule.{Keeps, Seated, pen_of}
 use Rattle.announce_board.specs.Steps.{pen_at}
 
--- a testimony: the table of its desk, and the pens that gave it, as they were then
+-- a testimony: the table of its desk, the pens that gave it, as they were then, and how many sleeping pens may be woken by it
 pub record Testified : Type 0 where
   pub table : TableId
   pub pens : List PenState
+  pub licences : ℕ
 
 -- the pens of the testimony at a seat
 abbrev pub pens_of : View → List PenState
 pens_of (Dealer place room) = []
 pens_of (Holder p) = []
 pens_of (Note told) = []
-pens_of (Testimony pens) = pens
+pens_of (Testimony pens licences) = pens
 
 -- those of a badge that has one view
 abbrev pub pens_in : List View → List PenState
 pens_in [] = []
 pens_in (v ∷ vs) = pens_of v
 
+-- the licences of the testimony at a seat
+abbrev pub licences_of : View → ℕ
+licences_of (Dealer place room) = 0
+licences_of (Holder p) = 0
+licences_of (Note told) = 0
+licences_of (Testimony pens licences) = licences
+
+-- those of a badge that has one view
+abbrev pub licences_in : List View → ℕ
+licences_in [] = 0
+licences_in (v ∷ vs) = licences_of v
+
+-- the testimony at a seat
+abbrev pub testimony_at : View → View
+testimony_at v = Testimony (pens_of v) (licences_of v)
+
 -- a badge is that of a testimony
 abbrev pub IsTestimony : List View → Type 0
-IsTestimony views = views ≡ Testimony (pens_in views) ∷ []
+IsTestimony views = views ≡ Testimony (pens_in views) (licences_in views) ∷ []
 
 -- the testimony that a pen gives
 abbrev pub testimony_of : View → View
-testimony_of v = Testimony (pen_of v ∷ [])
+testimony_of v = Testimony (pen_of v ∷ []) 0
 
 -- a pen once it has retired, and the testimony that it gives
 abbrev pub retiree : View → View
 retiree v = Holder (after_retiring (pen_of v))
 
 abbrev pub last_testimony : View → View
-last_testimony v = Testimony (after_retiring (pen_of v) ∷ [])
+last_testimony v = Testimony (after_retiring (pen_of v) ∷ []) 0
 
 -- that of two which are put together
 abbrev pub both_testify : View → View → View
-both_testify v w = Testimony (pens_of v ++ pens_of w)
+both_testify v w = Testimony (pens_of v ++ pens_of w) (licences_of v + licences_of w)
 
 -- one load has told that the pens of the testimony fit one history, and one journal that linearizes it
 abbrev pub Compared : Step (Option Volume) → Seated → ℕ → Seated → Type 0
@@ -67,10 +84,10 @@ RetireAllowed wide roomy = AtEachPen (λ room places slots id m. (pen_at m).lead
 -- any two testimonies may be put together
 abbrev pub GatherAllowed : Bool → (ℕ → Type 0) → Type 0
 GatherAllowed wide roomy = (room places id : ℕ) (v : View) (other : ℕ) (w : View)
-    → v ≡ Testimony (pens_of v) → w ≡ Testimony (pens_of w)
-    → Joins (Keeps wide roomy room places) id v other w (both_testify v w) (Testimony [])
+    → v ≡ testimony_at v → w ≡ testimony_at w
+    → Joins (Keeps wide roomy room places) id v other w (both_testify v w) (Testimony [] 0)
 
 -- and the pens of each may be compared
 abbrev pub CompareAllowed : Bool → (ℕ → Type 0) → Type 0
-CompareAllowed wide roomy = (room places slots id : ℕ) (m : Seated) → m.0 ≡ Testimony (pens_of m.0)
+CompareAllowed wide roomy = (room places slots id : ℕ) (m : Seated) → m.0 ≡ testimony_at m.0
     → Allows (Keeps wide roomy room places) slots id m lock_at (λ n. n) (Compared (step slots lock_at 0 0 none) m)

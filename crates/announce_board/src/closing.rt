@@ -3,7 +3,7 @@ ghost use Rattle.std.specs.Prelude.{◌≡◌, ◌≢◌, true, false, Some, IfO
 ghost use Rattle.pq_book.specs.Book.{Volume};
 ghost use Rattle.desk_core.specs.Knows.{Knows};
 ghost use Rattle.announce_board.specs.Opening.{IsHomeBook, IsHomeWith, IsHeld, IsHeldWith};
-ghost use Rattle.announce_board.specs.Opening.{AllRetired, IsHomeWithAll, AllKnow, LinesAreOf};
+ghost use Rattle.announce_board.specs.Opening.{HasAll, IsHomeWithAll, AllKnow, LinesAreOfThese, HavePlaces};
 
 use crate::desk::Desk;
 use crate::error::LockHeld;
@@ -78,16 +78,17 @@ impl<S: Store<Entry<P>>, P: Part> Desk<S, P> {
         book_of(lock, slot)
     }
 
-    /// Closes the desk with the testimony of all its pens, each of which has retired: none leads, and so the Book is at
-    /// home. Of each place its journal has the calls that the pen has read, and at most the entered answer for which it
-    /// waits; of an idle pen exactly its calls; and it has no line of another place. What each last saw in its record still
-    /// stood there at the end.
+    /// Closes the desk with a testimony of pens that have retired, which has a licence for each other pen: so none acts and
+    /// none leads, and the Book is at home. Of each of these pens its journal has the calls that the pen has read, and at most
+    /// the entered answer for which it waits; of an idle pen exactly its calls; and it has no line of another place. What each
+    /// last saw in its record still stood there at the end.
     pub fn close_all(self, testimony: Testimony) -> Book<S, Global, P>
         requires table { testimony.table ≡ self.table }
-        requires all { AllRetired self.places testimony.pens }
+        requires all { HasAll self.places testimony.pens testimony.licences }
         ensures home { IsHomeWithAll self.room testimony.pens result }
         ensures knows { AllKnow testimony.pens result }
-        ensures only { LinesAreOf self.places result.journal }
+        ensures only { LinesAreOfThese testimony.pens result.journal }
+        ensures placed { HavePlaces self.places testimony.pens }
     {
         law_opening_and_end::<S, P>();
         let Desk {

@@ -25,8 +25,10 @@
 //!   `Desk::release_with` give no `NoMemory`, and `Desk::look` finds none.
 //! - `Desk::close` gives the Book of some desk that meets the rule, and `Desk::close_with` one
 //!   whose journal has all calls of that pen.
-//! - `Desk::retire` takes a pen that does not lead for its last testimony. `Desk::close_all`, with that of all pens, is never
-//!   refused: its Book has the calls of all of them, and no line of another place.
+//! - `Desk::put_to_sleep` takes a new pen for a `Sleeper`, which lies anywhere, and for a licence; `Desk::wake` makes it a pen
+//!   again for a licence.
+//! - `Desk::retire` takes a pen that does not lead for its last testimony. `Desk::close_all`, with a testimony of retired pens that
+//!   has a licence for each other pen, is never refused: its Book has the calls of these pens, and no line of another place.
 //! - But for the opening only `Desk::serve`, `Desk::apply`, `Desk::release_with` and `Desk::release_by_ticket` take memory, for
 //!   a push or a move alone; and no call waits.
 //!
@@ -52,6 +54,7 @@ mod own_request;
 mod rule;
 pub mod running;
 mod serving;
+pub mod sleeping;
 pub mod testimony;
 pub mod tokens;
 mod words;
@@ -59,5 +62,6 @@ mod words;
 pub use desk::Desk;
 pub use error::{DeskError, LockHeld};
 pub use notes::Note;
+pub use sleeping::Sleeper;
 pub use testimony::Testimony;
 pub use tokens::{Lead, Pen, Stowed};

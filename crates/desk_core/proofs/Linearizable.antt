@@ -23,9 +23,10 @@ use Rattle.desk_core.specs.Steps.{Event, Drafts, Posts, Tries, Reads, ReadsItem,
 use Rattle.desk_core.specs.Rule.{StartsWith, RuleAt, above_mine}
 use Rattle.desk_core.specs.Notes.{after_catch_up, after_writing, after_hearing}
 use Rattle.desk_core.specs.Linearizable.{Act, Begins, Ends, IsIn, Precedes, IsTrueOf, told, acts}
-use Rattle.desk_core.specs.Dealing.{Move, Deals, Takes, CatchesUp, Writes, Hears, Copies, Testifies, Retires, Gathers, DealsPen, Happens, acts_of}
+use Rattle.desk_core.specs.Dealing.{Move, Deals, Takes, CatchesUp, Writes, Hears, Copies, Testifies, Retires, Sleeps, Wakes, Gathers, DealsPen, Happens, acts_of}
 use Rattle.desk_core.specs.declared.model.Call.{Call}
 use Rattle.desk_core.specs.declared.model.Standing.TheVariants.{Idle, Waiting}
+use Rattle.desk_core.specs.declared.model.Duty.TheVariants.{Asleep, Retired}
 use Rattle.desk_core.specs.declared.model.PenState.{PenState}
 use Rattle.desk_core.specs.declared.model.View.{View}
 use Rattle.desk_core.specs.declared.model.View.TheVariants.{Holder, Note, Testimony}
@@ -37,8 +38,8 @@ use Rattle.desk_core.proofs.Stand.{not_idle, full_stands, answered_stands}
 use Rattle.desk_core.proofs.StepFacts.{draft_keeps, post_keeps, lead_keeps, miss_keeps, read_keeps, read_item_keeps, lay_keeps, answer_keeps, release_keeps, release_by_keeps, look_keeps, see_keeps, take_keeps, poster, apply_keeps}
 use Rattle.desk_core.proofs.Clauses.{knows}
 use Rattle.desk_core.proofs.CallLines.{calls_are_lines}
-use Rattle.desk_core.specs.Testimonies.{after_retiring}
-use Rattle.desk_core.proofs.Notes.{OnlyKnow, same_place, only_keeps, caught_up_at, written, heard, copied, testified, retired, gathered}
+use Rattle.desk_core.specs.Testimonies.{after_retiring, after_sleeping, after_waking}
+use Rattle.desk_core.proofs.Notes.{OnlyKnow, same_place, only_keeps, caught_up_at, written, heard, copied, testified, set_aside, woken, gathered}
 use Rattle.desk_core.proofs.Histories as h
 
 -- the call is over: its pen has used another serial since, or is idle
@@ -559,11 +560,15 @@ module _ (laws : QueueLaws) (d : Desk) (old : List Act) (journal : List Line) (a
   move_at (Hears i j) e (p, told, a, there, same) =
       know_at (set (set d.views i (Holder (after_hearing p told))) j (Note [])) e same (heard d journal at.chief at.rule i p a j told there)
   move_at (Copies i) e (told, there, same) = know_at (set d.views i (Note told) ++ Note told ∷ []) e same (copied d journal at.chief at.rule i told there)
-  move_at (Testifies i) e (p, a, same) = know_at (set d.views i (Holder p) ++ Testimony (p ∷ []) ∷ []) e same (testified d journal at.chief at.rule i p a)
+  move_at (Testifies i) e (p, a, same) = know_at (set d.views i (Holder p) ++ Testimony (p ∷ []) 0 ∷ []) e same (testified d journal at.chief at.rule i p a)
   move_at (Retires i) e (p, a, idle, same) =
-      know_at (set d.views i (Holder (after_retiring p)) ++ Testimony (after_retiring p ∷ []) ∷ []) e same (retired d journal at.chief at.rule i p a)
-  move_at (Gathers i j) e (pens, more, a, there, ne, same) =
-      know_at (set (set d.views i (Testimony (pens ++ more))) j (Testimony [])) e same (gathered d journal at.chief at.rule i j pens more a there ne)
+      know_at (set d.views i (Holder (after_retiring p)) ++ Testimony (after_retiring p ∷ []) 0 ∷ []) e same (set_aside d journal at.chief at.rule i p a Retired (after_retiring p ∷ []) 0)
+  move_at (Sleeps i) e (p, a, idle, same) =
+      know_at (set d.views i (Holder (after_sleeping p)) ++ Testimony [] 1 ∷ []) e same (set_aside d journal at.chief at.rule i p a Asleep [] 1)
+  move_at (Wakes i j) e (p, n, a, there, ne, same) =
+      know_at (set (set d.views i (Holder (after_waking p))) j (Testimony [] 0)) e same (woken d journal at.chief at.rule i j p n a there ne)
+  move_at (Gathers i j) e (pens, more, n, m, a, there, ne, same) =
+      know_at (set (set d.views i (Testimony (pens ++ more) (n + m))) j (Testimony [] 0)) e same (gathered d journal at.chief at.rule i j pens more n m a there ne)
 
   pub gains_more : (e : Desk) (new : List Act) (g : Goes d old journal e new) → StartsWith g.0 journal
   gains_more e new g =

@@ -1,6 +1,6 @@
 -- Where pens catch up, write notes and hear them, nothing changes but what pens know, and each still knows a beginning of the
 -- journal.
-use Rattle.std.proofs.Common.{◌≡◌, ◌≢◌, ℕ, ◌+◌, ◌<◌, inl, inr, ⊎_elim, Bool, true, List, [], ◌∷◌, ◌++◌, set, refl, ap, sym, ◌∙◌, subst, append-nil}
+use Rattle.std.proofs.Common.{◌≡◌, ◌≢◌, ℕ, ◌+◌, ◌<◌, inl, inr, ⊎_elim, List, [], ◌∷◌, ◌++◌, set, refl, ap, sym, ◌∙◌, subst, append-nil}
 use Rattle.std.specs.Prelude.{Some}
 use mathlib.Core.Option.{some}
 use lib.ListN.{get_elem?}
@@ -14,8 +14,10 @@ use Rattle.pq_book.specs.Book.{Volume}
 use Rattle.desk_core.specs.Clauses.{LockClause}
 use Rattle.desk_core.specs.Desk.{Desk, Has, volume}
 use Rattle.desk_core.specs.Notes.{after_catch_up, after_writing, with_told, after_hearing, CatchUpKeeps, WritingKeeps, HearingKeeps, CopyingKeeps}
-use Rattle.desk_core.specs.Testimonies.{after_retiring}
+use Rattle.desk_core.specs.Testimonies.{after_waking}
 use Rattle.desk_core.specs.Rule.{StartsWith, IsLed, IsDue, PenRule, RuleAt}
+use Rattle.desk_core.specs.declared.model.Duty.{Duty}
+use Rattle.desk_core.specs.declared.model.Duty.TheVariants.{Active}
 use Rattle.desk_core.specs.declared.model.PenState.{PenState}
 use Rattle.desk_core.specs.declared.model.View.{View}
 use Rattle.desk_core.specs.declared.model.View.TheVariants.{Dealer, Holder, Note, Testimony}
@@ -23,13 +25,12 @@ use Rattle.desk_core.proofs.Views.{has_here, has_else, same_pen, each_after, dea
 use Rattle.desk_core.proofs.StepFacts.{not_both_locks}
 use Rattle.desk_core.proofs.Clauses.{knows, clauses_hold}
 
--- the second pen is the first but for what it knows, a beginning of the journal, the number of its steps, and whether it has
--- retired
+-- the second pen is the first but for what it knows, a beginning of the journal, the number of its steps, and whether it acts
 pub record Alike (journal : List Line) (p q : PenState) : Type 0 where
   pub knew : List Line
   pub count : ℕ
-  pub gone : Bool
-  pub same : q ≡ record p { known = knew; steps = count; retired = gone }
+  pub duty : Duty
+  pub same : q ≡ record p { known = knew; steps = count; duty = duty }
   pub starts : StartsWith journal knew
 
 -- So is each pen of the second list to one of the first, and the other way round, at the same seat. No dealer is new there, and
@@ -42,7 +43,7 @@ pub record OnlyKnow (journal : List Line) (views views' : List View) : Type 0 wh
 
 pub alike_trans : (journal : List Line) (p q v : PenState) → Alike journal p q → Alike journal q v → Alike journal p v
 alike_trans journal p q v f g =
-    record { knew = g.knew; count = g.count; gone = g.gone; same = g.same ∙ ap (λ (y : PenState). record y { known = g.knew; steps = g.count; retired = g.gone }) f.same; starts = g.starts }
+    record { knew = g.knew; count = g.count; duty = g.duty; same = g.same ∙ ap (λ (y : PenState). record y { known = g.knew; steps = g.count; duty = g.duty }) f.same; starts = g.starts }
 
 pub only_trans : (journal : List Line) (a b c : List View) → OnlyKnow journal a b → OnlyKnow journal b c → OnlyKnow journal a c
 only_trans journal a b c f g =
@@ -56,9 +57,9 @@ only_trans journal a b c f g =
 pub same_place : (journal : List Line) (p q : PenState) → Alike journal p q → q.place ≡ p.place
 same_place journal p q f = ap (λ (v : PenState). v.place) f.same
 
-known_rule : (room : ℕ) (journal : List Line) (control : Control) (cell : Item) (p : PenState) (knew : List Line) (count : ℕ) (gone : Bool) → StartsWith journal knew
-    → PenRule room journal control cell p → PenRule room journal control cell (record p { known = knew; steps = count; retired = gone })
-known_rule room journal control cell p knew count gone starts m =
+known_rule : (room : ℕ) (journal : List Line) (control : Control) (cell : Item) (p : PenState) (knew : List Line) (count : ℕ) (duty : Duty) → StartsWith journal knew
+    → PenRule room journal control cell p → PenRule room journal control cell (record p { known = knew; steps = count; duty = duty })
+known_rule room journal control cell p knew count duty starts m =
     record { told = m.told; counted = m.counted; stands = m.stands; looked = m.looked; known = starts; own = m.own; blank = m.blank; filled = m.filled; barred = m.barred; seen = m.seen }
 
 module _ (d : Desk) (journal : List Line) (chief : ℕ) (r : RuleAt d journal chief) where
@@ -96,19 +97,19 @@ module _ (d : Desk) (journal : List Line) (chief : ℕ) (r : RuleAt d journal ch
             (let s = t.was j q b in
             let p = s.0 in
             subst (λ (v : PenState). PenRule d.room journal (d.control v.place) (d.item v.place) v) (sym s.2.same)
-            (known_rule d.room journal (d.control p.place) (d.item p.place) p s.2.knew s.2.count s.2.gone s.2.starts (r.pens j p s.1)));
+            (known_rule d.room journal (d.control p.place) (d.item p.place) p s.2.knew s.2.count s.2.duty s.2.starts (r.pens j p s.1)));
         notes = t.notes;
       }
 
   itself : (j : ℕ) (q : PenState) → Has d.views j q → Alike journal q q
-  itself j q b = record { knew = q.known; count = q.steps; gone = q.retired; same = refl; starts = (r.pens j q b).known }
+  itself j q b = record { knew = q.known; count = q.steps; duty = q.duty; same = refl; starts = (r.pens j q b).known }
 
   -- a pen knows another beginning of the journal
-  pub pen_knows : (i : ℕ) (p : PenState) → Has d.views i p → (knew : List Line) (count : ℕ) (gone : Bool) → StartsWith journal knew
-      → OnlyKnow journal d.views (set d.views i (Holder (record p { known = knew; steps = count; retired = gone })))
-  pen_knows i p a knew count gone starts =
-      let w : PenState = record p { known = knew; steps = count; retired = gone } in
-      let changed : Alike journal p w = record { knew = knew; count = count; gone = gone; same = refl; starts = starts } in
+  pub pen_knows : (i : ℕ) (p : PenState) → Has d.views i p → (knew : List Line) (count : ℕ) (duty : Duty) → StartsWith journal knew
+      → OnlyKnow journal d.views (set d.views i (Holder (record p { known = knew; steps = count; duty = duty })))
+  pen_knows i p a knew count duty starts =
+      let w : PenState = record p { known = knew; steps = count; duty = duty } in
+      let changed : Alike journal p w = record { knew = knew; count = count; duty = duty; same = refl; starts = starts } in
       record {
         was = λ j q b.
             each_after d.views i w (λ h v. (u : PenState) × Has d.views h u × Alike journal u v) (p, a, changed) (λ h v ne c. (v, c, itself h v c)) j q b;
@@ -139,25 +140,27 @@ module _ (d : Desk) (journal : List Line) (chief : ℕ) (r : RuleAt d journal ch
       }
 
   -- a testimony more
-  pub testimony_more : (pens : List PenState) → OnlyKnow journal d.views (d.views ++ Testimony pens ∷ [])
-  testimony_more pens =
+  pub testimony_more : (pens : List PenState) (n : ℕ) → OnlyKnow journal d.views (d.views ++ Testimony pens n ∷ [])
+  testimony_more pens n =
+      let w : View = Testimony pens n in
       record {
-        was = λ j q b. ⊎_elim (λ u. (q, u, itself j q u)) (λ u. absurd (let f : Testimony pens ≡ Holder q = u in cc)) (at_snoc d.views (Testimony pens) (Holder q) j b);
-        stays = λ j q b. (q, at_longer d.views (Testimony pens ∷ []) j (Holder q) b, itself j q b);
-        dealers = λ j n m b. ⊎_elim (λ u. u) (λ u. absurd (let f : Testimony pens ≡ Dealer n m = u in cc)) (at_snoc d.views (Testimony pens) (Dealer n m) j b);
-        notes = λ j other b. ⊎_elim (λ u. r.notes j other u) (λ u. absurd (let f : Testimony pens ≡ Note other = u in cc)) (at_snoc d.views (Testimony pens) (Note other) j b);
+        was = λ j q b. ⊎_elim (λ u. (q, u, itself j q u)) (λ u. absurd (let f : Testimony pens n ≡ Holder q = u in cc)) (at_snoc d.views w (Holder q) j b);
+        stays = λ j q b. (q, at_longer d.views (w ∷ []) j (Holder q) b, itself j q b);
+        dealers = λ j k m b. ⊎_elim (λ u. u) (λ u. absurd (let f : Testimony pens n ≡ Dealer k m = u in cc)) (at_snoc d.views w (Dealer k m) j b);
+        notes = λ j other b. ⊎_elim (λ u. r.notes j other u) (λ u. absurd (let f : Testimony pens n ≡ Note other = u in cc)) (at_snoc d.views w (Note other) j b);
       }
 
   -- a testimony becomes another
-  pub testimony_set : (i : ℕ) (old new : List PenState) → get_elem? d.views i ≡ some (Testimony old) → OnlyKnow journal d.views (set d.views i (Testimony new))
-  testimony_set i old new a =
+  pub testimony_set : (i : ℕ) (old new : List PenState) (n m : ℕ) → get_elem? d.views i ≡ some (Testimony old n) → OnlyKnow journal d.views (set d.views i (Testimony new m))
+  testimony_set i old new n m a =
+      let w : View = Testimony new m in
       record {
-        was = λ j q b. ⊎_elim (λ u. absurd (let f : Testimony new ≡ Holder q = u.1 in cc)) (λ u. (q, u.1, itself j q u.1)) (at_set d.views i j (Testimony new) (Holder q) b);
+        was = λ j q b. ⊎_elim (λ u. absurd (let f : Testimony new m ≡ Holder q = u.1 in cc)) (λ u. (q, u.1, itself j q u.1)) (at_set d.views i j w (Holder q) b);
         stays = λ j q b.
-            (let ne : j ≢ i = λ e. (let f : some (Holder q) ≡ some (Testimony old) = sym b ∙ (ap (get_elem? d.views) e ∙ a) in cc) in
-            (q, set_else d.views i j (Testimony new) ne ∙ b, itself j q b));
-        dealers = λ j n m b. ⊎_elim (λ u. absurd (let f : Testimony new ≡ Dealer n m = u.1 in cc)) (λ u. u.1) (at_set d.views i j (Testimony new) (Dealer n m) b);
-        notes = λ j other b. ⊎_elim (λ u. absurd (let f : Testimony new ≡ Note other = u.1 in cc)) (λ u. r.notes j other u.1) (at_set d.views i j (Testimony new) (Note other) b);
+            (let ne : j ≢ i = λ e. (let f : some (Holder q) ≡ some (Testimony old n) = sym b ∙ (ap (get_elem? d.views) e ∙ a) in cc) in
+            (q, set_else d.views i j w ne ∙ b, itself j q b));
+        dealers = λ j k l b. ⊎_elim (λ u. absurd (let f : Testimony new m ≡ Dealer k l = u.1 in cc)) (λ u. u.1) (at_set d.views i j w (Dealer k l) b);
+        notes = λ j other b. ⊎_elim (λ u. absurd (let f : Testimony new m ≡ Note other = u.1 in cc)) (λ u. r.notes j other u.1) (at_set d.views i j w (Note other) b);
       }
 
   -- a note tells another beginning of it
@@ -196,11 +199,11 @@ whole journal = ([], sym (append-nil journal))
 -- the views after each of the three
 module _ (d : Desk) (journal : List Line) (chief : ℕ) (r : RuleAt d journal chief) (i : ℕ) (p : PenState) (a : Has d.views i p) where
   pub caught_up : OnlyKnow journal d.views (set d.views i (Holder (after_catch_up p journal)))
-  caught_up = pen_knows d journal chief r i p a journal (p.steps + 1) p.retired (whole journal)
+  caught_up = pen_knows d journal chief r i p a journal (p.steps + 1) p.duty (whole journal)
 
   pub written : OnlyKnow journal d.views (set d.views i (Holder (after_writing p)) ++ Note p.known ∷ [])
   written =
-      let first = pen_knows d journal chief r i p a p.known (p.steps + 1) p.retired (r.pens i p a).known in
+      let first = pen_knows d journal chief r i p a p.known (p.steps + 1) p.duty (r.pens i p a).known in
       let views : List View = set d.views i (Holder (after_writing p)) in
       only_trans journal d.views views (views ++ Note p.known ∷ []) first
       (note_more (record d { views = views }) journal chief (only_keeps d journal chief r views first) p.known (r.pens i p a).known)
@@ -212,7 +215,7 @@ module _ (d : Desk) (journal : List Line) (chief : ℕ) (r : RuleAt d journal ch
     pub heard : OnlyKnow journal d.views (set (set d.views i (Holder (after_hearing p told))) other (Note []))
     heard =
         let known = told_starts p.known told journal (r.pens i p a).known (r.notes other told there) in
-        let first = pen_knows d journal chief r i p a (with_told p.known told) (p.steps + 1) p.retired known in
+        let first = pen_knows d journal chief r i p a (with_told p.known told) (p.steps + 1) p.duty known in
         let views : List View = set d.views i (Holder (after_hearing p told)) in
         only_trans journal d.views views (set views other (Note [])) first
         (note_tells (record d { views = views }) journal chief (only_keeps d journal chief r views first) other told []
@@ -225,28 +228,38 @@ copied d journal chief r i told there =
     subst (λ (vs : List View). OnlyKnow journal d.views (vs ++ Note told ∷ [])) (sym (set_again d.views i (Note told) there))
     (note_more d journal chief r told (r.notes i told there))
 
--- a testimony that a pen gives, and two that are put together
+-- a testimony that a pen gives
 pub testified : (d : Desk) (journal : List Line) (chief : ℕ) → RuleAt d journal chief → (i : ℕ) (p : PenState) → Has d.views i p
-    → OnlyKnow journal d.views (set d.views i (Holder p) ++ Testimony (p ∷ []) ∷ [])
+    → OnlyKnow journal d.views (set d.views i (Holder p) ++ Testimony (p ∷ []) 0 ∷ [])
 testified d journal chief r i p a =
-    subst (λ (vs : List View). OnlyKnow journal d.views (vs ++ Testimony (p ∷ []) ∷ [])) (sym (set_again d.views i (Holder p) a)) (testimony_more d journal chief r (p ∷ []))
+    subst (λ (vs : List View). OnlyKnow journal d.views (vs ++ Testimony (p ∷ []) 0 ∷ [])) (sym (set_again d.views i (Holder p) a)) (testimony_more d journal chief r (p ∷ []) 0)
 
--- the one that a pen gives as it retires
-pub retired : (d : Desk) (journal : List Line) (chief : ℕ) → RuleAt d journal chief → (i : ℕ) (p : PenState) → Has d.views i p
-    → OnlyKnow journal d.views (set d.views i (Holder (after_retiring p)) ++ Testimony (after_retiring p ∷ []) ∷ [])
-retired d journal chief r i p a =
-    let first = pen_knows d journal chief r i p a p.known p.steps true (r.pens i p a).known in
-    let views : List View = set d.views i (Holder (after_retiring p)) in
-    only_trans journal d.views views (views ++ Testimony (after_retiring p ∷ []) ∷ []) first
-    (testimony_more (record d { views = views }) journal chief (only_keeps d journal chief r views first) (after_retiring p ∷ []))
+-- a testimony that a pen gives as it retires, or falls asleep
+pub set_aside : (d : Desk) (journal : List Line) (chief : ℕ) → RuleAt d journal chief → (i : ℕ) (p : PenState) → Has d.views i p
+    → (duty : Duty) (pens : List PenState) (n : ℕ) → OnlyKnow journal d.views (set d.views i (Holder (record p { duty = duty })) ++ Testimony pens n ∷ [])
+set_aside d journal chief r i p a duty pens n =
+    let first = pen_knows d journal chief r i p a p.known p.steps duty (r.pens i p a).known in
+    let views : List View = set d.views i (Holder (record p { duty = duty })) in
+    only_trans journal d.views views (views ++ Testimony pens n ∷ []) first
+    (testimony_more (record d { views = views }) journal chief (only_keeps d journal chief r views first) pens n)
 
-pub gathered : (d : Desk) (journal : List Line) (chief : ℕ) → RuleAt d journal chief → (i j : ℕ) (pens more : List PenState) → get_elem? d.views i ≡ some (Testimony pens)
-    → get_elem? d.views j ≡ some (Testimony more) → j ≢ i → OnlyKnow journal d.views (set (set d.views i (Testimony (pens ++ more))) j (Testimony []))
-gathered d journal chief r i j pens more a there ne =
-    let first = testimony_set d journal chief r i pens (pens ++ more) a in
-    let views : List View = set d.views i (Testimony (pens ++ more)) in
-    only_trans journal d.views views (set views j (Testimony [])) first
-    (testimony_set (record d { views = views }) journal chief (only_keeps d journal chief r views first) j more [] (set_else d.views i j (Testimony (pens ++ more)) ne ∙ there))
+-- a pen that is woken by the testimony at another seat
+pub woken : (d : Desk) (journal : List Line) (chief : ℕ) → RuleAt d journal chief → (i j : ℕ) (p : PenState) (n : ℕ) → Has d.views i p
+    → get_elem? d.views j ≡ some (Testimony [] n) → j ≢ i → OnlyKnow journal d.views (set (set d.views i (Holder (after_waking p))) j (Testimony [] 0))
+woken d journal chief r i j p n a there ne =
+    let first = pen_knows d journal chief r i p a p.known p.steps Active (r.pens i p a).known in
+    let views : List View = set d.views i (Holder (after_waking p)) in
+    only_trans journal d.views views (set views j (Testimony [] 0)) first
+    (testimony_set (record d { views = views }) journal chief (only_keeps d journal chief r views first) j [] [] n 0 (set_else d.views i j (Holder (after_waking p)) ne ∙ there))
+
+-- two testimonies that are put together
+pub gathered : (d : Desk) (journal : List Line) (chief : ℕ) → RuleAt d journal chief → (i j : ℕ) (pens more : List PenState) (n m : ℕ) → get_elem? d.views i ≡ some (Testimony pens n)
+    → get_elem? d.views j ≡ some (Testimony more m) → j ≢ i → OnlyKnow journal d.views (set (set d.views i (Testimony (pens ++ more) (n + m))) j (Testimony [] 0))
+gathered d journal chief r i j pens more n m a there ne =
+    let first = testimony_set d journal chief r i pens (pens ++ more) n (n + m) a in
+    let views : List View = set d.views i (Testimony (pens ++ more) (n + m)) in
+    only_trans journal d.views views (set views j (Testimony [] 0)) first
+    (testimony_set (record d { views = views }) journal chief (only_keeps d journal chief r views first) j more [] m 0 (set_else d.views i j (Testimony (pens ++ more) (n + m)) ne ∙ there))
 
 -- the lock tells one journal
 pub one_journal : (d : Desk) (a b : List Line) → LockClause d a → LockClause d b → a ≡ b

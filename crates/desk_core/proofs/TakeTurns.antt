@@ -12,8 +12,10 @@ use Rattle.desk_core.specs.Steps.{Event, Drafts, Posts, Tries, Reads, ReadsItem,
 use Rattle.desk_core.specs.Rule.{MeetsRule}
 use Rattle.desk_core.specs.Notes.{after_catch_up, after_writing, after_hearing}
 use Rattle.desk_core.specs.Linearizable.{Act, TakeTurns, told, acts}
-use Rattle.desk_core.specs.Dealing.{Move, Deals, Takes, CatchesUp, Writes, Hears, Copies, Testifies, Retires, Gathers, DealsPen, Happens, DealtRun, acts_of, dealt_history}
+use Rattle.desk_core.specs.Dealing.{Move, Deals, Takes, CatchesUp, Writes, Hears, Copies, Testifies, Retires, Sleeps, Wakes, Gathers, DealsPen, Happens, DealtRun, acts_of, dealt_history}
 use Rattle.desk_core.specs.declared.model.Standing.TheVariants.{Idle, Waiting}
+use Rattle.desk_core.specs.declared.model.Duty.{Duty}
+use Rattle.desk_core.specs.declared.model.Duty.TheVariants.{Asleep, Retired}
 use Rattle.desk_core.specs.declared.model.PenState.{PenState}
 use Rattle.desk_core.specs.declared.model.View.{View}
 use Rattle.desk_core.specs.declared.model.View.TheVariants.{Dealer, Holder, Note, Testimony}
@@ -21,8 +23,8 @@ use Rattle.desk_core.proofs.Journals.{QueueLaws}
 use Rattle.desk_core.proofs.Records.{put_here, put_else}
 use Rattle.desk_core.proofs.Views.{each_after, dealer_else}
 use Rattle.desk_core.proofs.Stand.{not_idle}
-use Rattle.desk_core.specs.Testimonies.{after_retiring}
-use Rattle.desk_core.proofs.Notes.{OnlyKnow, only_keeps, caught_up_at, written, heard, copied, testified, retired, gathered, writing_keeps, hearing_keeps, copying_keeps}
+use Rattle.desk_core.specs.Testimonies.{after_retiring, after_sleeping, after_waking}
+use Rattle.desk_core.proofs.Notes.{OnlyKnow, only_keeps, caught_up_at, written, heard, copied, testified, set_aside, woken, gathered, writing_keeps, hearing_keeps, copying_keeps}
 use Rattle.desk_core.proofs.Runs.{steps_keep}
 use Rattle.desk_core.proofs.Splits.{each_dealt, dealer_dealt, dealing_keeps}
 
@@ -33,9 +35,9 @@ record FitsPen (last : ℕ → ℕ) (open_at : ℕ → Bool) (p : PenState) : Ty
   busy : (q : Request) → p.standing ≡ Waiting q → (open_at p.place ≡ true) × (last p.place ≡ p.posts)
 
 -- so it does, whatever it knows
-fits_still : {last : ℕ → ℕ} {open_at : ℕ → Bool} → (p : PenState) (knew : List Line) (count : ℕ) (gone : Bool) → FitsPen last open_at p
-    → FitsPen last open_at (record p { known = knew; steps = count; retired = gone })
-fits_still p knew count gone f = record { used = f.used; free = f.free; busy = f.busy }
+fits_still : {last : ℕ → ℕ} {open_at : ℕ → Bool} → (p : PenState) (knew : List Line) (count : ℕ) (duty : Duty) → FitsPen last open_at p
+    → FitsPen last open_at (record p { known = knew; steps = count; duty = duty })
+fits_still p knew count duty f = record { used = f.used; free = f.free; busy = f.busy }
 
 -- no call was made at a place whose pen is still to come
 abbrev Unused : Desk → (ℕ → ℕ) → (ℕ → Bool) → Type 0
@@ -229,7 +231,7 @@ module _ (d : Desk) (rule : MeetsRule d) (last : ℕ → ℕ) (open_at : ℕ →
   know_on views e same t next =
       next last open_at
       (subst (λ (y : Desk). Fits y last open_at) (sym same) (
-        λ j q b. (let u = t.was j q b in subst (FitsPen last open_at) (sym u.2.same) (fits_still u.0 u.2.knew u.2.count u.2.gone (fits.0 j u.0 u.1))),
+        λ j q b. (let u = t.was j q b in subst (FitsPen last open_at) (sym u.2.same) (fits_still u.0 u.2.knew u.2.count u.2.duty (fits.0 j u.0 u.1))),
         λ j n m c. fits.1 j n m (t.dealers j n m c),
       ))
 
@@ -243,11 +245,15 @@ module _ (d : Desk) (rule : MeetsRule d) (last : ℕ → ℕ) (open_at : ℕ →
   turn_move (Hears i j) e (p, told, a, there, same) next =
       know_on (set (set d.views i (Holder (after_hearing p told))) j (Note [])) e same (heard d rule.0 rule.1 rule.2 i p a j told there) next
   turn_move (Copies i) e (told, there, same) next = know_on (set d.views i (Note told) ++ Note told ∷ []) e same (copied d rule.0 rule.1 rule.2 i told there) next
-  turn_move (Testifies i) e (p, a, same) next = know_on (set d.views i (Holder p) ++ Testimony (p ∷ []) ∷ []) e same (testified d rule.0 rule.1 rule.2 i p a) next
+  turn_move (Testifies i) e (p, a, same) next = know_on (set d.views i (Holder p) ++ Testimony (p ∷ []) 0 ∷ []) e same (testified d rule.0 rule.1 rule.2 i p a) next
   turn_move (Retires i) e (p, a, idle, same) next =
-      know_on (set d.views i (Holder (after_retiring p)) ++ Testimony (after_retiring p ∷ []) ∷ []) e same (retired d rule.0 rule.1 rule.2 i p a) next
-  turn_move (Gathers i j) e (pens, more, a, there, ne, same) next =
-      know_on (set (set d.views i (Testimony (pens ++ more))) j (Testimony [])) e same (gathered d rule.0 rule.1 rule.2 i j pens more a there ne) next
+      know_on (set d.views i (Holder (after_retiring p)) ++ Testimony (after_retiring p ∷ []) 0 ∷ []) e same (set_aside d rule.0 rule.1 rule.2 i p a Retired (after_retiring p ∷ []) 0) next
+  turn_move (Sleeps i) e (p, a, idle, same) next =
+      know_on (set d.views i (Holder (after_sleeping p)) ++ Testimony [] 1 ∷ []) e same (set_aside d rule.0 rule.1 rule.2 i p a Asleep [] 1) next
+  turn_move (Wakes i j) e (p, n, a, there, ne, same) next =
+      know_on (set (set d.views i (Holder (after_waking p))) j (Testimony [] 0)) e same (woken d rule.0 rule.1 rule.2 i j p n a there ne) next
+  turn_move (Gathers i j) e (pens, more, n, m, a, there, ne, same) next =
+      know_on (set (set d.views i (Testimony (pens ++ more) (n + m))) j (Testimony [] 0)) e same (gathered d rule.0 rule.1 rule.2 i j pens more n m a there ne) next
 
 pub moves_keep : QueueLaws → (d : Desk) (x : Move) (e : Desk) → MeetsRule d → Happens d x e → MeetsRule e
 moves_keep laws d (Deals i) e m (k, room, a, inside, same) = subst MeetsRule (sym same) (dealing_keeps d i k room m a inside)
@@ -258,13 +264,19 @@ moves_keep laws d (Writes i) e m (p, a, same) = subst MeetsRule (sym same) (writ
 moves_keep laws d (Hears i j) e m (p, told, a, there, same) = subst MeetsRule (sym same) (hearing_keeps d i p m a j told there)
 moves_keep laws d (Copies i) e m (told, there, same) = subst MeetsRule (sym same) (copying_keeps d i told m there)
 moves_keep laws d (Testifies i) e m (p, a, same) =
-    subst MeetsRule (sym same) (m.0, m.1, only_keeps d m.0 m.1 m.2 (set d.views i (Holder p) ++ Testimony (p ∷ []) ∷ []) (testified d m.0 m.1 m.2 i p a))
+    subst MeetsRule (sym same) (m.0, m.1, only_keeps d m.0 m.1 m.2 (set d.views i (Holder p) ++ Testimony (p ∷ []) 0 ∷ []) (testified d m.0 m.1 m.2 i p a))
 moves_keep laws d (Retires i) e m (p, a, idle, same) =
     subst MeetsRule (sym same)
-    (m.0, m.1, only_keeps d m.0 m.1 m.2 (set d.views i (Holder (after_retiring p)) ++ Testimony (after_retiring p ∷ []) ∷ []) (retired d m.0 m.1 m.2 i p a))
-moves_keep laws d (Gathers i j) e m (pens, more, a, there, ne, same) =
+    (m.0, m.1, only_keeps d m.0 m.1 m.2 (set d.views i (Holder (after_retiring p)) ++ Testimony (after_retiring p ∷ []) 0 ∷ []) (set_aside d m.0 m.1 m.2 i p a Retired (after_retiring p ∷ []) 0))
+moves_keep laws d (Sleeps i) e m (p, a, idle, same) =
     subst MeetsRule (sym same)
-    (m.0, m.1, only_keeps d m.0 m.1 m.2 (set (set d.views i (Testimony (pens ++ more))) j (Testimony [])) (gathered d m.0 m.1 m.2 i j pens more a there ne))
+    (m.0, m.1, only_keeps d m.0 m.1 m.2 (set d.views i (Holder (after_sleeping p)) ++ Testimony [] 1 ∷ []) (set_aside d m.0 m.1 m.2 i p a Asleep [] 1))
+moves_keep laws d (Wakes i j) e m (p, n, a, there, ne, same) =
+    subst MeetsRule (sym same)
+    (m.0, m.1, only_keeps d m.0 m.1 m.2 (set (set d.views i (Holder (after_waking p))) j (Testimony [] 0)) (woken d m.0 m.1 m.2 i j p n a there ne))
+moves_keep laws d (Gathers i j) e m (pens, more, n, k, a, there, ne, same) =
+    subst MeetsRule (sym same)
+    (m.0, m.1, only_keeps d m.0 m.1 m.2 (set (set d.views i (Testimony (pens ++ more) (n + k))) j (Testimony [] 0)) (gathered d m.0 m.1 m.2 i j pens more n k a there ne))
 
 turns_on : QueueLaws → (xs : List Move) (d e : Desk) (last : ℕ → ℕ) (open_at : ℕ → Bool) → MeetsRule d → Fits d last open_at → (run : DealtRun d xs e)
     → TakeTurns last open_at (dealt_history d xs e run)

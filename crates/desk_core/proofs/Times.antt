@@ -22,8 +22,8 @@ use Rattle.desk_core.specs.Desk.{Desk, Has, acts_in, acts_number, time, dealer_o
 use Rattle.desk_core.specs.Steps.{Event, Drafts, Posts, Tries, Reads, ReadsItem, LaysItem, Answers, Applies, Releases, ReleasesBy, Looks, SeesItem, TakesItem, Step}
 use Rattle.desk_core.specs.Notes.{after_catch_up, after_writing, after_hearing}
 use Rattle.desk_core.specs.Linearizable.{Act, Begins, Ends, told, acts}
-use Rattle.desk_core.specs.Dealing.{Move, Deals, Takes, CatchesUp, Writes, Hears, Copies, Testifies, Retires, Gathers, Happens, DealtRun, acts_of, dealt_history}
-use Rattle.desk_core.specs.Testimonies.{after_retiring}
+use Rattle.desk_core.specs.Dealing.{Move, Deals, Takes, CatchesUp, Writes, Hears, Copies, Testifies, Retires, Sleeps, Wakes, Gathers, Happens, DealtRun, acts_of, dealt_history}
+use Rattle.desk_core.specs.Testimonies.{after_retiring, after_sleeping, after_waking}
 use Rattle.desk_core.specs.Times.{KeepsPosition, IsTimed, AreTimed, EveryDealtRunIsTimed, TimesOrderCalls}
 use Rattle.pq_types.specs.Control.{answer_with}
 use Rattle.desk_core.specs.declared.model.PenState.{PenState}
@@ -369,20 +369,31 @@ module _ (d : Desk) (old : List Act) (t : AreTimed d.views old) where
       (λ q f. (let g : Note told ≡ Holder q = f in cc)) (λ q f. (let g : Note told ≡ Holder q = f in cc)) still))
   move_timed (Testifies i) e (p, a, same) =
       leads_to e _ [] same
-      (snoc_timed (set d.views i (Holder p)) (Testimony (p ∷ [])) (old ++ []) refl (λ q f. absurd (let g : Testimony (p ∷ []) ≡ Holder q = f in cc))
+      (snoc_timed (set d.views i (Holder p)) (Testimony (p ∷ []) 0) (old ++ []) refl (λ q f. absurd (let g : Testimony (p ∷ []) 0 ≡ Holder q = f in cc))
       (subst (λ (vs : List View). AreTimed vs (old ++ [])) (sym (set_again d.views i (Holder p) a)) still))
   move_timed (Retires i) e (p, a, idle, same) =
       let w = after_retiring p in
       leads_to e _ [] same
-      (snoc_timed (set d.views i (Holder w)) (Testimony (w ∷ [])) (old ++ []) refl (λ q f. absurd (let g : Testimony (w ∷ []) ≡ Holder q = f in cc))
+      (snoc_timed (set d.views i (Holder w)) (Testimony (w ∷ []) 0) (old ++ []) refl (λ q f. absurd (let g : Testimony (w ∷ []) 0 ≡ Holder q = f in cc))
       (quiet d.views i p w old a t refl refl refl))
-  move_timed (Gathers i j) e (pens, more, a, there, ne, same) =
-      let w = Testimony (pens ++ more) in
+  move_timed (Sleeps i) e (p, a, idle, same) =
+      let w = after_sleeping p in
       leads_to e _ [] same
-      (plain_timed (set d.views i w) j (Testimony more) (Testimony []) (old ++ []) (set_else d.views i j w ne ∙ there) refl refl
-      (λ q f. (let g : Testimony more ≡ Holder q = f in cc)) (λ q f. (let g : Testimony [] ≡ Holder q = f in cc))
-      (plain_timed d.views i (Testimony pens) w (old ++ []) a refl refl
-      (λ q f. (let g : Testimony pens ≡ Holder q = f in cc)) (λ q f. (let g : w ≡ Holder q = f in cc)) still))
+      (snoc_timed (set d.views i (Holder w)) (Testimony [] 1) (old ++ []) refl (λ q f. absurd (let g : Testimony [] 1 ≡ Holder q = f in cc))
+      (quiet d.views i p w old a t refl refl refl))
+  move_timed (Wakes i j) e (p, n, a, there, ne, same) =
+      let w = after_waking p in
+      leads_to e _ [] same
+      (plain_timed (set d.views i (Holder w)) j (Testimony [] n) (Testimony [] 0) (old ++ []) (set_else d.views i j (Holder w) ne ∙ there) refl refl
+      (λ q f. (let g : Testimony [] n ≡ Holder q = f in cc)) (λ q f. (let g : Testimony [] 0 ≡ Holder q = f in cc))
+      (quiet d.views i p w old a t refl refl refl))
+  move_timed (Gathers i j) e (pens, more, n, m, a, there, ne, same) =
+      let w = Testimony (pens ++ more) (n + m) in
+      leads_to e _ [] same
+      (plain_timed (set d.views i w) j (Testimony more m) (Testimony [] 0) (old ++ []) (set_else d.views i j w ne ∙ there) refl refl
+      (λ q f. (let g : Testimony more m ≡ Holder q = f in cc)) (λ q f. (let g : Testimony [] 0 ≡ Holder q = f in cc))
+      (plain_timed d.views i (Testimony pens n) w (old ++ []) a refl refl
+      (λ q f. (let g : Testimony pens n ≡ Holder q = f in cc)) (λ q f. (let g : w ≡ Holder q = f in cc)) still))
 
 run_timed : (xs : List Move) (d e : Desk) (old : List Act) → AreTimed d.views old → (run : DealtRun d xs e) → AreTimed e.views (old ++ dealt_history d xs e run)
 run_timed [] d e old t run = subst (λ (y : Desk). AreTimed y.views (old ++ [])) (sym run) (subst (AreTimed d.views) (sym (append-nil old)) t)

@@ -1,5 +1,5 @@
 -- Testimonies are true: what a pen kept when it gave one, the history and the journal have from then on.
-use Rattle.std.proofs.Common.{◌≡◌, ℕ, zero, suc, ◌+◌, ◌⊎◌, inl, inr, ⊎_elim, Bool, true, List, [], ◌∷◌, ◌++◌, set, slice_get, refl, sym, ◌∙◌, subst, append_assoc, append-nil, arith}
+use Rattle.std.proofs.Common.{◌≡◌, ℕ, zero, suc, ◌+◌, ◌⊎◌, inl, inr, ⊎_elim, List, [], ◌∷◌, ◌++◌, set, slice_get, refl, sym, ◌∙◌, subst, append_assoc, append-nil, arith}
 use Rattle.std.specs.Prelude.{Some, None}
 use mathlib.Core.Option.{some, some-injective, some-ne-none}
 use lib.ListN.{get_elem?}
@@ -11,10 +11,12 @@ use Rattle.desk_core.specs.Desk.{Desk, Has, acts_number, dealer_opening}
 use Rattle.desk_core.specs.Steps.{actor}
 use Rattle.desk_core.specs.Notes.{after_catch_up, after_writing, after_hearing}
 use Rattle.desk_core.specs.Linearizable.{Act, Linearizes}
-use Rattle.desk_core.specs.Dealing.{Move, Deals, Takes, CatchesUp, Writes, Hears, Copies, Testifies, Retires, Gathers, Happens, DealtRun, acts_of, dealt_history}
-use Rattle.desk_core.specs.Testimonies.{after_retiring}
+use Rattle.desk_core.specs.Dealing.{Move, Deals, Takes, CatchesUp, Writes, Hears, Copies, Testifies, Retires, Sleeps, Wakes, Gathers, Happens, DealtRun, acts_of, dealt_history}
+use Rattle.desk_core.specs.Testimonies.{after_retiring, after_sleeping, after_waking}
 use Rattle.desk_core.specs.Times.{AreTimed}
 use Rattle.desk_core.specs.Witnessed.{IsWitnessed, TestimoniesAreTrue, LinearizedFollowTime}
+use Rattle.desk_core.specs.declared.model.Duty.{Duty}
+use Rattle.desk_core.specs.declared.model.Duty.TheVariants.{Retired}
 use Rattle.desk_core.specs.declared.model.PenState.{PenState}
 use Rattle.desk_core.specs.declared.model.View.{View}
 use Rattle.desk_core.specs.declared.model.View.TheVariants.{Dealer, Holder, Note, Testimony}
@@ -31,16 +33,16 @@ use Rattle.desk_core.proofs.Times.{later, move_timed, starts_timed, read_line}
 
 -- a testimony that has this pen stands at some seat
 Gave : List View → PenState → Type 0
-Gave views p = (i : ℕ) × (pens : List PenState) × (get_elem? views i ≡ some (Testimony pens)) × ((k : ℕ) × (slice_get pens k ≡ Some p))
+Gave views p = (i : ℕ) × (pens : List PenState) × (n : ℕ) × (get_elem? views i ≡ some (Testimony pens n)) × ((k : ℕ) × (slice_get pens k ≡ Some p))
 
--- a pen stands at some seat, that is this one but for whether it has retired
+-- a pen stands at some seat, that is this one but for whether it acts
 abbrev Gives : List View → PenState → Type 0
-Gives views p = (i : ℕ) × (q : PenState) × Has views i q × ((gone : Bool) × (p ≡ record q { retired = gone }))
+Gives views p = (i : ℕ) × (q : PenState) × Has views i q × ((duty : Duty) × (p ≡ record q { duty = duty }))
 
 -- what is true of a pen stays so as it retires
-still_witnessed : (room : ℕ) (history : List Act) (journal : List Line) (p : PenState) (gone : Bool) → IsWitnessed room history journal p
-    → IsWitnessed room history journal (record p { retired = gone })
-still_witnessed room history journal p gone w =
+still_witnessed : (room : ℕ) (history : List Act) (journal : List Line) (p : PenState) (duty : Duty) → IsWitnessed room history journal p
+    → IsWitnessed room history journal (record p { duty = duty })
+still_witnessed room history journal p duty w =
     record {
       room_is = w.room_is;
       timed = record { begun = w.timed.begun; ended = w.timed.ended };
@@ -49,16 +51,23 @@ still_witnessed room history journal p gone w =
     }
 
 -- where a pen has come to a seat, or a view that is no testimony
-gave_set : (views : List View) (i : ℕ) (w : View) (p : PenState) → ((pens : List PenState) → w ≡ Testimony pens → ⊥) → Gave (set views i w) p → Gave views p
+gave_set : (views : List View) (i : ℕ) (w : View) (p : PenState) → ((pens : List PenState) (n k : ℕ) → w ≡ Testimony pens n → slice_get pens k ≡ Some p → ⊥) → Gave (set views i w) p → Gave views p
 unfolding Gave
-gave_set views i w p other (j, pens, a, at) = ⊎_elim (λ u. absurd (other pens u.1)) (λ u. (j, pens, u.1, at)) (at_set views i j w (Testimony pens) a)
+gave_set views i w p other (j, pens, n, a, at) = ⊎_elim (λ u. absurd (other pens n at.0 u.1 at.1)) (λ u. (j, pens, n, u.1, at)) (at_set views i j w (Testimony pens n) a)
 
-gave_snoc : (views : List View) (w : View) (p : PenState) → ((pens : List PenState) → w ≡ Testimony pens → ⊥) → Gave (views ++ w ∷ []) p → Gave views p
+gave_snoc : (views : List View) (w : View) (p : PenState) → ((pens : List PenState) (n k : ℕ) → w ≡ Testimony pens n → slice_get pens k ≡ Some p → ⊥) → Gave (views ++ w ∷ []) p → Gave views p
 unfolding Gave
-gave_snoc views w p other (j, pens, a, at) = ⊎_elim (λ u. (j, pens, u, at)) (λ u. absurd (other pens u)) (at_snoc views w (Testimony pens) j a)
+gave_snoc views w p other (j, pens, n, a, at) = ⊎_elim (λ u. (j, pens, n, u, at)) (λ u. absurd (other pens n at.0 u at.1)) (at_snoc views w (Testimony pens n) j a)
 
 gave_pen : (views : List View) (i : ℕ) (w p : PenState) → Gave (set views i (Holder w)) p → Gave views p
-gave_pen views i w p g = gave_set views i (Holder w) p (λ pens e. (let f : Holder w ≡ Testimony pens = e in cc)) g
+gave_pen views i w p g = gave_set views i (Holder w) p (λ pens n k e at. (let f : Holder w ≡ Testimony pens n = e in cc)) g
+
+-- no pen stands in a testimony of none
+no_pens : (p : PenState) (m : ℕ) (pens : List PenState) (n k : ℕ) → Testimony [] m ≡ Testimony pens n → slice_get pens k ≡ Some p → ⊥
+no_pens p m pens n k f c =
+    let z : [] ≡ pens = cc in
+    let none : None ≡ Some p = subst (λ (l : List PenState). slice_get l k ≡ Some p) (sym z) c in
+    cc
 
 module _ (laws : QueueLaws) (d : Desk) (old : List Act) (journal : List Line) (at : At d old journal) where
   -- a pen of a testimony was one of an earlier one, or has just given it, where it may have retired
@@ -66,8 +75,8 @@ module _ (laws : QueueLaws) (d : Desk) (old : List Act) (journal : List Line) (a
   unfolding Gave
   gave (Deals i) e (k, room, a, inside, same) p g =
       inl
-      (gave_set d.views i (Dealer (k + 1) room) p (λ pens f. (let h : Dealer (k + 1) room ≡ Testimony pens = f in cc))
-      (gave_snoc (set d.views i (Dealer (k + 1) room)) (Holder (new_pen room k)) p (λ pens f. (let h : Holder (new_pen room k) ≡ Testimony pens = f in cc))
+      (gave_set d.views i (Dealer (k + 1) room) p (λ pens n l f b. (let h : Dealer (k + 1) room ≡ Testimony pens n = f in cc))
+      (gave_snoc (set d.views i (Dealer (k + 1) room)) (Holder (new_pen room k)) p (λ pens n l f b. (let h : Holder (new_pen room k) ≡ Testimony pens n = f in cc))
       (subst (λ (y : Desk). Gave y.views p) same g)))
   gave (Takes x) e step p g =
       let v = moves d x e (journal, at.chief, at.rule) step in
@@ -76,59 +85,62 @@ module _ (laws : QueueLaws) (d : Desk) (old : List Act) (journal : List Line) (a
   gave (Writes i) e (q, a, same) p g =
       inl
       (gave_pen d.views i (after_writing q) p
-      (gave_snoc (set d.views i (Holder (after_writing q))) (Note q.known) p (λ pens f. (let h : Note q.known ≡ Testimony pens = f in cc))
+      (gave_snoc (set d.views i (Holder (after_writing q))) (Note q.known) p (λ pens n l f b. (let h : Note q.known ≡ Testimony pens n = f in cc))
       (subst (λ (y : Desk). Gave y.views p) same g)))
   gave (Hears i j) e (q, told, a, there, same) p g =
       inl
       (gave_pen d.views i (after_hearing q told) p
-      (gave_set (set d.views i (Holder (after_hearing q told))) j (Note []) p (λ pens f. (let h : Note [] ≡ Testimony pens = f in cc))
+      (gave_set (set d.views i (Holder (after_hearing q told))) j (Note []) p (λ pens n l f b. (let h : Note [] ≡ Testimony pens n = f in cc))
       (subst (λ (y : Desk). Gave y.views p) same g)))
   gave (Copies i) e (told, there, same) p g =
       inl
-      (gave_set d.views i (Note told) p (λ pens f. (let h : Note told ≡ Testimony pens = f in cc))
-      (gave_snoc (set d.views i (Note told)) (Note told) p (λ pens f. (let h : Note told ≡ Testimony pens = f in cc))
+      (gave_set d.views i (Note told) p (λ pens n l f b. (let h : Note told ≡ Testimony pens n = f in cc))
+      (gave_snoc (set d.views i (Note told)) (Note told) p (λ pens n l f b. (let h : Note told ≡ Testimony pens n = f in cc))
       (subst (λ (y : Desk). Gave y.views p) same g)))
   gave (Testifies i) e (q, a, same) p g =
-      let (j, pens, b, (k, c)) = subst (λ (y : Desk). Gave y.views p) same g in
+      let (j, pens, n, b, (k, c)) = subst (λ (y : Desk). Gave y.views p) same g in
       ⊎_elim
-      (λ u. inl (gave_pen d.views i q p (j, pens, u, (k, c))))
+      (λ u. inl (gave_pen d.views i q p (j, pens, n, u, (k, c))))
       (λ u.
-      (let f : Testimony (q ∷ []) ≡ Testimony pens = u in
+      (let f : Testimony (q ∷ []) 0 ≡ Testimony pens n = u in
       let h : q ∷ [] ≡ pens = cc in
       let o = one_alone q p k (subst (λ (l : List PenState). slice_get l k ≡ Some p) (sym h) c) in
-      inr (i, p, subst (Has d.views i) o.1 a, (p.retired, refl))))
-      (at_snoc (set d.views i (Holder q)) (Testimony (q ∷ [])) (Testimony pens) j b)
+      inr (i, p, subst (Has d.views i) o.1 a, (p.duty, refl))))
+      (at_snoc (set d.views i (Holder q)) (Testimony (q ∷ []) 0) (Testimony pens n) j b)
   gave (Retires i) e (q, a, idle, same) p g =
       let w = after_retiring q in
-      let (j, pens, b, (k, c)) = subst (λ (y : Desk). Gave y.views p) same g in
+      let (j, pens, n, b, (k, c)) = subst (λ (y : Desk). Gave y.views p) same g in
       ⊎_elim
-      (λ u. inl (gave_pen d.views i w p (j, pens, u, (k, c))))
+      (λ u. inl (gave_pen d.views i w p (j, pens, n, u, (k, c))))
       (λ u.
-      (let f : Testimony (w ∷ []) ≡ Testimony pens = u in
+      (let f : Testimony (w ∷ []) 0 ≡ Testimony pens n = u in
       let h : w ∷ [] ≡ pens = cc in
       let o = one_alone w p k (subst (λ (l : List PenState). slice_get l k ≡ Some p) (sym h) c) in
-      inr (i, q, a, (true, sym o.1))))
-      (at_snoc (set d.views i (Holder w)) (Testimony (w ∷ [])) (Testimony pens) j b)
-  gave (Gathers i j) e (pens, more, a, there, ne, same) p g =
-      let (h, all, b, (k, c)) = subst (λ (y : Desk). Gave y.views p) same g in
+      inr (i, q, a, (Retired, sym o.1))))
+      (at_snoc (set d.views i (Holder w)) (Testimony (w ∷ []) 0) (Testimony pens n) j b)
+  gave (Sleeps i) e (q, a, idle, same) p g =
+      inl
+      (gave_pen d.views i (after_sleeping q) p
+      (gave_snoc (set d.views i (Holder (after_sleeping q))) (Testimony [] 1) p (no_pens p 1) (subst (λ (y : Desk). Gave y.views p) same g)))
+  gave (Wakes i j) e (q, n, a, there, ne, same) p g =
+      inl
+      (gave_pen d.views i (after_waking q) p
+      (gave_set (set d.views i (Holder (after_waking q))) j (Testimony [] 0) p (no_pens p 0) (subst (λ (y : Desk). Gave y.views p) same g)))
+  gave (Gathers i j) e (pens, more, n, m, a, there, ne, same) p g =
+      let both = Testimony (pens ++ more) (n + m) in
+      let (h, all, l, b, (k, c)) =
+      gave_set (set d.views i both) j (Testimony [] 0) p (no_pens p 0) (subst (λ (y : Desk). Gave y.views p) same g) in
       inl
       (⊎_elim
-      (λ u.
-      (let f : Testimony [] ≡ Testimony all = u.1 in
-      let z : [] ≡ all = cc in
-      absurd (let none : None ≡ Some p = subst (λ (l : List PenState). slice_get l k ≡ Some p) (sym z) c in cc)))
-      (λ u.
-      ⊎_elim
       (λ v.
-      (let f : Testimony (pens ++ more) ≡ Testimony all = v.1 in
+      (let f : Testimony (pens ++ more) (n + m) ≡ Testimony all l = v.1 in
       let z : pens ++ more ≡ all = cc in
       ⊎_elim
-      (λ w. (i, pens, a, (k, w.1)))
-      (λ w. (j, more, there, (w.0, w.2)))
+      (λ w. (i, pens, n, a, (k, w.1)))
+      (λ w. (j, more, m, there, (w.0, w.2)))
       (get_cases pens more k p (subst (λ (l : List PenState). slice_get l k ≡ Some p) (sym z) c))))
-      (λ v. (h, all, v.1, (k, c)))
-      (at_set d.views i h (Testimony (pens ++ more)) (Testimony all) u.1))
-      (at_set (set d.views i (Testimony (pens ++ more))) j h (Testimony []) (Testimony all) b))
+      (λ v. (h, all, l, v.1, (k, c)))
+      (at_set d.views i h both (Testimony all l) b))
 
   -- what is true of a pen stays so
   goes_on : (x : Move) (e : Desk) (step : Happens d x e) (room : ℕ) (p : PenState) → IsWitnessed room old journal p
@@ -168,9 +180,9 @@ run_stood laws room (x ∷ xs) d e old journal s run =
           (⊎_elim
           (λ u. s.witnessed p u)
           (λ u.
-          let (i, q, a, (gone, same)) = u in
+          let (i, q, a, (duty, same)) = u in
           subst (IsWitnessed room old journal) (sym same)
-          (still_witnessed room old journal q gone
+          (still_witnessed room old journal q duty
           record {
             room_is = (s.at.rule.pens i q a).told ∙ s.same_room;
             timed = s.timed.pens i q a;
@@ -187,12 +199,12 @@ run_stood laws room (x ∷ xs) d e old journal s run =
 
 no_testimony : (room i : ℕ) (p : PenState) → Gave (Dealer 0 room ∷ []) p → ⊥
 unfolding Gave
-no_testimony room i p (zero, pens, a, at) = let f : Dealer 0 room ≡ Testimony pens = some-injective (Dealer 0 room) (Testimony pens) a in cc
-no_testimony room i p (suc j, pens, a, at) = absurd (some-ne-none (Testimony pens) (sym a))
+no_testimony room i p (zero, pens, n, a, at) = let f : Dealer 0 room ≡ Testimony pens n = some-injective (Dealer 0 room) (Testimony pens n) a in cc
+no_testimony room i p (suc j, pens, n, a, at) = absurd (some-ne-none (Testimony pens n) (sym a))
 
 pub testimonies_are_true : QueueLaws → TestimoniesAreTrue
 unfolding Gave
-testimonies_are_true laws places room moves d small run i pens at =
+testimonies_are_true laws places room moves d small run i pens n at =
     let meets = openings_meet.dealer places room small in
     let o = begins_at places room (Dealer 0 room ∷ []) meets in
     let s = run_stood laws room moves (dealer_opening places room) d [] o.0
@@ -203,7 +215,7 @@ testimonies_are_true laws places room moves d small run i pens at =
       history = dealt_history (dealer_opening places room) moves d run;
       journal = s.0;
       linearizes = subst (λ js. Linearizes room (dealt_history (dealer_opening places room) moves d run) js) same l.2;
-      witnessed = λ k p e. s.1.witnessed p (i, pens, at, (k, e));
+      witnessed = λ k p e. s.1.witnessed p (i, pens, n, at, (k, e));
     }
 
 pub linearized_follow_time : LinearizedFollowTime

@@ -14,14 +14,14 @@ use Rattle.desk_core.specs.Desk.{Desk, dealer_opening}
 use Rattle.desk_core.specs.Steps.{Event, Step}
 use Rattle.desk_core.specs.Rule.{StartsWith, MeetsRule}
 use Rattle.desk_core.specs.Notes.{StepsCatchUp, StepsWrite, StepsHear, StepsCopy}
-use Rattle.desk_core.specs.Testimonies.{StepsTestify, StepsRetire, StepsGather}
+use Rattle.desk_core.specs.Testimonies.{StepsTestify, StepsRetire, StepsSleep, StepsWake, StepsGather}
 use Rattle.desk_core.specs.Linearizable.{Act, Begins, Ends, IsIn, Linearizes, acts}
 use Rattle.desk_core.specs.declared.model.Call.{Call}
 use Rattle.desk_core.specs.declared.model.View.TheVariants.{Dealer, Holder}
 
 -- What may happen there: the dealer at a seat gives out the pen of its next place; a pen takes a step; a pen catches up with
--- the journal, writes a note, or hears the note at another seat; a note is copied; a pen gives testimony, or retires; or two
--- testimonies are put together.
+-- the journal, writes a note, or hears the note at another seat; a note is copied; a pen gives testimony, retires, falls asleep,
+-- or is woken by the licence at another seat; or two testimonies are put together.
 pub data Move : Type 0 where
   Deals : (seat : ℕ) → Move
   Takes : (event : Event) → Move
@@ -31,6 +31,8 @@ pub data Move : Type 0 where
   Copies : (seat : ℕ) → Move
   Testifies : (seat : ℕ) → Move
   Retires : (seat : ℕ) → Move
+  Sleeps : (seat : ℕ) → Move
+  Wakes : (seat other : ℕ) → Move
   Gathers : (seat other : ℕ) → Move
 
 -- the dealer at this seat gives out the pen of its next place, which gets a seat behind all others
@@ -49,6 +51,8 @@ Happens d (Hears seat other) d' = StepsHear d seat other d'
 Happens d (Copies seat) d' = StepsCopy d seat d'
 Happens d (Testifies seat) d' = StepsTestify d seat d'
 Happens d (Retires seat) d' = StepsRetire d seat d'
+Happens d (Sleeps seat) d' = StepsSleep d seat d'
+Happens d (Wakes seat other) d' = StepsWake d seat other d'
 Happens d (Gathers seat other) d' = StepsGather d seat other d'
 
 -- these moves, the first of the list first, lead from the first desk to the second
@@ -66,6 +70,8 @@ acts_of d (Hears seat other) d' step = []
 acts_of d (Copies seat) d' step = []
 acts_of d (Testifies seat) d' step = []
 acts_of d (Retires seat) d' step = []
+acts_of d (Sleeps seat) d' step = []
+acts_of d (Wakes seat other) d' step = []
 acts_of d (Gathers seat other) d' step = []
 
 -- what they see of such a run, in its order

@@ -32,7 +32,7 @@ abbrev pub acts_in : View → ℕ
 acts_in (Dealer place room) = 0
 acts_in (Holder p) = length p.begins + length p.ends
 acts_in (Note told) = 0
-acts_in (Testimony pens) = 0
+acts_in (Testimony pens licences) = 0
 
 -- of how many acts all seats keep them
 abbrev pub acts_number : List View → ℕ

@@ -17,6 +17,7 @@ pub mod CallLines
 pub mod Linearizable
 pub mod Notes
 pub mod Testimonies
+pub mod Duties
 pub mod Dealing
 pub mod Times
 pub mod Positions

@@ -20,6 +20,7 @@ use Rattle.desk_core.specs.declared.model.Call.{Call}
 use Rattle.desk_core.specs.declared.model.Standing.{Standing}
 use Rattle.desk_core.specs.declared.model.Standing.TheVariants.{Idle, Waiting}
 use Rattle.desk_core.specs.declared.model.Due.{Due}
+use Rattle.desk_core.specs.declared.model.Duty.TheVariants.{Active}
 use Rattle.desk_core.specs.declared.model.Word.TheVariants as word
 use Rattle.desk_core.specs.declared.model.PenState.{PenState}
 
@@ -44,7 +45,7 @@ new_pen room place =
       begins = [];
       ends = [];
       steps = 0;
-      retired = false;
+      duty = Active;
     }
 
 -- it waits for no answer

@@ -33,7 +33,7 @@ pub record AreLinearized (room : ℕ) (pens : List PenState) : Type 0 where
 abbrev pub TestimoniesAreTrue : Type 0
 TestimoniesAreTrue =
     (places room : ℕ) (moves : List Move) (d : Desk) → room ≤ GREATEST_NUMBER → DealtRun (dealer_opening places room) moves d
-    → (i : ℕ) (pens : List PenState) → get_elem? d.views i ≡ some (Testimony pens) → AreLinearized room pens
+    → (i : ℕ) (pens : List PenState) (licences : ℕ) → get_elem? d.views i ≡ some (Testimony pens licences) → AreLinearized room pens
 
 -- So of two calls that any two of them have read, of which one ended before the other began, it has the earlier line.
 abbrev pub LinearizedFollowTime : Type 0

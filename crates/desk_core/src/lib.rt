@@ -11,4 +11,4 @@
 pub mod laws;
 pub mod model;
 
-pub use model::{Call, Due, PenState, Standing, View, Word};
+pub use model::{Call, Due, Duty, PenState, Standing, View, Word};

@@ -44,6 +44,16 @@ pub enum Word {
     Item(Item),
 }
 
+/// Whether a pen acts.
+pub enum Duty {
+    /// It may take steps.
+    Active,
+    /// It sleeps, as new, until it is woken.
+    Asleep,
+    /// It has retired, and takes no step from then on.
+    Retired,
+}
+
 /// A pen: what the one who posts at a place has done and seen.
 pub struct PenState {
     /// Its place.
@@ -82,16 +92,16 @@ pub struct PenState {
     pub ends: LinkedList<(u64, u64)>,
     /// The number of its steps.
     pub steps: u64,
-    /// Whether it has retired: it takes no step from then on.
-    pub retired: bool,
+    /// Whether it acts.
+    pub duty: Duty,
 }
 
 /// What a seat at the desk stands for: the places from this one on, whose pens are still to come,
 /// with the journal's room; or a pen; or a note, with the journal that it tells; or a testimony, with
-/// some pens as they were when they gave it.
+/// some pens as they were when they gave it, and how many sleeping pens may be woken by it: its licences.
 pub enum View {
     Dealer(u16, u64),
     Holder(PenState),
     Note(LinkedList<Line>),
-    Testimony(LinkedList<PenState>),
+    Testimony(LinkedList<PenState>, u64),
 }

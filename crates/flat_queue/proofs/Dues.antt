@@ -1,18 +1,16 @@
 -- What looks for what is due come to.
-use Rattle.std.proofs.Common.{◌≡◌, ◌∙◌, ℕ, suc, ap, sym, subst, refl, true, true≢false}
+use Rattle.std.proofs.Common.{◌≡◌, ◌∙◌, ℕ, ap, refl, true, true≢false}
 use Rattle.std.specs.Prelude.{Option, Some, None, is_some, Result, Ok, Err}
 use Rattle.std.specs.declared.time.Instant.{Instant}
-use Rattle.pq_types.specs.Item.{Item}
 use Rattle.announce_board.specs.Tokens.{is_idle}
 use Rattle.flat_queue.specs.Members.{Joined}
 use Rattle.flat_queue.specs.Looking.{Looked, MissesThenLooksBy}
-use Rattle.flat_queue.specs.Taking.{Repeats, ended_look, LooksForBy}
-use Rattle.flat_queue.specs.Due.{Due, Sight, IsDueAt, IsStaying, LeavesAllBy, SeesEmptyBy, EndsDueBy, SightsBy, TakesDueBy, TakesDueOrEndsBy}
+use Rattle.flat_queue.specs.Taking.{ended_look, LooksForBy}
+use Rattle.flat_queue.specs.Due.{Due, LeavesAllBy, SeesEmptyBy, EndsDueBy, TakesDueBy, TakesDueOrEndsBy}
 use Rattle.flat_queue.specs.declared.times.Times.{Times}
 use Rattle.flat_queue.specs.declared.looking.Wanted.{Wanted}
 use Rattle.flat_queue.specs.declared.looking.Looked.TheVariants as looked
 use Rattle.flat_queue.specs.declared.due.Due.TheVariants as due
-use Rattle.flat_queue.specs.declared.due.Sight.TheVariants as sight
 use Rattle.flat_queue.specs.declared.error.CallError.{CallError}
 use Rattle.flat_queue.proofs.Takings.{IdleStill, vain_idle, ends_idle, still_idle, repeats_idle}
 
@@ -54,19 +52,3 @@ due_or_ends_idle words may_tell times deadline a c (Err e) i t = due_idle words 
 -- a look that found no item left all there
 pub empty_leaves : (words : ℕ) (a c : Joined) → SeesEmptyBy words a c → LeavesAllBy words a c
 empty_leaves words a c (wants, h) = (wants, looked.Nothing, refl, h)
-
--- what a look comes to behind which this item stays, as it was not due
-pub stays_sighted : (words : ℕ) (may_tell : Option Instant → Type 0) (times : Times) (deadline : Option Instant) (now : Instant) (wants : Wanted) (x : Item) (told : Sight) (a c : Joined)
-    → MissesThenLooksBy words wants a (looked.Stays x) c → may_tell (Some now) → ¬ (IsDueAt times now x.priority) → IsStaying deadline now x told → SightsBy words may_tell times deadline a (Ok told) c
-stays_sighted words may_tell times deadline now wants x (sight.Ends (due.Taken number y at)) a c h read not is = absurd is
-stays_sighted words may_tell times deadline now wants x (sight.Ends (due.Later y at)) a c h read not (same, then, come) =
-    subst (λ z. EndsDueBy words may_tell times deadline a (Ok (due.Later z at)) c) (sym same)
-    (subst (λ t. EndsDueBy words may_tell times deadline a (Ok (due.Later x t)) c) (sym then) (wants, h, read, come, not))
-stays_sighted words may_tell times deadline now wants x (sight.Ends (due.Nothing at)) a c h read not is = absurd is
-stays_sighted words may_tell times deadline now wants x (sight.Ends due.NoClock) a c h read not is = absurd is
-stays_sighted words may_tell times deadline now wants x (sight.Waits until) a c h read not is = (wants, looked.Stays x, refl, h)
-stays_sighted words may_tell times deadline now wants x sight.Empty a c h read not is = absurd is
-
--- one more look in vain
-pub one_more : (words : ℕ) (a m c : Joined) → (n : ℕ) × Repeats (LeavesAllBy words) n a m → LeavesAllBy words m c → (n : ℕ) × Repeats (LeavesAllBy words) n a c
-one_more words a m c (n, f) v = (suc n, (m, f, v))

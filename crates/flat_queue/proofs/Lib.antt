@@ -19,6 +19,8 @@ pub mod Lookings
 pub mod Countings
 pub mod Tellings
 pub mod Idle
+pub mod Closes
+pub mod Yielded
 pub mod TrailRounds
 pub mod TrailSwept
 pub mod LineOrder
@@ -26,4 +28,6 @@ pub mod TimeOrder
 pub mod NoteOrder
 pub mod Takings
 pub mod TakeStepping
+pub mod CallStepping
 pub mod Dues
+pub mod DueStepping

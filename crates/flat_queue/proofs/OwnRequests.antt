@@ -29,9 +29,10 @@ use Rattle.flat_queue.specs.Memory.{HasSpareRoom}
 use Rattle.flat_queue.specs.Members.{Joined, StaysAtPlace}
 use Rattle.flat_queue.specs.Sweeping.{SweepsBy}
 use Rattle.flat_queue.specs.TrailSweeping.{IsTrailSweptBy}
-use Rattle.flat_queue.specs.Turns.{FindsLockHeld, Misses}
+use Rattle.flat_queue.specs.Turns.{FindsLockHeld}
 use Rattle.flat_queue.specs.Calling.{KeepsTimes, HasPostedOne, IsEntered, MakesCall, PostsAndWaitsBy, ended, told_by}
 use Rattle.flat_queue.specs.OwnRequest.{SweepsWhereBy, ReleasesOperation, CarriesOutOperationBy, CarriesOutBy, EntersAtOnceBy, TriesOrWaitsBy, EntersOrWaitsBy}
+use Rattle.flat_queue.specs.CallSteps.{HasTried}
 use Rattle.flat_queue.specs.declared.error.CallError.{CallError}
 use Rattle.flat_queue.specs.declared.error.CallError.TheVariants.{NoMemory, Spent}
 use Rattle.flat_queue.proofs.Misses.{HasMissed, missed_none, missed_on, call_behind}
@@ -246,15 +247,6 @@ called_spent words a request has_room le =
       never_gives_up = λ e. cc e;
       memory = λ room e. cc e;
     }
-
--- A member whose call has tried the lock again, and found it held each time, and has so many tries left.
-pub record HasTried (before now : Joined) (left : ℕ) : Type 0 where
-  pub tries : ℕ
-  pub left_is : left + tries ≡ before.rest.tries
-  pub misses : Misses tries before now
-  pub queue : now.queue ≡ before.queue
-  pub standing : now.pen.standing ≡ before.pen.standing
-  pub posts : now.pen.posts ≡ before.pen.posts
 
 -- it entered at once
 pub entered_now : (words : ℕ) (a c : Joined) (request : Request) (has_room : Type 0) (result : Result (ℕ × Reply) CallError)

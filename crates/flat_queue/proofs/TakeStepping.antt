@@ -1,5 +1,5 @@
 -- What the steps of a take come to, one after another.
-use Rattle.std.proofs.Common.{◌≡◌, ◌∙◌, ℕ, zero, suc, ◌<◌, ◌≤◌, ◌⊎◌, inl, inr, ⊎_elim, ap, sym, subst, refl, true, Bool}
+use Rattle.std.proofs.Common.{◌≡◌, ◌∙◌, ℕ, zero, suc, ◌<◌, ◌⊎◌, inl, inr, ⊎_elim, ap, sym, subst, refl, true}
 use Rattle.std.specs.Prelude.{Option, Some, None, Result, Ok, Err, ⊤}
 use Rattle.std.specs.declared.time.Instant.{Instant}
 use Rattle.pq_types.specs.Item.{Item}
@@ -15,19 +15,18 @@ use Rattle.flat_queue.specs.Members.{Joined}
 use Rattle.flat_queue.specs.Calling.{MakesCall, ended}
 use Rattle.flat_queue.specs.OwnRequest.{CarriesOutBy, EntersAtOnceBy}
 use Rattle.flat_queue.specs.Turns.{FindsLockHeld, Misses}
-use Rattle.flat_queue.specs.Taking.{Awaited, PopsInVain, FindsNoneBy, Repeats, LooksNowBy, LooksForBy, TriesUntilFreeBy, TakesSo, MayEnd}
+use Rattle.flat_queue.specs.Taking.{PopsInVain, FindsNoneBy, Repeats, LooksNowBy, LooksForBy, TriesUntilFreeBy, TakesSo, MayEnd}
 use Rattle.flat_queue.specs.Taking.{LooksUntilBy, LooksOnBy, TakesUntilBy, OrEndsBy}
 use Rattle.flat_queue.specs.TakeSteps.{Took, TakeStepped, SeesNoneBy, FindsHeldYet, PopsOnceBy, LooksOneTimeBy, TakeStepsBy, popped_by, awaited_by}
 use Rattle.flat_queue.specs.declared.error.CallError.{CallError}
 use Rattle.flat_queue.specs.declared.error.CallError.TheVariants as error
 use Rattle.flat_queue.specs.declared.looking.Wanted.TheVariants as wanted
-use Rattle.flat_queue.specs.declared.looking.Looked.TheVariants as looked
 use Rattle.flat_queue.specs.declared.take_steps.TakeStage.{TakeStage}
 use Rattle.flat_queue.specs.declared.take_steps.TakeStage.TheVariants as stage
 use Rattle.flat_queue.specs.declared.take_steps.Took.TheVariants as took
 use Rattle.flat_queue.specs.declared.take_steps.TakeStepped.TheVariants as stepped
 use Rattle.flat_queue.proofs.OwnRequests.{called_own}
-use Rattle.flat_queue.proofs.Misses.{HasMissed, missed_none, missed_on, misses_keep, missed_as, called_behind, tells_behind}
+use Rattle.flat_queue.proofs.Misses.{HasMissed, missed_none, missed_on, misses_keep, called_behind, tells_behind}
 use Rattle.flat_queue.proofs.Takings.{IdleStill, finds_idle, idle_still, looks_behind}
 
 -- a pop that took an item out is a call that did
@@ -86,12 +85,12 @@ missed_yet a m c (inl e) (few, held) =
     inr (subst (λ (z : Joined). z.pen.posts < most_posts z.queue.room) e few, missed_on a a c (missed_none a) (subst (λ z. FindsLockHeld z c) e held))
 missed_yet a m c (inr (some, missed)) (few, held) = inr (some, missed_on a m c missed held)
 
-so_often : (a m : Joined) → HasMissedYet a m → (n : ℕ) × Misses n a m
+pub so_often : (a m : Joined) → HasMissedYet a m → (n : ℕ) × Misses n a m
 so_often a m (inl e) = (zero, e)
 so_often a m (inr (some, missed)) = (missed.tries, missed.misses)
 
 -- a call behind that is one of the member before
-tells_yet : {A : Type 0} (told : A → ℕ × Reply) (T U : Joined → Request → Result (ℕ × Reply) CallError → Joined → Type 0) (a m c : Joined) (request : Request) (has_room : Type 0)
+pub tells_yet : {A : Type 0} (told : A → ℕ × Reply) (T U : Joined → Request → Result (ℕ × Reply) CallError → Joined → Type 0) (a m c : Joined) (request : Request) (has_room : Type 0)
     (result : Result A CallError) → HasMissedYet a m
     → ((z : Joined) (r : Result (ℕ × Reply) CallError) → HasMissed a z → T z request r c → U a request r c)
     → MakesCall T told has_room m request result c → MakesCall U told has_room a request result c
@@ -216,7 +215,7 @@ looks_go words line late a m c at next s h =
     ⊎_elim (λ l. look_goes words line late a m c at next s l) (λ l. absurd (let e = l.0 in cc e)) (step_looks words line late at m c (stepped.Goes next) s.is h)
 
 -- a step after which a take goes on leaves its member idle, at its queue
-held_idle : (m c : Joined) → is_idle m.pen.standing ≡ true → FindsHeldYet m c → IdleStill m c
+pub held_idle : (m c : Joined) → is_idle m.pen.standing ≡ true → FindsHeldYet m c → IdleStill m c
 held_idle m c i (few, held) = (ap (λ (z : Joined). z.queue) held, ap (λ (z : Joined). is_idle z.pen.standing) held ∙ i)
 
 one_idle : (words line : ℕ) (late : Type 0) (m c : Joined) (next : TakeStage) → is_idle m.pen.standing ≡ true → LooksOneTimeBy words late line m (stepped.Goes next) c → IdleStill m c

@@ -1,6 +1,6 @@
 -- What a waiting member keeps while it looks and makes rounds, and what its call comes to.
-use Rattle.std.proofs.Common.{◌≡◌, ◌∙◌, ℕ, ◌++◌, inl, inr, ⊎_elim, sym, ap, subst, refl, true, false, Bool, List, [], ◌∷◌}
-use Rattle.std.specs.Prelude.{Option, Some, None, IfSome, IfNone}
+use Rattle.std.proofs.Common.{◌≡◌, ◌∙◌, ℕ, ◌++◌, ⊎_elim, sym, ap, subst, refl, true, false, Bool, List, [], ◌∷◌}
+use Rattle.std.specs.Prelude.{Option, Some, None}
 use Rattle.std.proofs.lemmas.List.{append-nil, append_assoc}
 use Rattle.pq_types.specs.Item.{Item}
 use Rattle.pq_types.specs.Asked.{Request, Operation}
@@ -24,7 +24,6 @@ use Rattle.desk_core.specs.Rule.{StartsWith}
 use Rattle.desk_core.specs.declared.model.PenState.{PenState}
 use Rattle.announce_board.specs.Asking.{answer_in, seen_by, taken_if, IsAnswerTo, IsAboveAll, LooksBy}
 use Rattle.announce_board.specs.Serving.{ServesWhereBy, found_posted_by, laid_and_answered_by, due_of}
-use Rattle.flat_queue.specs.declared.combining.Round.{Round}
 use Rattle.flat_queue.specs.Members.{QueueName, Joined, StaysAtPlace}
 use Rattle.flat_queue.specs.Sweeping.{SweepsBy}
 use Rattle.flat_queue.specs.TrailSweeping.{MakesTrailRoundBy}
@@ -224,12 +223,6 @@ round_on words a b answers doors h =
       begins = served.keeps.begins ∙ ap (λ (z : PenState). z.begins) h.won.next;
       ends = served.keeps.ends ∙ ap (λ (z : PenState). z.ends) h.won.next;
     }
-
--- a turn to lead
-pub took_lead : (words : ℕ) (a b : Joined) (tried : Option Round) → IfSome tried (λ round. MakesTrailRoundBy words a round.served round.doors b)
-    → IfNone tried (b ≡ record a { pen = after_miss a.pen }) → TakesBy words Lead a b
-took_lead words a b None h k = inr k
-took_lead words a b (Some round) h k = inl (round.served, round.doors, h)
 
 -- a turn
 pub took : (words : ℕ) (turn : Turn) (a b : Joined) → TakesBy words turn a b → WaitsOn a b

@@ -1,5 +1,5 @@
 -- What a call makes of its member that takes the first item out once it is due, and waits for that.
-use Rattle.std.specs.Prelude.{◌≡◌, ℕ, ◌+◌, ◌*◌, ◌≤◌, ⊤, Option, Some, None, Result, Ok, Err}
+use Rattle.std.specs.Prelude.{◌≡◌, ℕ, ◌+◌, ◌*◌, ◌≤◌, Option, Some, None, Result, Ok, Err}
 use Rattle.std.specs.Time.{instant_nanos}
 use Rattle.std.specs.declared.time.Instant.{Instant}
 use Rattle.pq_types.specs.Item.{Item}
@@ -12,16 +12,10 @@ use Rattle.flat_queue.specs.declared.looking.Looked.TheVariants as looked
 use Rattle.flat_queue.specs.declared.times.Times.{Times}
 use Rattle.flat_queue.specs.declared.due.Due.{Due as DueOf}
 use Rattle.flat_queue.specs.declared.due.Due.TheVariants as due
-use Rattle.flat_queue.specs.declared.due.Sight.{Sight as SightOf}
-use Rattle.flat_queue.specs.declared.due.Sight.TheVariants as sight
 
 -- what such a call comes back with, of items of any width
 abbrev pub Due : Type 0
 Due = DueOf Item
-
--- and what one look of it does
-abbrev pub Sight : Type 0
-Sight = SightOf Item
 
 -- when items of this priority are due, in nanoseconds since the clock's start
 abbrev pub due_nanos : Times → ℕ → ℕ
@@ -60,22 +54,6 @@ EndsDueBy words may_tell times deadline before (Ok (due.Nothing now)) after =
 EndsDueBy words may_tell times deadline before (Ok due.NoClock) after = (after ≡ before) × may_tell None
 EndsDueBy words may_tell times deadline before (Err error) after =
     (wants : Wanted) × TakesSo (LooksForBy words wants) before (Err error) after
-
--- such a look, which may be in vain too: the first item stays and is waited for, or there is none
-abbrev pub SightsBy : ℕ → (may_tell : Option Instant → Type 0) → Times → Option Instant → Joined → Result Sight CallError → Joined → Type 0
-SightsBy words may_tell times deadline before (Ok (sight.Ends told)) after = EndsDueBy words may_tell times deadline before (Ok told) after
-SightsBy words may_tell times deadline before (Ok (sight.Waits until)) after = LeavesAllBy words before after
-SightsBy words may_tell times deadline before (Ok sight.Empty) after = SeesEmptyBy words before after
-SightsBy words may_tell times deadline before (Err error) after = EndsDueBy words may_tell times deadline before (Err error) after
-
--- what it comes to by its item, which stays
-abbrev pub IsStaying : Option Instant → Instant → Item → Sight → Type 0
-IsStaying deadline now x (sight.Ends (due.Taken number y at)) = ⊥
-IsStaying deadline now x (sight.Ends (due.Later y at)) = (y ≡ x) × (at ≡ now) × HasCome deadline now
-IsStaying deadline now x (sight.Ends (due.Nothing at)) = ⊥
-IsStaying deadline now x (sight.Ends due.NoClock) = ⊥
-IsStaying deadline now x (sight.Waits until) = ⊤
-IsStaying deadline now x sight.Empty = ⊥
 
 -- The member looked some times, and each look left all items there; and then one look came to this.
 abbrev pub TakesDueBy : ℕ → (may_tell : Option Instant → Type 0) → Times → Option Instant → Joined → Result Due CallError → Joined → Type 0

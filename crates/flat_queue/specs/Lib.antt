@@ -1,6 +1,8 @@
 pub mod Product
 pub mod Rounds
 pub mod Worked
+pub mod Gathered
+pub mod Closing
 pub mod Members
 pub mod Arrivals
 pub mod Opening
@@ -25,4 +27,6 @@ pub mod TrailRounds
 pub mod TrailSweeping
 pub mod Taking
 pub mod TakeSteps
+pub mod CallSteps
 pub mod Due
+pub mod DueSteps

@@ -1,5 +1,5 @@
 -- What a contract sees of a queue, of a newcomer and of a member; and what their fields keep.
-use Rattle.std.specs.Prelude.{◌≡◌, ◌≢◌, ℕ, ◌+◌, ◌*◌, ◌<◌, ◌≤◌, List, []}
+use Rattle.std.specs.Prelude.{◌≡◌, ◌≢◌, ℕ, ◌+◌, ◌-◌, ◌*◌, ◌<◌, ◌≤◌, List, [], Option}
 use Rattle.atomic_table.specs.Seated.{TableId}
 use Rattle.pq_book.specs.Book.{AllHaveRoom}
 use Rattle.split_core.specs.Places.{at, diagonal}
@@ -15,6 +15,8 @@ use Rattle.desk_core.specs.Pen.{new_pen}
 use Rattle.desk_core.specs.declared.model.PenState.{PenState}
 use Rattle.announce_board.specs.Tokens.{AtDesk, Running as RunningDesk}
 use Rattle.announce_board.specs.Opening.{pen_of_place}
+use Rattle.announce_board.specs.Testimonies.{Testified}
+use Rattle.flat_queue.specs.Gathered.{Gathers}
 use Rattle.flat_queue.specs.Resting.{default_rest}
 use Rattle.flat_queue.specs.declared.resting.Rest.{Rest}
 
@@ -47,18 +49,21 @@ pub record Joined : Type 0 where
   pub pen : PenState
   pub rest : Rest
 
--- the pen that was put away is the new one of this place, one of so many, at the desk of the sample
-pub record IsPenFor (sample : AtDesk) (places place : ℕ) (stowed : AtDesk) : Type 0 where
-  pub pen : stowed ≡ pen_of_place sample.table sample.state.room place
+-- the pen that sleeps is the new one of this place, one of so many, at the desk of the sample
+pub record IsPenFor (sample : AtDesk) (places place : ℕ) (sleeper : AtDesk) : Type 0 where
+  pub pen : sleeper ≡ pen_of_place sample.table sample.state.room place
   pub within : place < places
 
--- the grid of so many comers has a place for each pen of the desk, and the tag of its pens names
--- that desk
-pub record AreTied (comers : ℕ) (sample : AtDesk) (places : ℕ) (desk : RunningDesk) : Type 0 where
+-- The grid of so many comers has a place for each pen of the desk, and the tag of its pens names
+-- that desk. A comer has a licence, and those of the other places are spare.
+pub record AreTied (comers : ℕ) (sample : AtDesk) (places : ℕ) (desk : RunningDesk) (spare : Option Testified) : Type 0 where
   pub table : sample.table ≡ desk.table
   pub room : sample.state.room ≡ desk.room
   pub places_are : places ≡ desk.places
   pub counted : desk.places ≡ places_of comers
+  pub some : 0 < comers
+  pub few : comers ≤ desk.places
+  pub licensed : Gathers desk.table [] (desk.places - comers) spare
 
 -- The newcomer has stopped on a diagonal d below the number of comers, with at most 4(d + 1) steps
 -- and no scan begun and no look for a trail scan. Its pen is the new one of the place where it stopped: idle, with no posts and

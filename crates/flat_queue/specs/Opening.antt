@@ -18,13 +18,13 @@ use Rattle.flat_queue.specs.declared.error.QueueError.TheVariants.{Comers, Lines
 abbrev pub newcomer_of : QueueName → ℕ → Coming
 newcomer_of queue id = record { queue = queue; comer = comer_of id }
 
--- the pen, put away for the grid
-abbrev pub put_away : AtDesk → Waiting
-put_away pen = record { stowed = pen }
+-- the pen, which sleeps, for the grid
+abbrev pub waiting_of : AtDesk → Waiting
+waiting_of pen = record { sleeper = pen }
 
 -- the value for place i is the new pen of that place
-abbrev pub ArePutAway : TableId → ℕ → List Waiting → Type 0
-ArePutAway table room waiting = (i : ℕ) (x : Waiting) → slice_get waiting i ≡ Some x → x.stowed ≡ pen_of_place table room i
+abbrev pub AreAsleep : TableId → ℕ → List Waiting → Type 0
+AreAsleep table room waiting = (i : ℕ) (x : Waiting) → slice_get waiting i ≡ Some x → x.sleeper ≡ pen_of_place table room i
 
 -- what a newcomer that walks the grid is to the queue
 abbrev pub is_coming : Walking DeskTag → Coming

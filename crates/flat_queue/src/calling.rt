@@ -7,21 +7,23 @@ ghost use Rattle.pq_types.specs.declared.answer.Reply.TheVariants.{Pushed};
 ghost use Rattle.pq_types.specs.Control.{reply_item};
 ghost use Rattle.announce_board.specs.Tokens.{is_idle};
 ghost use Rattle.announce_board.specs.Asking.{IsFullFor};
-ghost use Rattle.flat_queue.specs.declared.gate.Turn.TheVariants.{Lead, GiveUp};
+ghost use Rattle.flat_queue.specs.declared.gate.Turn.TheVariants.{GiveUp};
 ghost use Rattle.flat_queue.specs.Members.{HasRoomForAll};
 ghost use Rattle.flat_queue.specs.Calling.{IsCalled, IsRefused, IsTold, MakesCall, PostsAndWaitsBy};
 ghost use Rattle.flat_queue.specs.Calling.{WaitsOn, ended, popped, found_first, WaitsForBy};
 ghost use Rattle.flat_queue.specs.OwnRequest.{EntersOrWaitsBy};
-ghost use Rattle.flat_queue.specs.Turns.{TakesBy, EndsWaitingBy};
+ghost use Rattle.flat_queue.specs.Turns.{EndsWaitingBy};
 
+use crate::call_steps::{CallStage, CallStepped, answer_of};
 use crate::error::CallError;
-use crate::gate::{Gate, Open, Turn};
+use crate::gate::{Gate, Open};
 use crate::member::Member;
 use crate::queue::Queue;
 use crate::resting::Rest;
 use leftist_heap::Store;
 use pq_book::Entry;
 use pq_types::{Answer, Item, Part, Reply, Request};
+use std::hint;
 use std::sync::Wait;
 
 impl<S: Store<Entry<P>>, P: Part> Queue<S, P> {
@@ -59,9 +61,9 @@ impl<S: Store<Entry<P>>, P: Part> Queue<S, P> {
         end(self.wait(rt, member, gate))
     }
 
-    // The waiting member looks and takes turns until its answer is there, or the gate says to give
-    // up.
-    #[tactic(auto, using(crate::proofs::Waits::at_first, crate::proofs::Waits::waits_trans, crate::proofs::Waits::looked_on, crate::proofs::Waits::looked_up))]
+    // The waiting member looks and takes turns, a step at a time, until its answer is there, or the gate says to give up. It
+    // rests after a turn that wins no round.
+    #[tactic(auto, using(crate::proofs::Waits::at_first))]
     pub(crate) fn wait<R: Wait, G: Gate>(
         &self,
         rt: &R,
@@ -79,43 +81,29 @@ impl<S: Store<Entry<P>>, P: Part> Queue<S, P> {
     {
         let mut rests = member.rest();
         for _ in rt.forever() {
-            if let Some(answer) = self.look(member) {
-                return Some(answer);
-            }
-            if !self.take_turn(rt, member, gate.turn(member.id()), &mut rests) {
-                return None;
+            match self.step_asking(member, gate) {
+                CallStepped::Ends(came) => return answer_of(came),
+                CallStepped::Goes(stage) => {
+                    self.waiters.wake_owed();
+                    self.pause_before(rt, stage, &mut rests);
+                }
             }
         }
         unreachable!()
     }
 
-    // Takes the turn, unless that is to give up: whether it did. After a turn that wins no round the
-    // member rests.
-    #[tactic(auto, using(crate::proofs::Waits::took_lead, crate::proofs::Waits::took))]
-    fn take_turn<R: Wait>(
+    // What its caller does before a step of a call at this stage.
+    pub(crate) fn pause_before<R: Wait>(
         &self,
         rt: &R,
-        member: &mut Member<S, P>,
-        turn: Turn,
+        stage: CallStage<Item<P>>,
         rests: &mut Rest,
-    ) -> bool
-        requires queue { member.old.queue ≡ self.now }
-        ensures takes { TakesBy (word_number P.wide) turn member.old member.new }
-        ensures waits { WaitsOn member.old member.new }
-        ensures gives_up { result ≡ false ↔ turn ≡ GiveUp }
-    {
-        match turn {
-            Turn::GiveUp => return false,
-            Turn::Look => rests.rest(rt, self.joined()),
-            Turn::Lead => {
-                if self.try_trail_round(member).is_none() {
-                    rests.rest(rt, self.joined());
-                } else {
-                    self.waiters.wake_owed();
-                }
-            }
+    ) {
+        match stage {
+            CallStage::Tries(_, _) => hint::spin_loop(),
+            CallStage::Looks => (),
+            CallStage::Waits => rests.rest(rt, self.joined()),
         }
-        true
     }
 
     /// The same, by a gate that says at each turn to try a round: it never gives up. Refusals:

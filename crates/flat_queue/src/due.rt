@@ -1,16 +1,20 @@
 // A delay queue: a call that takes the first item out once it is due, and sleeps until then.
-ghost use Rattle.std.specs.Prelude.{◌≡◌, ◌^◌, ◌<◌, ◌↔◌, true, Ok, None};
+ghost use Rattle.std.specs.Prelude.{◌≡◌, ℕ, ◌^◌, ◌<◌, ◌↔◌, true, Ok, Some, None};
 ghost use Rattle.desk_core.specs.Words.{word_number};
 ghost use Rattle.announce_board.specs.Tokens.{is_idle};
 ghost use Rattle.flat_queue.specs.declared.event_count.Wakes.TheVariants.{EventOrEnd};
-ghost use Rattle.flat_queue.specs.Due.{HasCome, IsStaying, SightsBy, TakesDueBy, TakesDueOrEndsBy};
+ghost use Rattle.flat_queue.specs.Looking.{IsWanted};
+ghost use Rattle.flat_queue.specs.Due.{HasCome, IsDueAt, TakesDueBy, TakesDueOrEndsBy};
+ghost use Rattle.flat_queue.specs.DueSteps.{IsLook, IsShort, due_by};
 
+use crate::due_steps::{DueNow, DueStage, DueStepped, DueTook};
 use crate::error::CallError;
 use crate::event_count::Wakes;
 use crate::handle::Handle;
-use crate::looking::Looked;
 use crate::member::Member;
 use crate::queue::Queue;
+use crate::resting::Rest;
+use crate::take_steps::Left;
 use crate::time_source::TimeSource;
 use crate::times::Times;
 use leftist_heap::Store;
@@ -32,15 +36,12 @@ pub enum Due<I = Item> {
     NoClock,
 }
 
-/// What one look for what is due comes to.
+// What such a call waits for.
 #[derive(Clone, Copy)]
-pub enum Sight<I = Item> {
-    /// The call comes back with this.
-    Ends(Due<I>),
-    /// The first item stays: it goes on, and sleeps until this time at most.
-    Waits(Option<Instant>),
-    /// There is no item: it goes on.
-    Empty,
+struct DueCall {
+    times: Times,
+    deadline: Option<Instant>,
+    wakes: Wakes,
 }
 
 impl<S: Store<Entry<P>>, P: Part> Queue<S, P> {
@@ -62,7 +63,12 @@ impl<S: Store<Entry<P>>, P: Part> Queue<S, P> {
         requires idle { is_idle member.old.pen.standing ≡ true }
         ensures { TakesDueBy (word_number P.wide) (R.may_tell rt.now) times deadline member.old result member.new }
     {
-        match self.take_due_waking(rt, member, times, deadline, Wakes::Event) {
+        let call = DueCall {
+            times,
+            deadline,
+            wakes: Wakes::Event,
+        };
+        match self.take_due_waking(rt, member, call) {
             Ok(Some(due)) => Ok(due),
             Ok(None) => unreachable!(),
             Err(error) => Err(error),
@@ -82,122 +88,140 @@ impl<S: Store<Entry<P>>, P: Part> Queue<S, P> {
         requires idle { is_idle member.old.pen.standing ≡ true }
         ensures { TakesDueOrEndsBy (word_number P.wide) (R.may_tell rt.now) times deadline member.old result member.new }
     {
-        self.take_due_waking(rt, member, times, deadline, Wakes::EventOrEnd)
+        let call = DueCall {
+            times,
+            deadline,
+            wakes: Wakes::EventOrEnd,
+        };
+        self.take_due_waking(rt, member, call)
     }
 
-    // Such a call that is woken so; `None` at the end of the queue, where it heeds that.
+    // Such a call, by steps. It sleeps between its looks, or rests where it found the lock held, and reads the clock before each
+    // look. `None` at the end of the queue, where it heeds that.
     fn take_due_waking<R: Wait + TimeSource>(
         &self,
         rt: &R,
         member: &mut Member<S, P>,
-        times: Times,
-        deadline: Option<Instant>,
-        wakes: Wakes,
+        call: DueCall,
     ) -> Result<Option<Due<Item<P>>>, CallError>
         requires queue { member.old.queue ≡ self.now }
         requires idle { is_idle member.old.pen.standing ≡ true }
-        ensures takes { TakesDueOrEndsBy (word_number P.wide) (R.may_tell rt.now) times deadline member.old result member.new }
-        ensures heeds { result ≡ Ok None → wakes ≡ EventOrEnd }
+        ensures takes { TakesDueOrEndsBy (word_number P.wide) (R.may_tell rt.now) call.times call.deadline member.old result member.new }
+        ensures heeds { result ≡ Ok None → call.wakes ≡ EventOrEnd }
     {
-        let mut has_slept = false;
+        let mut rests = member.rest().of_tries();
+        let mut stage = DueStage::Announces;
+        let mut clock = rt.time();
         for _ in rt.forever() {
-            let is_last = self.waiters.is_over(wakes);
-            match self.look_due_or_sleep(rt, member, times, deadline, wakes) {
-                Ok(Sight::Ends(due)) => {
-                    self.hand_on(&due, has_slept);
-                    return Ok(Some(due));
+            let Some(now) = clock else {
+                return Ok(Some(self.leave_unread(stage)));
+            };
+            let told = self.step_due(member, stage, call.at(now));
+            self.waiters.wake_owed();
+            match told {
+                DueStepped::Ends(took) => return due_by(took, now),
+                DueStepped::Goes(next) => {
+                    self.pause_before_due(rt, next, &mut rests, call);
+                    rests = due_rests_at(next, rests, member.rest());
+                    clock = time_at(rt, next, now);
+                    stage = next;
                 }
-                Ok(Sight::Empty) if is_last => return Ok(None),
-                Ok(Sight::Empty) => has_slept = true,
-                Ok(Sight::Waits(_)) => has_slept = true,
-                Err(error) => return Err(self.pass_on(error)),
             }
         }
         unreachable!()
     }
 
-    // An announced look, behind which it sleeps where it goes on. While an item is there the end doesn't come.
-    fn look_due_or_sleep<R: Wait + TimeSource>(
+    // What its caller does before a step of such a call at this stage. While an item is there the end doesn't come.
+    fn pause_before_due<R: Wait + TimeSource>(
         &self,
         rt: &R,
-        member: &mut Member<S, P>,
-        times: Times,
-        deadline: Option<Instant>,
-        wakes: Wakes,
-    ) -> Result<Sight<Item<P>>, CallError>
-        requires queue { member.old.queue ≡ self.now }
-        requires idle { is_idle member.old.pen.standing ≡ true }
-        ensures { SightsBy (word_number P.wide) (R.may_tell rt.now) times deadline member.old result member.new }
-    {
-        let seen = self.waiters.begin_wait();
-        let told = self.look_due(rt, member, times, deadline);
-        match &told {
-            Ok(Sight::Waits(until)) => self.waiters.sleep_to(rt, seen, Wakes::Event, *until),
-            Ok(Sight::Empty) => self.waiters.sleep_to(rt, seen, wakes, deadline),
-            Ok(Sight::Ends(_)) | Err(_) => (),
-        }
-        self.waiters.end_wait();
-        told
-    }
-
-    // A look for what is due by now.
-    fn look_due<R: Wait + TimeSource>(
-        &self,
-        rt: &R,
-        member: &mut Member<S, P>,
-        times: Times,
-        deadline: Option<Instant>,
-    ) -> Result<Sight<Item<P>>, CallError>
-        requires queue { member.old.queue ≡ self.now }
-        requires idle { is_idle member.old.pen.standing ≡ true }
-        ensures { SightsBy (word_number P.wide) (R.may_tell rt.now) times deadline member.old result member.new }
-    {
-        if member.posts() >= self.most_posts() {
-            return Err(CallError::Spent);
-        }
-        let Some(now) = rt.time() else {
-            return Ok(Sight::Ends(Due::NoClock));
-        };
-        let wanted = times.wanted_at(now);
-        match self.wait_and_look(rt, member, wanted) {
-            Looked::Taken(line, item) => Ok(Sight::Ends(Due::Taken(line, item, now))),
-            Looked::Stays(item) => Ok(staying(item, times, deadline, now)),
-            Looked::Nothing if has_come(deadline, now) => Ok(Sight::Ends(Due::Nothing(now))),
-            Looked::Nothing => Ok(Sight::Empty),
-            Looked::BookFull => Err(CallError::BookFull),
+        stage: DueStage<Item<P>>,
+        rests: &mut Rest,
+        call: DueCall,
+    ) {
+        match stage {
+            DueStage::Announces => (),
+            DueStage::Looks(_) => rests.rest(rt, self.joined()),
+            DueStage::Sleeps(seen, Some(item)) => {
+                let due_at = call.times.due_at(item.priority.as_u64());
+                let until = sooner(due_at, call.deadline);
+                self.waiters.sleep_to(rt, seen, Wakes::Event, until);
+            }
+            DueStage::Sleeps(seen, None) => {
+                self.waiters.sleep_to(rt, seen, call.wakes, call.deadline);
+            }
         }
     }
 
-    // One that goes wakes another, which looks at what is left, where it was to wake when that is due: it has slept, or leaves
-    // the first item there.
-    fn hand_on(&self, due: &Due<Item<P>>, has_slept: bool) {
-        let is_due = match due {
-            Due::Taken(_, _, _) => has_slept,
-            Due::Nothing(_) => false,
-            Due::Later(_, _) | Due::NoClock => true,
+    // Such a call that has come to this stage ends, as the clock can't be read.
+    fn leave_unread(&self, stage: DueStage<Item<P>>) -> Due<Item<P>>
+        ensures { result ≡ Due.NoClock }
+    {
+        self.leave_due(stage);
+        self.waiters.wake_owed();
+        Due::NoClock
+    }
+}
+
+impl DueCall {
+    // What a step of it is told at this time.
+    fn at(self, now: Instant) -> DueNow
+        ensures due { (priority : ℕ) → IsWanted result.wanted priority → IsDueAt self.times now priority }
+        ensures all { (priority : ℕ) → priority < 2 ^ 64 → IsDueAt self.times now priority → IsWanted result.wanted priority }
+        ensures late { result.left ≡ Left.Nothing → HasCome self.deadline now }
+        ensures wakes { result.wakes ≡ self.wakes }
+    {
+        let left = if has_come(self.deadline, now) {
+            Left::Nothing
+        } else {
+            Left::Enough
         };
-        if is_due {
-            self.waiters.count(1);
-            self.waiters.wake_owed();
+        DueNow {
+            wanted: self.times.wanted_at(now),
+            left,
+            wakes: self.wakes,
         }
     }
 }
 
-// What a look comes to behind which this item stays, as it was not due at this time.
-fn staying<P: Part>(
-    item: Item<P>,
-    times: Times,
-    deadline: Option<Instant>,
+// The time by which a look at this stage goes: a look that goes on keeps the one by which it began.
+fn time_at<C: TimeSource, P: Part>(
+    clock: &C,
+    stage: DueStage<Item<P>>,
     now: Instant,
-) -> Sight<Item<P>>
-    ensures told { IsStaying deadline now item result }
-    ensures range { item.priority < 2 ^ 64 }
+) -> Option<Instant>
+    ensures told { C.may_tell clock.now (Some now) → C.may_tell clock.now result }
+    ensures keeps { IsLook stage → result ≡ Some now }
 {
-    let due_at = times.due_at(item.priority.as_u64());
-    if has_come(deadline, now) {
-        return Sight::Ends(Due::Later(item, now));
+    match stage {
+        DueStage::Looks(_) => Some(now),
+        DueStage::Announces | DueStage::Sleeps(_, _) => clock.time(),
     }
-    Sight::Waits(sooner(due_at, deadline))
+}
+
+// How such a call rests on from this stage: a look that begins does so afresh, as its member is to.
+fn due_rests_at<P: Part>(stage: DueStage<Item<P>>, rests: Rest, afresh: Rest) -> Rest {
+    match stage {
+        DueStage::Looks(_) => rests,
+        DueStage::Announces | DueStage::Sleeps(_, _) => afresh.of_tries(),
+    }
+}
+
+// What such a call comes back with that came to this, where the clock told this time before its last look.
+fn due_by<P: Part>(took: DueTook<Item<P>>, now: Instant) -> Result<Option<Due<Item<P>>>, CallError>
+    ensures told { result ≡ due_by took now }
+    ensures range { IsShort took }
+{
+    match took {
+        DueTook::Taken(number, item) => Ok(Some(Due::Taken(number, item, now))),
+        DueTook::Refused(error) => Err(error),
+        DueTook::Later(item) => {
+            let _ = item.priority.as_u64();
+            Ok(Some(Due::Later(item, now)))
+        }
+        DueTook::Nothing => Ok(Some(Due::Nothing(now))),
+        DueTook::Over => Ok(None),
+    }
 }
 
 // Whether there is a deadline, and it has come at this time.

@@ -29,9 +29,6 @@ const NAP: u64 = 50;
 /// the count stands; whoever leads counts an event behind the pushes that it carried out, where anybody is announced,
 /// and wakes as many once it has released the lock. No clause says what it says: a wake too many costs a look in vain,
 /// one too few a sleep that is too long. What each push reads, and what each event changes, have cache lines of their own.
-/// Behind the events stand six words for those who wait by other means, 0 at first, at which nothing here looks: how many
-/// wakes they owe while one is on its way, until when one of them watches for what is due, and four for what else they
-/// keep for a queue.
 #[derive(Drop)]
 #[repr(C)]
 pub struct EventCount {
@@ -41,13 +38,7 @@ pub struct EventCount {
     ending: Ending,
     between: [u64; 7],
     events: AtomicU64,
-    on_way: AtomicU64,
-    watched: AtomicU64,
-    kept_first: AtomicU64,
-    kept_second: AtomicU64,
-    kept_third: AtomicU64,
-    kept_fourth: AtomicU64,
-    after: [u64; 2],
+    after: [u64; 8],
 }
 
 impl EventCount {
@@ -60,13 +51,7 @@ impl EventCount {
             ending: Ending::new(),
             between: [0; 7],
             events: AtomicU64::new(0),
-            on_way: AtomicU64::new(0),
-            watched: AtomicU64::new(0),
-            kept_first: AtomicU64::new(0),
-            kept_second: AtomicU64::new(0),
-            kept_third: AtomicU64::new(0),
-            kept_fourth: AtomicU64::new(0),
-            after: [0; 2],
+            after: [0; 8],
         }
     }
 
@@ -252,12 +237,6 @@ impl EventCount {
         for _ in 0..self.owed_wakes() {
             self.events.wake_one();
         }
-    }
-
-    /// The word at which they sleep, for those who wait by other means: its low half changes with each event. The two words
-    /// behind it are theirs.
-    pub fn word(&self) -> *mut u64 {
-        self.events.as_ptr()
     }
 }
 

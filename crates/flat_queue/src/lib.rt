@@ -29,6 +29,9 @@
 //!   it, which may say to give up.
 //! - `Queue::push`, `pop` and `least` enter as `try_call` does, or post and wait as `call` does, and
 //!   have replies of types of their own.
+//! - `Queue::step_call` makes one step of a call, and never waits: it tries the lock once at most, posts only where it found that
+//!   held, and tells how the call ends, or from which stage it goes on. The calls that post are loops over these steps, which
+//!   rest between them.
 //! - `Queue::pop_up_to` takes the first item out where its priority is at most a bound, and else tells it. It
 //!   waits until it has the lock, chooses its request under it, and posts nothing. `Queue::take_first` looks so too, and
 //!   makes no request where the first item stays or there is none: a look in vain has no line.
@@ -50,7 +53,8 @@
 //!   from which stage it goes on. A take is to sleep only behind a step that announced it, looked, and found no item. The
 //!   takes here are loops over these steps, which rest and sleep between them, until a `Deadline`.
 //! - `Queue::take_due` is a delay queue, whose priorities are times (`Times`): it takes the first item out once it is due, and
-//!   sleeps until then. Only what it takes has a line.
+//!   sleeps until then. Only what it takes has a line. It is a loop over the steps of `Queue::step_due`, each of which looks once;
+//!   `Queue::leave_due` ends a call for what is due that takes no more of them.
 //! - `TimeSource` is where these calls have the time from: each time that one of them tells is one that it may tell, also where
 //!   it says that none can be read. Each clock of the standard library is such a source.
 //! - `Queue::shut` ends the pushes of shared handles (the crate `queue_pool`) and of `Queue::push_unless_shut`, and wakes whoever
@@ -92,17 +96,20 @@
 mod asking;
 pub mod backlog;
 pub mod batches;
+pub mod call_steps;
 mod calling;
 mod closing;
 pub mod combining;
 pub mod counting;
 pub mod deadline;
 pub mod due;
+pub mod due_steps;
 pub mod ending;
 pub mod error;
 pub mod event_count;
 pub mod following;
 pub mod gate;
+mod gathered;
 pub mod handle;
 pub mod hint;
 mod joined;
@@ -118,6 +125,7 @@ pub mod queue;
 pub mod resting;
 mod settling;
 mod shutting;
+mod spare;
 pub mod take_steps;
 pub mod taking;
 pub mod testimony;
@@ -131,10 +139,12 @@ pub mod waiting;
 pub use announce_board::{Note, Testimony};
 pub use backlog::Backlog;
 pub use batches::{Batch, MOST_BATCH};
+pub use call_steps::{CallStage, CallStepped, Came};
 pub use combining::Round;
 pub use counting::{Counts, Unpushed};
 pub use deadline::{By, Deadline, Never};
 pub use due::Due;
+pub use due_steps::{DueLook, DueNow, DueStage, DueStepped, DueTook};
 pub use ending::{Ending, Shut};
 pub use error::{CallError, PushError, QueueError};
 pub use event_count::{EventCount, Wakes};

@@ -6,7 +6,7 @@ ghost use Rattle.leftist_heap.specs.Store.{first_of};
 ghost use Rattle.desk_core.specs.Words.{word_number};
 ghost use Rattle.announce_board.specs.Tokens.{is_idle};
 ghost use Rattle.flat_queue.specs.Turns.{FindsLockHeld};
-ghost use Rattle.flat_queue.specs.Looking.{IsWanted, IsFirstWanted, IsLeft, looked_by, LooksFirstBy, MissesThenLooksBy};
+ghost use Rattle.flat_queue.specs.Looking.{IsWanted, IsFirstWanted, IsLeft, looked_by, LooksFirstBy};
 
 use crate::member::Member;
 use crate::queue::Queue;
@@ -15,7 +15,6 @@ use announce_board::Lead;
 use leftist_heap::Store;
 use pq_book::Entry;
 use pq_types::{Answer, Item, Part, Reply, Request};
-use std::sync::Wait;
 
 /// Which items a look takes, by their priorities.
 #[derive(Clone, Copy, Debug, PartialEq, Eq)]
@@ -63,29 +62,6 @@ impl<S: Store<Entry<P>>, P: Part> Queue<S, P> {
         };
         self.release(member, lead);
         Some(left)
-    }
-
-    // The member tries until it finds the lock free, and looks.
-    pub(crate) fn wait_and_look<R: Wait>(
-        &self,
-        rt: &R,
-        member: &mut Member<S, P>,
-        wanted: Wanted,
-    ) -> Looked<Item<P>>
-        requires queue { member.old.queue ≡ self.now }
-        requires idle { is_idle member.old.pen.standing ≡ true }
-        requires few { member.old.pen.posts < GREATEST_NUMBER }
-        ensures { MissesThenLooksBy (word_number P.wide) wanted member.old result member.new }
-    {
-        let mut rests = member.rest().of_tries();
-        for _ in rt.forever() {
-            if let Some(told) = self.take_first(member, wanted) {
-                self.waiters.wake_owed();
-                return told;
-            }
-            rests.rest(rt, self.joined());
-        }
-        unreachable!()
     }
 }
 

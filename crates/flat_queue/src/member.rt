@@ -5,21 +5,24 @@ ghost use Rattle.announce_board.specs.Tokens.{is_idle};
 
 use crate::resting::Rest;
 use crate::waiting::Waiting;
-use announce_board::Pen;
+use announce_board::{Pen, Testimony};
 use leftist_heap::Store;
 use pq_book::Entry;
 use pq_types::Part;
 use split_grid::Stopped;
 use std::marker::Model;
 
-/// The right to join a queue. It goes from thread to thread. A contract sees of it its queue, and
-/// the comer on its way down the grid.
+/// The right to join a queue: a comer, and the licence that wakes the pen of the place where it stops. It goes from thread to
+/// thread. A contract sees of it its queue, and the comer on its way down the grid.
 #[derive(Drop)]
 pub struct Newcomer {
     pub(crate) walking: split_grid::Newcomer<Waiting>,
+    pub(crate) licence: Testimony,
 }
 
 impl Model for Newcomer {
+    ghost use Rattle.std.specs.Prelude.{◌≡◌};
+    ghost use Rattle.flat_queue.specs.Gathered.{licences_at};
     ghost use Rattle.flat_queue.specs.Members.{Coming};
 
     ghost Value = { Coming };
@@ -34,6 +37,8 @@ impl Model for Newcomer {
       };
       comer = n.walking.comer;
     } };
+
+    ghost invariant = { λ n. n.licence ≡ licences_at n.walking.tag.sample.value.table 1 };
 }
 
 /// One that has joined: it posts at the place where it has stopped. A contract sees of it its

@@ -1,5 +1,5 @@
 // How a queue is opened.
-ghost use Rattle.std.specs.Prelude.{◌≡◌, ◌≢◌, ◌+◌, ◌<◌, ◌↔◌, [], false, length, map, Some, IfOk, OnOk};
+ghost use Rattle.std.specs.Prelude.{◌≡◌, ◌≢◌, ◌+◌, ◌-◌, ◌<◌, ◌≤◌, ◌↔◌, [], false, length, map, replicate, take, Some, IfOk, OnOk};
 ghost use Rattle.std.specs.List.{All};
 ghost use Rattle.announce_board.specs.Tokens.{AtDesk};
 ghost use Rattle.split_core.specs.Ids.{OpenGrid, IsFault};
@@ -10,18 +10,21 @@ ghost use Rattle.pq_types.specs.declared.journal.TheConstants.{GREATEST_NUMBER};
 ghost use Rattle.pq_book.specs.Book.{IsRoom, AllHaveRoom};
 ghost use Rattle.pq_book.specs.Pages.{IsLongPage, page_of, room_keeping};
 ghost use Rattle.announce_board.specs.Opening.{ArePens};
+ghost use Rattle.flat_queue.specs.Gathered.{licences_at};
 ghost use Rattle.flat_queue.specs.Members.{HasRoomForAll};
-ghost use Rattle.flat_queue.specs.Opening.{Opens, put_away, ArePutAway, is_coming};
+ghost use Rattle.flat_queue.specs.Opening.{Opens, waiting_of, AreAsleep, is_coming};
 
 use crate::backlog::Backlog;
 use crate::error::QueueError;
 use crate::event_count::EventCount;
+use crate::gathered::all_licences;
 use crate::hint::PostHint;
 use crate::joined::JoinCount;
 use crate::member::Newcomer;
 use crate::queue::Queue;
+use crate::spare::Spare;
 use crate::waiting::{DeskTag, Waiting};
-use announce_board::{Desk, DeskError, Pen};
+use announce_board::{Desk, DeskError, Pen, Testimony};
 use leftist_heap::{Leftist, Store};
 use pq_book::Entry;
 use pq_book::limit::{LONG_PAGE, LONGEST_PAGE};
@@ -270,13 +273,14 @@ fn opened<S: Store<Entry<P>>, P: Part>(
     requires dealt { ArePens desk.table desk.room pens.items }
     ensures { IfOk result (λ r. Opens ids.now desk.room r.0 r.1.items) }
 {
-    let waiting = put_away(alloc, &desk, pens)?;
+    let (waiting, licences) = asleep(alloc, &desk, pens)?;
     let tag = tag_of(&desk, &waiting);
     let (grid, walkers) = match Grid::new(alloc, ids, tag, waiting) {
         Ok(made) => made,
         Err(_) => return Err(AllocError),
     };
-    let newcomers = newcomers_of(alloc, walkers)?;
+    let (newcomers, left) = newcomers_of(alloc, walkers, licences)?;
+    let spare = Spare::new(alloc, all_licences(&desk, left))?;
     let queue = Queue {
         grid,
         desk,
@@ -284,6 +288,7 @@ fn opened<S: Store<Entry<P>>, P: Part>(
         joined: JoinCount::new(),
         waiters: EventCount::new(),
         backlog: Backlog::new(),
+        spare,
     };
     Ok((queue, newcomers))
 }
@@ -291,62 +296,67 @@ fn opened<S: Store<Entry<P>>, P: Part>(
 // The tag of the pens of this desk, by the first of them.
 fn tag_of<S: Store<Entry<P>>, P: Part>(desk: &Desk<S, P>, waiting: &[Waiting]) -> DeskTag
     requires some { 0 < length waiting.now }
-    requires put_away { ArePutAway desk.now.table desk.now.room waiting.now }
+    requires asleep { AreAsleep desk.now.table desk.now.room waiting.now }
     ensures table { result.sample.value.table ≡ desk.now.table }
     ensures room { result.sample.value.state.room ≡ desk.now.room }
     ensures places { result.places ≡ desk.now.places }
 {
     DeskTag {
-        sample: Snapshot::of(&waiting[0].stowed),
+        sample: Snapshot::of(&waiting[0].sleeper),
         places: desk.places(),
     }
 }
 
-// The pens of this desk, put away for the grid.
-fn put_away<S: Store<Entry<P>>, P: Part>(
+// The pens of this desk, which sleep, for the grid; and the licence of each.
+fn asleep<S: Store<Entry<P>>, P: Part>(
     alloc: Global,
     desk: &Desk<S, P>,
     pens: Vec<Pen<S, P>>,
-) -> Result<Vec<Waiting>, AllocError>
+) -> Result<(Vec<Waiting>, Vec<Testimony>), AllocError>
     requires { ArePens desk.now.table desk.now.room pens.items }
-    ensures counted { IfOk result (λ ws. length ws.items ≡ length pens.items) }
-    ensures put_away { IfOk result (λ ws. ArePutAway desk.now.table desk.now.room ws.items) }
+    ensures counted { IfOk result (λ r. length r.0.items ≡ length pens.items) }
+    ensures asleep { IfOk result (λ r. AreAsleep desk.now.table desk.now.room r.0.items) }
+    ensures licences { IfOk result (λ r. r.1.items ≡ replicate (length pens.items) (licences_at desk.now.table 1)) }
 {
-    let waiting = put_away_each(alloc, desk, pens)?;
-    Ok(waiting)
+    let (waiting, licences) = asleep_each(alloc, desk, pens)?;
+    Ok((waiting, licences))
 }
 
-fn put_away_each<S: Store<Entry<P>>, P: Part>(
+fn asleep_each<S: Store<Entry<P>>, P: Part>(
     alloc: Global,
     desk: &Desk<S, P>,
     pens: Vec<Pen<S, P>>,
-) -> Result<Vec<Waiting>, AllocError>
+) -> Result<(Vec<Waiting>, Vec<Testimony>), AllocError>
     requires { ArePens desk.now.table desk.now.room pens.items }
-    ensures { IfOk result (λ ws. ws.items ≡ map put_away pens.items) }
+    ensures waiting { IfOk result (λ r. r.0.items ≡ map waiting_of pens.items) }
+    ensures licences { IfOk result (λ r. r.1.items ≡ map (λ _. licences_at desk.now.table 1) pens.items) }
 {
     let mut waiting = Vec::with_capacity(alloc, pens.len())?;
+    let mut licences = Vec::with_capacity(alloc, pens.len())?;
     for pen in pens {
-        waiting.push(put_away_one(pen))?;
+        let (sleeper, licence) = desk.put_to_sleep(pen);
+        waiting.push(Waiting { sleeper })?;
+        licences.push(licence)?;
     }
-    Ok(waiting)
+    Ok((waiting, licences))
 }
 
-fn put_away_one<S: Store<Entry<P>>, P: Part>(pen: Pen<S, P>) -> Waiting
-    requires { pen.state.leading ≡ false }
-    ensures { result ≡ put_away pen }
-{
-    Waiting { stowed: pen.stow() }
-}
-
-// The newcomers of these walkers.
+// The newcomers of these walkers, each with one of these licences; and the licences that are left.
 fn newcomers_of(
     alloc: Global,
     walkers: Vec<split_grid::Newcomer<Waiting>>,
-) -> Result<Vec<Newcomer>, AllocError>
-    ensures { IfOk result (λ ns. ns.items ≡ map is_coming walkers.items) }
+    licences: Vec<Testimony>,
+) -> Result<(Vec<Newcomer>, Vec<Testimony>), AllocError>
+    requires few { length walkers.items ≤ length licences.items }
+    requires licences { All (λ w. All (λ t. t ≡ licences_at w.tag.sample.value.table 1) licences.items) walkers.items }
+    ensures newcomers { IfOk result (λ r. r.0.items ≡ map is_coming walkers.items) }
+    ensures left { IfOk result (λ r. r.1.items ≡ take (length licences.items - length walkers.items) licences.items) }
 {
-    walkers
-        .into_iter()
-        .map(|walking| Newcomer { walking })
-        .collect(alloc)
+    let mut left = licences;
+    let mut newcomers = Vec::with_capacity(alloc, walkers.len())?;
+    for walking in walkers {
+        let licence = left.pop().unwrap();
+        newcomers.push(Newcomer { walking, licence })?;
+    }
+    Ok((newcomers, left))
 }

@@ -9,10 +9,13 @@ ghost use Rattle.flat_queue.specs.Members.{HasRoomForAll, pen_of};
 ghost use Rattle.flat_queue.specs.Calling.{MakesCall};
 ghost use Rattle.flat_queue.specs.Memory.{HasSpareRoom};
 ghost use Rattle.flat_queue.specs.Turns.{FindsLockHeld};
+ghost use Rattle.flat_queue.specs.CallSteps.{FitsStage, HasComeToBy};
 ghost use Rattle.flat_queue.specs.OwnRequest.{ReleasesWith, CarriesOutBy, EntersAtOnceBy, TriesOrWaitsBy, EntersOrWaitsBy};
 
+use crate::call_steps::{CallStage, CallStepped, Then, end_of};
 use crate::calling::end;
 use crate::error::CallError;
+use crate::gate::Open;
 use crate::member::Member;
 use crate::others::Served;
 use crate::queue::Queue;
@@ -20,7 +23,6 @@ use announce_board::Lead;
 use leftist_heap::Store;
 use pq_book::Entry;
 use pq_types::{Answer, Item, Part, Reply, Request};
-use std::hint;
 use std::sync::Wait;
 
 impl<S: Store<Entry<P>>, P: Part> Queue<S, P> {
@@ -94,16 +96,36 @@ impl<S: Store<Entry<P>>, P: Part> Queue<S, P> {
         ensures { MakesCall (TriesOrWaitsBy (word_number P.wide)) (λ told. told)
             (HasRoomForAll S.room self.now) member.old request result member.new }
     {
-        let mut left = member.rest().tries;
-        while left > 0 {
-            hint::spin_loop();
-            let again = request;
-            if let Some(entered) = self.try_call(member, again) {
-                return entered;
+        let mut rests = member.rest();
+        let mut stage = self.stage_held(member, request);
+        for _ in rt.forever() {
+            self.pause_before(rt, stage, &mut rests);
+            let told = self.step_call(member, stage, &Open);
+            self.waiters.wake_owed();
+            match told {
+                CallStepped::Ends(came) => return end_of(came),
+                CallStepped::Goes(next) => stage = next,
             }
-            left -= 1;
         }
-        self.call(rt, member, request)
+        unreachable!()
+    }
+
+    // The stage at which a call goes on whose first try found the lock held.
+    fn stage_held(&self, member: &mut Member<S, P>, request: Request<Item<P>>) -> CallStage<Item<P>>
+        requires queue { member.old.queue ≡ self.now }
+        requires idle { is_idle member.old.pen.standing ≡ true }
+        requires few { member.old.pen.posts < most_posts self.now.room }
+        ensures comes { HasComeToBy (word_number P.wide) member.old request result member.new }
+        ensures queue { member.new.queue ≡ member.old.queue }
+        ensures fits { FitsStage result member.new }
+    {
+        let tries = member.rest().tries;
+        let asked = request;
+        match self.step_held(member, asked, tries, &Open) {
+            Then::TriesAgain => CallStage::Tries(request, tries - 1),
+            Then::HasPosted => CallStage::Looks,
+            Then::GivesUp => unreachable!(),
+        }
     }
 
     /// The idle member carries its own request out, as `try_call` does, and wakes nobody: its caller does, by `owed_wakes`

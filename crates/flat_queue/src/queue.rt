@@ -13,6 +13,7 @@ use crate::hint::PostHint;
 use crate::joined::JoinCount;
 use crate::member::{Arrival, Member, Newcomer};
 use crate::resting::Rest;
+use crate::spare::Spare;
 use crate::waiting::Waiting;
 use announce_board::Desk;
 use leftist_heap::Store;
@@ -32,6 +33,7 @@ pub struct Queue<S: Store<Entry<P>>, P: Part = u32> {
     pub(crate) joined: JoinCount,
     pub(crate) waiters: EventCount,
     pub(crate) backlog: Backlog,
+    pub(crate) spare: Spare,
 }
 
 impl<S: Store<Entry<P>>, P: Part> Model for Queue<S, P> {
@@ -47,7 +49,7 @@ impl<S: Store<Entry<P>>, P: Part> Model for Queue<S, P> {
       room = q.desk.room;
     } };
 
-    ghost invariant = { λ q. AreTied q.grid.comers q.grid.tag.sample.value q.grid.tag.places q.desk };
+    ghost invariant = { λ q. AreTied q.grid.comers q.grid.tag.sample.value q.grid.tag.places q.desk q.spare };
 }
 
 impl<S: Store<Entry<P>>, P: Part> Queue<S, P> {
@@ -96,13 +98,13 @@ impl<S: Store<Entry<P>>, P: Part> Queue<S, P> {
         ensures way { GoesOn newcomer.comer result.comer }
         ensures bounded { result.comer.steps ≤ 4 * MAX_COMERS }
     {
-        let Newcomer { walking } = newcomer;
+        let Newcomer { walking, licence } = newcomer;
         let (stopped, waiting) = self.grid.walk(walking);
         self.joined.add();
-        let Waiting { stowed } = waiting;
+        let Waiting { sleeper } = waiting;
         Member {
             stopped,
-            pen: stowed.pen(),
+            pen: self.desk.wake(sleeper, licence),
             rest: Rest::DEFAULT,
         }
     }
@@ -112,13 +114,13 @@ impl<S: Store<Entry<P>>, P: Part> Queue<S, P> {
         requires queue { newcomer.queue ≡ self.now }
         ensures { Arrives newcomer result }
     {
-        let Newcomer { walking } = newcomer;
+        let Newcomer { walking, licence } = newcomer;
         match self.grid.stride(walking) {
-            Stride::Going(walking) => Arrival::Going(Newcomer { walking }),
+            Stride::Going(walking) => Arrival::Going(Newcomer { walking, licence }),
             Stride::Home(stopped, waiting) => {
                 self.joined.add();
-                let Waiting { stowed } = waiting;
-                let pen = stowed.pen();
+                let Waiting { sleeper } = waiting;
+                let pen = self.desk.wake(sleeper, licence);
                 Arrival::Here(Member {
                     stopped,
                     pen,

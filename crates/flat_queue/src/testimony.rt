@@ -1,5 +1,5 @@
 // Testimonies of members, by which their calls are seen side by side, in whatever threads they were made.
-ghost use Rattle.std.specs.Prelude.{◌≡◌, ℕ, [], ◌∷◌, ◌++◌};
+ghost use Rattle.std.specs.Prelude.{◌≡◌, ℕ, ◌+◌, [], ◌∷◌, ◌++◌};
 ghost use Rattle.desk_core.specs.Witnessed.{AreLinearized};
 
 use crate::handle::Handle;
@@ -16,7 +16,7 @@ impl<S: Store<Entry<P>>, P: Part> Queue<S, P> {
     pub fn testify(&self, member: &mut Member<S, P>) -> Testimony
         requires queue { member.old.queue ≡ self.now }
         ensures same { member.new ≡ member.old }
-        ensures gives { result ≡ record { table = self.now.desk; pens = member.old.pen ∷ [] } }
+        ensures gives { result ≡ record { table = self.now.desk; pens = member.old.pen ∷ []; licences = 0 } }
     {
         self.desk.testify(&mut member.pen)
     }
@@ -28,7 +28,7 @@ impl<S: Store<Entry<P>>, P: Part> Queue<S, P> {
     pub fn gather(&self, one: Testimony, other: Testimony) -> Testimony
         requires one { one.table ≡ self.now.desk }
         requires other { other.table ≡ self.now.desk }
-        ensures both { result ≡ record one { pens = one.pens ++ other.pens } }
+        ensures both { result ≡ record one { pens = one.pens ++ other.pens; licences = one.licences + other.licences } }
         ensures linearized { (room : ℕ) × AreLinearized room result.pens }
     {
         self.desk.gather(one, other)
@@ -39,7 +39,7 @@ impl<'q, S: Store<Entry<P>>, P: Part> Handle<'q, S, P> {
     /// Gives testimony of its calls, as `Queue::testify` does. Takes no memory, and never waits.
     pub fn testify(&mut self) -> Testimony
         ensures same { self.new ≡ self.old }
-        ensures gives { result ≡ record { table = self.old.queue.desk; pens = self.old.pen ∷ [] } }
+        ensures gives { result ≡ record { table = self.old.queue.desk; pens = self.old.pen ∷ []; licences = 0 } }
     {
         self.queue.testify(&mut self.member)
     }
@@ -48,7 +48,7 @@ impl<'q, S: Store<Entry<P>>, P: Part> Handle<'q, S, P> {
     pub fn gather(&self, one: Testimony, other: Testimony) -> Testimony
         requires one { one.table ≡ self.now.queue.desk }
         requires other { other.table ≡ self.now.queue.desk }
-        ensures both { result ≡ record one { pens = one.pens ++ other.pens } }
+        ensures both { result ≡ record one { pens = one.pens ++ other.pens; licences = one.licences + other.licences } }
         ensures linearized { (room : ℕ) × AreLinearized room result.pens }
     {
         self.queue.gather(one, other)

@@ -1,5 +1,5 @@
-// The pens that wait in the grid for the newcomers that will stop at their places.
-use announce_board::Stowed;
+// The pens that sleep in the grid until newcomers stop at their places.
+use announce_board::Sleeper;
 use split_grid::Fits;
 use std::snapshot::Snapshot;
 
@@ -7,14 +7,14 @@ use std::snapshot::Snapshot;
 /// has.
 #[derive(Drop)]
 pub struct DeskTag {
-    pub sample: Snapshot<Stowed>,
+    pub sample: Snapshot<Sleeper>,
     pub places: u16,
 }
 
-/// The pen of a place, put away in the grid until a newcomer stops there.
+/// The pen of a place, which sleeps in the grid until a newcomer stops there.
 #[derive(Drop)]
 pub struct Waiting {
-    pub stowed: Stowed,
+    pub sleeper: Sleeper,
 }
 
 impl Fits for Waiting {
@@ -22,5 +22,5 @@ impl Fits for Waiting {
 
     type Tag = DeskTag;
 
-    ghost fits = { λ tag place waiting. IsPenFor tag.sample.value tag.places place waiting.stowed };
+    ghost fits = { λ tag place waiting. IsPenFor tag.sample.value tag.places place waiting.sleeper };
 }

@@ -1,23 +1,38 @@
-use Rattle.std.proofs.Common.{ap, ◌∙◌, subst}
-use Rattle.std.specs.Prelude.{Ok}
+use Rattle.std.proofs.Common.{◌≡◌, ◌∙◌, sym, subst}
 use Rattle.desk_core.specs.Words.{word_number}
-use Rattle.flat_queue.specs.Due.{SightsBy}
-use Rattle.flat_queue.proofs.Dues.{leaves_idle, empty_leaves, one_more}
+use Rattle.flat_queue.specs.Due.{TakesDueOrEndsBy}
+use Rattle.flat_queue.specs.declared.take_steps.Left.TheVariants.{Nothing}
+use Rattle.flat_queue.proofs.DueStepping.{DueSoFarBy, due_ends, due_goes, due_still}
 use Rattle.flat_queue.proofs.queue.Queue.take_due_waking.Goals as goal
 
--- a look behind which the first item stays
+pub returns-in-Ends-clause-takes : goal.returns-in-Ends-clause-takes
+returns-in-Ends-clause-takes g c =
+    let words = word_number g.P.Part.wide in
+    let may_tell = g.R.TimeSource.may_tell c.args.rt.now in
+    let call = c.args.call in
+    let now = c.in-Some-clock.now in
+    let before = c.args.member.now in
+    let after = c.step_due-told.new.member in
+    let s = subst (λ k. DueSoFarBy words before k c.loop.member) c.in-Some-clock.is c.loop.invariant.2 in
+    subst (λ r. TakesDueOrEndsBy words may_tell call.times call.deadline before r after) (sym c.due_by.ensures.told)
+    (due_ends words (c.at.result.left ≡ Nothing) may_tell call.times call.deadline c.at.result.wanted now before c.loop.member after c.in-Ends.took s c.in-Ends.ensures.steps
+    (subst may_tell c.in-Some-clock.is c.loop.invariant.3) c.at.ensures.late c.at.ensures.due c.at.ensures.all c.due_by.ensures.range)
+
 pub loop-preserved : goal.loop-preserved
 loop-preserved g c =
-    let t = c.in-Ok-Waits in
-    let v = subst (λ r. SightsBy (word_number g.P.Part.wide) (g.R.TimeSource.may_tell c.args.rt.now) c.args.times c.args.deadline c.loop.member r c.look_due_or_sleep.new.member) (t.is ∙ ap Ok t.field-0-is) c.look_due_or_sleep.ensures in
-    let i = leaves_idle _ c.loop.member c.look_due_or_sleep.new.member c.loop.invariant.1 v in
-    (i.0 ∙ c.loop.invariant.0, i.1, one_more _ c.args.member.now c.loop.member c.look_due_or_sleep.new.member c.loop.invariant.2 v)
-
--- and one that found no item
-pub loop-preserved-in-Ok-Empty-2 : goal.loop-preserved-in-Ok-Empty-2
-loop-preserved-in-Ok-Empty-2 g c =
-    let t = c.in-Ok-Empty in
-    let found = subst (λ r. SightsBy (word_number g.P.Part.wide) (g.R.TimeSource.may_tell c.args.rt.now) c.args.times c.args.deadline c.loop.member r c.look_due_or_sleep.new.member) (t.is ∙ ap Ok t.field-0-is) c.look_due_or_sleep.ensures in
-    let v = empty_leaves _ c.loop.member c.look_due_or_sleep.new.member found in
-    let i = leaves_idle _ c.loop.member c.look_due_or_sleep.new.member c.loop.invariant.1 v in
-    (i.0 ∙ c.loop.invariant.0, i.1, one_more _ c.args.member.now c.loop.member c.look_due_or_sleep.new.member c.loop.invariant.2 v)
+    let words = word_number g.P.Part.wide in
+    let may_tell = g.R.TimeSource.may_tell c.args.rt.now in
+    let late = c.at.result.left ≡ Nothing in
+    let wants = c.at.result.wanted in
+    let now = c.in-Some-clock.now in
+    let before = c.args.member.now in
+    let after = c.step_due-told.new.member in
+    let next = c.in-Goes.next in
+    let h = c.in-Goes.ensures.steps in
+    let s = subst (λ k. DueSoFarBy words before k c.loop.member) c.in-Some-clock.is c.loop.invariant.2 in
+    let i = due_still words late wants c.loop.member after next c.loop.invariant.1 h in (
+      i.0 ∙ c.loop.invariant.0,
+      i.1,
+      due_goes words late wants now c.time_at-clock.result before c.loop.member after next s h c.time_at-clock.ensures.keeps,
+      c.time_at-clock.ensures.told (subst may_tell c.in-Some-clock.is c.loop.invariant.3),
+    )

@@ -1,5 +1,0 @@
-use Rattle.flat_queue.proofs.Misses.{HasMissed}
-use Rattle.flat_queue.proofs.queue.Queue.wait_and_look.Given as goal
-
-abbrev pub invariant-loop : goal.invariant-loop
-invariant-loop g l = HasMissed l.fn.member l.member

@@ -1,0 +1,69 @@
+-- What one step of a call for what is due makes of its member.
+use Rattle.std.specs.Prelude.{ℕ, ◌<◌, ◌^◌, ⊤, Option, Some, None, Result, Ok, Err}
+use Rattle.std.specs.declared.time.Instant.{Instant}
+use Rattle.pq_types.specs.Item.{Item}
+use Rattle.flat_queue.specs.Members.{Joined}
+use Rattle.flat_queue.specs.Looking.{IsWanted, LooksFirstBy}
+use Rattle.flat_queue.specs.Taking.{LooksNowBy, TakesSo}
+use Rattle.flat_queue.specs.TakeSteps.{FindsHeldYet}
+use Rattle.flat_queue.specs.Due.{Due}
+use Rattle.flat_queue.specs.declared.error.CallError.{CallError}
+use Rattle.flat_queue.specs.declared.looking.Wanted.{Wanted}
+use Rattle.flat_queue.specs.declared.looking.Looked.TheVariants as looked
+use Rattle.flat_queue.specs.declared.due.Due.TheVariants as due
+use Rattle.flat_queue.specs.declared.due_steps.DueStage.{DueStage as DueStageOf}
+use Rattle.flat_queue.specs.declared.due_steps.DueStage.TheVariants as stage
+use Rattle.flat_queue.specs.declared.due_steps.DueTook.{DueTook as DueTookOf}
+use Rattle.flat_queue.specs.declared.due_steps.DueTook.TheVariants as took
+use Rattle.flat_queue.specs.declared.due_steps.DueStepped.{DueStepped as DueSteppedOf}
+use Rattle.flat_queue.specs.declared.due_steps.DueStepped.TheVariants as stepped
+
+-- how far such a call has come, what it came to, and what a step of it came to, of items of any width
+abbrev pub DueStage : Type 0
+DueStage = DueStageOf Item
+
+abbrev pub DueTook : Type 0
+DueTook = DueTookOf Item
+
+abbrev pub DueStepped : Type 0
+DueStepped = DueSteppedOf Item
+
+-- The member looked once for an item that is wanted. The look took one out, or was refused. Or it left all items there: then the
+-- call sleeps, or it ends where the deadline has come, or at the end of the queue where there was none. Or the member found the
+-- lock held, and is to look again. Items have so many words.
+abbrev pub SightsOnceBy : ℕ → (late : Type 0) → Wanted → Joined → DueStepped → Joined → Type 0
+SightsOnceBy words late wants before (stepped.Ends (took.Taken number x)) after =
+    TakesSo (LooksNowBy words wants) before (Ok (number, x)) after × IsWanted wants x.priority
+SightsOnceBy words late wants before (stepped.Ends (took.Refused error)) after =
+    TakesSo (LooksNowBy words wants) before (Err error) after
+SightsOnceBy words late wants before (stepped.Ends (took.Later x)) after = late × LooksFirstBy words wants before (looked.Stays x) after
+SightsOnceBy words late wants before (stepped.Ends took.Nothing) after = late × LooksFirstBy words wants before looked.Nothing after
+SightsOnceBy words late wants before (stepped.Ends took.Over) after = LooksFirstBy words wants before looked.Nothing after
+SightsOnceBy words late wants before (stepped.Goes stage.Announces) after = ⊥
+SightsOnceBy words late wants before (stepped.Goes (stage.Looks look)) after = FindsHeldYet before after
+SightsOnceBy words late wants before (stepped.Goes (stage.Sleeps seen (Some x))) after =
+    LooksFirstBy words wants before (looked.Stays x) after
+SightsOnceBy words late wants before (stepped.Goes (stage.Sleeps seen None)) after =
+    LooksFirstBy words wants before looked.Nothing after
+
+-- what a call comes back with that came to this, where the clock told this time before its last look
+abbrev pub due_by : DueTook → Instant → Result (Option Due) CallError
+due_by (took.Taken number x) now = Ok (Some (due.Taken number x now))
+due_by (took.Refused error) now = Err error
+due_by (took.Later x) now = Ok (Some (due.Later x now))
+due_by took.Nothing now = Ok (Some (due.Nothing now))
+due_by took.Over now = Ok None
+
+-- the priority of an item that it leaves there is one of a machine word
+abbrev pub IsShort : DueTook → Type 0
+IsShort (took.Taken number x) = ⊤
+IsShort (took.Refused error) = ⊤
+IsShort (took.Later x) = x.priority < 2 ^ 64
+IsShort took.Nothing = ⊤
+IsShort took.Over = ⊤
+
+-- the stage is one of a look that goes on
+abbrev pub IsLook : DueStage → Type 0
+IsLook stage.Announces = ⊥
+IsLook (stage.Looks look) = ⊤
+IsLook (stage.Sleeps seen first) = ⊥

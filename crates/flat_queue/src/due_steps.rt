@@ -1,0 +1,180 @@
+// A call for what is due in steps that never wait: their caller rests, or sleeps, between them.
+ghost use Rattle.std.specs.Prelude.{◌≡◌, true};
+ghost use Rattle.desk_core.specs.Words.{word_number};
+ghost use Rattle.announce_board.specs.Tokens.{is_idle};
+ghost use Rattle.flat_queue.specs.declared.event_count.Wakes.TheVariants.{EventOrEnd};
+ghost use Rattle.flat_queue.specs.DueSteps.{SightsOnceBy};
+
+use crate::error::CallError;
+use crate::event_count::Wakes;
+use crate::looking::{Looked, Wanted};
+use crate::member::Member;
+use crate::queue::Queue;
+use crate::take_steps::Left;
+use leftist_heap::Store;
+use pq_book::Entry;
+use pq_types::{Item, Part};
+
+/// What a step for what is due is told by its caller, who has a clock.
+#[derive(Clone, Copy)]
+pub struct DueNow {
+    /// Which items are due.
+    pub wanted: Wanted,
+    /// How much time is left until the deadline.
+    pub left: Left,
+    /// Whether the end of the queue ends the call.
+    pub wakes: Wakes,
+}
+
+/// What a look for what is due knows that was announced.
+#[derive(Clone, Copy)]
+pub struct DueLook {
+    /// The count of events.
+    pub seen: u64,
+    /// Whether the queue was over before it was announced.
+    pub is_last: bool,
+    /// Whether its call has slept: then it may have got a wake, and hands one on.
+    pub has_slept: bool,
+}
+
+/// How far a call for what is due has come.
+#[derive(Clone, Copy)]
+pub enum DueStage<I = Item> {
+    /// It is to announce itself, and to look.
+    Announces,
+    /// It is announced, and is to look.
+    Looks(DueLook),
+    /// It is announced, and its look took nothing: the count of events while which it may sleep, and the first item, which stays,
+    /// or none. It sleeps until that is due at most.
+    Sleeps(u64, Option<I>),
+}
+
+/// What a call for what is due came to.
+#[derive(Clone, Copy)]
+pub enum DueTook<I = Item> {
+    /// The journal has this line of it, and this is the item, which was due.
+    Taken(u64, I),
+    Refused(CallError),
+    /// The deadline has come: this item is the first, and stays, as it is not due.
+    Later(I),
+    /// The deadline has come, and there was no item.
+    Nothing,
+    /// The queue is over, and there was no item.
+    Over,
+}
+
+/// What a step of such a call came to.
+#[derive(Clone, Copy)]
+pub enum DueStepped<I = Item> {
+    /// The call is over.
+    Ends(DueTook<I>),
+    /// It goes on from this stage. Before the next step its caller rests where the stage is to look, as another holds the lock,
+    /// and sleeps where it is to sleep.
+    Goes(DueStage<I>),
+}
+
+impl<S: Store<Entry<P>>, P: Part> Queue<S, P> {
+    /// The idle member takes the next step of a call for what is due, as is told. A step looks at the first item once, or finds
+    /// the lock held; it takes only an item that is due, posts nothing, never waits, and wakes nobody: its caller does, by
+    /// `owed_wakes` or `wake_owed` of the `waiters`. A call sleeps only behind a step that announced it, looked, and took nothing.
+    /// One that is announced is led to its end by such steps, or by `leave_due`.
+    pub fn step_due(
+        &self,
+        member: &mut Member<S, P>,
+        stage: DueStage<Item<P>>,
+        now: DueNow,
+    ) -> DueStepped<Item<P>>
+        requires queue { member.old.queue ≡ self.now }
+        requires idle { is_idle member.old.pen.standing ≡ true }
+        ensures steps { SightsOnceBy (word_number P.wide) (now.left ≡ Left.Nothing) now.wanted member.old result member.new }
+        ensures heeds { result ≡ DueStepped.Ends DueTook.Over → now.wakes ≡ EventOrEnd }
+    {
+        match stage {
+            DueStage::Announces => self.step_awaiting(member, now, false),
+            DueStage::Looks(look) => {
+                let is_last = look.is_last && matches!(now.wakes, Wakes::EventOrEnd);
+                self.step_sighting(member, now, DueLook { is_last, ..look })
+            }
+            DueStage::Sleeps(_, _) => {
+                self.waiters.end_wait();
+                self.step_awaiting(member, now, true)
+            }
+        }
+    }
+
+    /// Ends a call for what is due that has come to this stage, and goes no further. It wakes nobody, as `step_due`.
+    pub fn leave_due(&self, stage: DueStage<Item<P>>) {
+        match stage {
+            DueStage::Announces => (),
+            DueStage::Looks(_) | DueStage::Sleeps(_, _) => self.waiters.end_wait(),
+        }
+        self.waiters.count(1);
+    }
+
+    // It announces itself, and looks. Whether the queue is over is asked before: where it is, the look is the last one.
+    fn step_awaiting(
+        &self,
+        member: &mut Member<S, P>,
+        now: DueNow,
+        has_slept: bool,
+    ) -> DueStepped<Item<P>>
+        requires queue { member.old.queue ≡ self.now }
+        requires idle { is_idle member.old.pen.standing ≡ true }
+        ensures steps { SightsOnceBy (word_number P.wide) (now.left ≡ Left.Nothing) now.wanted member.old result member.new }
+        ensures heeds { result ≡ DueStepped.Ends DueTook.Over → now.wakes ≡ EventOrEnd }
+    {
+        let is_last = self.waiters.is_over(now.wakes);
+        let seen = self.waiters.begin_wait();
+        let look = DueLook {
+            seen,
+            is_last,
+            has_slept,
+        };
+        self.step_sighting(member, now, look)
+    }
+
+    // It is announced, and looks. One that leaves an item there, or is refused, hands a wake on, and so does one that has slept
+    // and takes an item: another was to wake for that, or for the next one.
+    fn step_sighting(
+        &self,
+        member: &mut Member<S, P>,
+        now: DueNow,
+        look: DueLook,
+    ) -> DueStepped<Item<P>>
+        requires queue { member.old.queue ≡ self.now }
+        requires idle { is_idle member.old.pen.standing ≡ true }
+        ensures steps { SightsOnceBy (word_number P.wide) (now.left ≡ Left.Nothing) now.wanted member.old result member.new }
+        ensures last { result ≡ DueStepped.Ends DueTook.Over → look.is_last ≡ true }
+    {
+        if member.posts() >= self.most_posts() {
+            return self.end_due(DueTook::Refused(CallError::Spent), true);
+        }
+        match self.take_first(member, now.wanted) {
+            None => DueStepped::Goes(DueStage::Looks(look)),
+            Some(Looked::Taken(number, item)) => {
+                self.end_due(DueTook::Taken(number, item), look.has_slept)
+            }
+            Some(Looked::Stays(item)) => match now.left {
+                Left::Nothing => self.end_due(DueTook::Later(item), true),
+                Left::Enough => DueStepped::Goes(DueStage::Sleeps(look.seen, Some(item))),
+            },
+            Some(Looked::Nothing) => match now.left {
+                Left::Nothing => self.end_due(DueTook::Nothing, false),
+                Left::Enough if look.is_last => self.end_due(DueTook::Over, false),
+                Left::Enough => DueStepped::Goes(DueStage::Sleeps(look.seen, None)),
+            },
+            Some(Looked::BookFull) => self.end_due(DueTook::Refused(CallError::BookFull), true),
+        }
+    }
+
+    // One that was announced comes to this, and hands a wake on where this says so.
+    fn end_due(&self, took: DueTook<Item<P>>, hands_on: bool) -> DueStepped<Item<P>>
+        ensures { result ≡ DueStepped.Ends took }
+    {
+        self.waiters.end_wait();
+        if hands_on {
+            self.waiters.count(1);
+        }
+        DueStepped::Ends(took)
+    }
+}

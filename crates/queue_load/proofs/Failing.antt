@@ -8,7 +8,7 @@ use Rattle.queue_load.specs.Load.{AreWorked, IsFirstRefusal, FailsLoad, FailsOpe
 use Rattle.queue_load.specs.Watched.{AreRefused, FailsSlices, FailsWatched, IsSliceEnd}
 use Rattle.queue_load.specs.Worker.{IsReason}
 use Rattle.queue_load.specs.declared.load_faults.LoadError.{LoadError}
-use Rattle.queue_load.specs.declared.load_faults.LoadError.TheVariants.{NoMemory, NoThread, Worker, LockHeld}
+use Rattle.queue_load.specs.declared.load_faults.LoadError.TheVariants.{NoMemory, NoThread, Worker}
 use Rattle.queue_load.specs.declared.load_faults.WorkerError.{WorkerError}
 use Rattle.program_words.specs.declared.plan.Plan.{Plan}
 use Rattle.queue_load.specs.declared.worker.EndedWorker.{EndedWorker}
@@ -65,7 +65,6 @@ pub fails_watched : {S P Z X : Type 0} (wide : Bool) (may_give_up : ℕ → Type
 fails_watched wide may_give_up room queue plan slice lines NoMemory handed is h = h
 fails_watched wide may_give_up room queue plan slice lines NoThread handed is h = h
 fails_watched wide may_give_up room queue plan slice lines (Worker id reason) handed is h = subst (λ n. FailsSlices wide may_give_up (AllHaveRoom room n) plan slice (Worker id reason) handed) is h
-fails_watched wide may_give_up room queue plan slice lines LockHeld handed is h = absurd h
 
 -- and a load in one slice
 pub fails_whole : {S P Z : Type 0} (wide : Bool) (may_give_up : ℕ → Type 0) (has_room : Type 0) (plan : Plan) (slice : ℕ) (error : LoadError) (handed : Option (Vec (EndedWorker S P) Z)) → FailsWatched wide may_give_up has_room plan slice error handed → FailsLoad may_give_up has_room plan error
@@ -73,7 +72,6 @@ fails_whole wide may_give_up has_room plan slice NoMemory handed h = tt
 fails_whole wide may_give_up has_room plan slice NoThread handed h = tt
 fails_whole wide may_give_up has_room plan slice (Worker id reason) handed (until, end, worked, is, refused) =
     of_named may_give_up has_room plan until id reason worked.items refused
-fails_whole wide may_give_up has_room plan slice LockHeld handed h = h.1
 
 -- and one whose workers never give up
 pub fails_open : {S P Z : Type 0} (wide : Bool) (may_give_up : ℕ → Type 0) (has_room : Type 0) (plan : Plan) (slice : ℕ) (error : LoadError) (handed : Option (Vec (EndedWorker S P) Z)) → ((id : ℕ) → may_give_up id → ⊥) → FailsWatched wide may_give_up has_room plan slice error handed → FailsOpenLoad plan error
@@ -82,4 +80,3 @@ fails_open wide may_give_up has_room plan slice NoThread handed never h = tt
 fails_open wide may_give_up has_room plan slice (Worker id reason) handed never (until, end, worked, is, refused) =
     let (some, most, why) = of_named may_give_up has_room plan until id reason worked.items refused in
     (some, most, λ gave. never id (subst (λ r. IsReason (may_give_up id) has_room r) gave why))
-fails_open wide may_give_up has_room plan slice LockHeld handed never h = h.1

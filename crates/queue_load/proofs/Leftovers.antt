@@ -137,7 +137,7 @@ removed l es i reply c e = by_item (item_at i es) refl reply e
         ((omega arith, omega arith), record { count = omega arith; sum = omega arith })
 
 -- an entry more
-entered_more : (e : Entry) (es : List Entry) → (length (map item_of (with_entry e es)) ≡ length (map item_of es) + 1) × (weight (map item_of (with_entry e es)) ≡ weight (map item_of es) + e.priority)
+pub entered_more : (e : Entry) (es : List Entry) → (length (map item_of (with_entry e es)) ≡ length (map item_of es) + 1) × (weight (map item_of (with_entry e es)) ≡ weight (map item_of es) + e.priority)
 entered_more e [] = (refl, refl)
 entered_more e (f ∷ fs) = behind (entry_not_above f e) (entered_more e fs)
   where

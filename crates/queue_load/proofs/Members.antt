@@ -1,11 +1,9 @@
 -- The members of workers that have made all their requests, and their tallies.
 use Rattle.std.proofs.Common.{◌≡◌, ℕ, Bool, zero, suc, ◌+◌, List, [], ◌∷◌, length, map, slice_get, Some, refl, ◌∙◌, ap, subst}
 use Rattle.std.proofs.lemmas.List.{length-map}
-use Rattle.pq_types.specs.Asked.{Line}
-use Rattle.announce_board.specs.Notes.{HasItsCalls}
 use Rattle.desk_core.specs.Witnessed.{AreLinearized}
 use Rattle.flat_queue.specs.Members.{QueueName, Joined}
-use Rattle.queue_load.specs.Hearing.{StandIn, WorkersStandIn, AreLinearizedMembers, AreLinearizedWorkers}
+use Rattle.queue_load.specs.Testifying.{AreLinearizedMembers, AreLinearizedWorkers}
 use Rattle.queue_load.specs.Load.{AreDone, AreMembers, AreAnswered}
 use Rattle.queue_load.specs.Tally.{tally_of, all_together}
 use Rattle.queue_load.specs.Worker.{HasMade}
@@ -41,11 +39,7 @@ module _ {S P : Type 0} where
       let made = done i w there in
       subst (λ (x : Joined). HasMade wide queue (i + 1) plan plan.rounds x (tally_of x.pen.mine)) same (subst (λ (t : Tally). HasMade wide queue (i + 1) plan plan.rounds w.member t) made.tally made)
 
-  -- their calls stand where those of the workers do
-  pub members_stand : (journal : List Line) (worked : List (EndedWorker S P)) → WorkersStandIn journal worked → StandIn journal (map member worked)
-  members_stand journal worked stand i m at = let (w, there, same) = member_at worked i m at in subst (λ (x : Joined). HasItsCalls x.pen journal) same (stand i w there)
-
-  -- and so do their histories
+  -- their histories are linearized where those of the workers are
   pub members_linearized : (worked : List (EndedWorker S P)) → AreLinearizedWorkers worked → AreLinearizedMembers (map member worked)
   members_linearized worked (room, fit) = (room, subst (AreLinearized room) (pens_are worked) fit)
     where

@@ -1,11 +1,10 @@
 -- The queue of a load is opened for workers 1 and so on, who are told by index.
-use Rattle.std.proofs.Common.{◌≡◌, ℕ, Bool, zero, suc, ◌+◌, ◌<◌, List, [], ◌∷◌, ◌++◌, length, map, get_or, slice_get, Option, Some, None, refl, sym, ◌∙◌, ap, subst, arith, rules}
+use Rattle.std.proofs.Common.{◌≡◌, ℕ, Bool, zero, suc, ◌+◌, ◌<◌, List, [], ◌∷◌, ◌++◌, length, map, get_or, slice_get, Option, Some, None, refl, sym, ◌∙◌, ap, subst, arith}
 use Rattle.std.specs.List.{range_with_len}
-use Rattle.std.proofs.lemmas.List.FromFn.{length-map-range_with_len, get_or-map-range_with_len, map-range_with_len_more}
+use Rattle.std.proofs.lemmas.List.FromFn.{length-range_with_len, length-map-range_with_len, get_or-map-range_with_len, map-range_with_len_more}
 use Rattle.std.proofs.lemmas.List.{length-map}
 use Rattle.std.proofs.lemmas.Option.{get_or_from_slice_get, slice_get_within}
 use Rattle.desk_core.specs.Rule.{StartsWith}
-use Rattle.split_grid.specs.Opening.{places_of}
 use Rattle.flat_queue.specs.Members.{QueueName, Coming}
 use Rattle.flat_queue.specs.Opening.{newcomer_of}
 use Rattle.program_words.specs.Lines.{each_of}
@@ -88,8 +87,8 @@ nothing_known S P [] = refl
 nothing_known S P (n ∷ ns) = refl
 
 -- a load begins with its newcomers
-pub begins_load : {wide : Bool} → {S P : Type 0} (queue : QueueName) (plan : Plan) (newcomers : List Coming) (states : List (WorkerState S P)) → queue.room ≡ load_room plan → IsLoad plan.workers plan.pushes plan.pops plan.rounds → queue.places ≡ places_of (length (range_with_len 1 plan.workers)) → newcomers ≡ map (newcomer_of queue) (range_with_len 1 plan.workers) → states ≡ map state.Coming newcomers → BeginsLoad wide plan queue states
-begins_load {wide = wide} {S = S} {P = P} queue plan newcomers states room fits places dealt e =
+pub begins_load : {wide : Bool} → {S P : Type 0} (queue : QueueName) (plan : Plan) (newcomers : List Coming) (states : List (WorkerState S P)) → queue.room ≡ load_room plan → IsLoad plan.workers plan.pushes plan.pops plan.rounds → queue.comers ≡ length (range_with_len 1 plan.workers) → newcomers ≡ map (newcomer_of queue) (range_with_len 1 plan.workers) → states ≡ map state.Coming newcomers → BeginsLoad wide plan queue states
+begins_load {wide = wide} {S = S} {P = P} queue plan newcomers states room fits counted dealt e =
     record {
       room_is = room;
       stand = λ until i s at.
@@ -98,5 +97,5 @@ begins_load {wide = wide} {S = S} {P = P} queue plan newcomers states room fits 
       count = ap length e ∙ length-map newcomers state.Coming ∙ count_of_newcomers queue plan.workers newcomers dealt;
       few = may_post_all queue plan room fits;
       known = ap known_before e ∙ nothing_known S P newcomers;
-      alone = λ one. places ∙ ap (λ n. places_of (length (range_with_len 1 n))) one ∙ search rules;
+      comers = counted ∙ length-range_with_len 1 plan.workers;
     }

@@ -1,6 +1,6 @@
 pub mod Asks
 pub mod Audit
-pub mod Hearing
+pub mod Testifying
 pub mod Jobs
 pub mod Leftover
 pub mod Lines

@@ -1,18 +1,19 @@
 -- What a load comes to, whose items are wide or narrow: its report, and the Book of the queue that its workers have left.
-use Rattle.std.specs.Prelude.{◌≡◌, ◌≢◌, ℕ, ◌+◌, ◌*◌, ◌<◌, ◌≤◌, Bool, List, [], ◌∷◌, length}
+use Rattle.std.specs.Prelude.{◌≡◌, ◌≢◌, ℕ, ◌+◌, ◌*◌, ◌<◌, ◌≤◌, Bool, IsTrue, List, [], ◌∷◌, length}
 use Rattle.std.specs.Prelude.{map, slice_get, Option, Some, Result, Ok, Err}
 use Rattle.pq_types.specs.Asked.{Line}
 use Rattle.pq_book.specs.Book.{Volume}
 use Rattle.desk_core.specs.Calls.{calls_of}
+use Rattle.flat_queue.specs.Closing.{OfEachMember, LinesAreTheirs}
 use Rattle.flat_queue.specs.Members.{QueueName, Joined}
 use Rattle.queue_load.specs.Audit.{Reports}
-use Rattle.queue_load.specs.Hearing.{StandIn, AreLinearizedMembers}
+use Rattle.queue_load.specs.Testifying.{StandIn, AreLinearizedMembers}
 use Rattle.queue_load.specs.Lines.{load_room, book_kept, MayPostAll}
 use Rattle.program_words.specs.Plan.{all_requests, sum_of_priorities}
 use Rattle.queue_load.specs.Tally.{tally_of, all_together}
 use Rattle.queue_load.specs.Worker.{HasMade, HasCome, HasWorked, IsReason, IsShare, StandsAt, known_of}
 use Rattle.queue_load.specs.declared.load_faults.LoadError.{LoadError}
-use Rattle.queue_load.specs.declared.load_faults.LoadError.TheVariants.{NoMemory, NoThread, Worker, LockHeld}
+use Rattle.queue_load.specs.declared.load_faults.LoadError.TheVariants.{NoMemory, NoThread, Worker}
 use Rattle.queue_load.specs.declared.load_faults.WorkerError.{WorkerError}
 use Rattle.queue_load.specs.declared.load_faults.WorkerError.TheVariants.{GaveUp}
 use Rattle.program_words.specs.declared.plan.Plan.{Plan}
@@ -41,7 +42,7 @@ AreDone {S} {P} wide queue plan worked = (i : ℕ) (w : EndedWorker S P) → sli
     → HasMade wide queue (i + 1) plan plan.rounds w.member w.tally
 
 -- A queue with the room of this load, and a newcomer of it for each worker, who may post all its requests and is at the state
--- before its joining; of the journal it knows nothing. The queue for one has one place.
+-- before its joining; of the journal it knows nothing. The queue has no other comers.
 pub record BeginsLoad {S P : Type 0} (wide : Bool) (plan : Plan) (queue : QueueName) (states : List (WorkerState S P))
     : Type 0 where
   pub room_is : queue.room ≡ load_room plan
@@ -49,7 +50,7 @@ pub record BeginsLoad {S P : Type 0} (wide : Bool) (plan : Plan) (queue : QueueN
   pub count : length states ≡ plan.workers
   pub few : MayPostAll queue plan
   pub known : known_before states ≡ []
-  pub alone : plan.workers ≡ 1 → queue.places ≡ 1
+  pub comers : queue.comers ≡ plan.workers
 
 -- workers 1 and so on, each of which has made so many requests where it was not refused, and else has a reason
 abbrev pub AreWorked : {S P : Type 0} → Bool → (may_give_up : ℕ → Type 0) → (has_room : Type 0) → QueueName → Plan → ℕ
@@ -104,6 +105,10 @@ pub record AreAnswered (wide : Bool) (workers : ℕ) (plan : Plan) (members : Li
   pub count : length members ≡ workers
   pub added : t ≡ all_together (map (λ m. tally_of m.pen.mine) members)
 
+-- The journal has at the place of each of these members exactly the calls that the member has.
+abbrev pub HaveExactly : List Line → List Joined → Type 0
+HaveExactly journal members = OfEachMember members (λ m. calls_of m.pen.place journal ≡ m.pen.mine)
+
 -- The Book with this room has at the place of worker 1 exactly the calls that this worker's member has, which are its requests in
 -- their order.
 pub record LeavesFirst (wide : Bool) (room : ℕ) (plan : Plan) (first : Joined) (book : Volume) : Type 0 where
@@ -113,8 +118,8 @@ pub record LeavesFirst (wide : Bool) (room : ℕ) (plan : Plan) (first : Joined)
 
 -- A load has this report and has left this Book: all requests of its workers were answered, the
 -- report tells what they were answered, added up, and each call of each of them stands in the
--- Book's journal, on the line of its number. Of worker 1 the journal has no others. And one history has the beginnings and
--- ends of the calls of them all, which one journal linearizes.
+-- Book's journal, on the line of its number. At the place of each worker the journal has no others, and it has no line of another
+-- place. And one history has the beginnings and ends of the calls of them all, which one journal linearizes. The audit is ok.
 pub record ReportsLoad (wide : Bool) (plan : Plan) (r : Report) (book : Volume) : Type 0 where
   pub members : List Joined
   pub total : Tally
@@ -126,22 +131,23 @@ pub record ReportsLoad (wide : Bool) (plan : Plan) (r : Report) (book : Volume) 
   pub first : Joined
   pub is_first : slice_get members 0 ≡ Some first
   pub leaves : LeavesFirst wide (load_room plan) plan first book
+  pub exact : HaveExactly book.journal members
+  pub only : LinesAreTheirs members book.journal
+  pub ok : IsTrue r.audit
 
 -- How a load may fail: where a worker ended early, its id is one of 1 to the last, and the reason is one that this worker may
--- have; and where the lock was held, there are more workers than one.
+-- have.
 abbrev pub FailsLoad : (may_give_up : ℕ → Type 0) → (has_room : Type 0) → Plan → LoadError → Type 0
 FailsLoad may_give_up has_room plan NoMemory = Unit {0}
 FailsLoad may_give_up has_room plan NoThread = Unit {0}
 FailsLoad may_give_up has_room plan (Worker id reason) = (1 ≤ id) × (id ≤ plan.workers) × IsReason (may_give_up id) has_room reason
-FailsLoad may_give_up has_room plan LockHeld = plan.workers ≢ 1
 
 -- How a load of workers who never give up may fail: where a worker ended early, its id is one of 1 to the last, and the reason is
--- another than that its gate gave up; and where the lock was held, there are more workers than one.
+-- another than that its gate gave up.
 abbrev pub FailsOpenLoad : Plan → LoadError → Type 0
 FailsOpenLoad plan NoMemory = Unit {0}
 FailsOpenLoad plan NoThread = Unit {0}
 FailsOpenLoad plan (Worker id reason) = (1 ≤ id) × (id ≤ plan.workers) × (reason ≢ GaveUp)
-FailsOpenLoad plan LockHeld = plan.workers ≢ 1
 
 -- A load has this report, and hands back this Book: that of which the report speaks, where its queue was a short one, else none.
 abbrev pub HasReport : Bool → Plan → Report → Option Volume → Type 0

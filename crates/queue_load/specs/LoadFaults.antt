@@ -3,7 +3,7 @@ use Rattle.std.specs.Prelude.{ℕ}
 use Rattle.queue_load.specs.declared.load_faults.WorkerError.{WorkerError}
 use Rattle.queue_load.specs.declared.load_faults.WorkerError.TheVariants.{NoMemory as NoMemoryForPush, BookFull, GaveUp}
 use Rattle.queue_load.specs.declared.load_faults.LoadError.{LoadError}
-use Rattle.queue_load.specs.declared.load_faults.LoadError.TheVariants.{NoMemory, NoThread, Worker, LockHeld}
+use Rattle.queue_load.specs.declared.load_faults.LoadError.TheVariants.{NoMemory, NoThread, Worker}
 
 -- the number of each reason for which a worker ends early
 abbrev pub worker_code : WorkerError → ℕ
@@ -16,7 +16,6 @@ abbrev pub load_code : LoadError → ℕ
 load_code NoMemory = 6
 load_code NoThread = 13
 load_code (Worker id reason) = worker_code reason
-load_code LockHeld = 8
 
 -- the exit status where a worker ended early: memory was refused, or it could not go on
 abbrev pub worker_status : WorkerError → ℕ
@@ -29,4 +28,3 @@ abbrev pub load_status : LoadError → ℕ
 load_status NoMemory = 4
 load_status NoThread = 5
 load_status (Worker id reason) = worker_status reason
-load_status LockHeld = 5

@@ -1,5 +1,5 @@
 -- What a load in slices comes to, of wide items or of narrow ones, which writes its journal down while it runs.
-use Rattle.std.specs.Prelude.{◌≡◌, ◌≢◌, ℕ, ◌+◌, ◌*◌, ◌/◌, ◌<◌, ◌⊎◌, max, Bool}
+use Rattle.std.specs.Prelude.{◌≡◌, ℕ, ◌+◌, ◌*◌, ◌/◌, ◌<◌, ◌⊎◌, max, Bool}
 use Rattle.std.specs.Prelude.{List, [], length, slice_get, Option, Some, None, Result, Ok, Err, Vec}
 use Rattle.pq_types.specs.Asked.{Line}
 use Rattle.pq_book.specs.Book.{Volume}
@@ -11,7 +11,7 @@ use Rattle.queue_load.specs.Load.{HaveCome, FailsOpenLoad, IsFirstRefusal, Repor
 use Rattle.queue_load.specs.JournalWriter.{WritesAll}
 use Rattle.queue_load.specs.Worker.{HasWorked}
 use Rattle.queue_load.specs.declared.load_faults.LoadError.{LoadError}
-use Rattle.queue_load.specs.declared.load_faults.LoadError.TheVariants.{NoMemory, NoThread, Worker, LockHeld}
+use Rattle.queue_load.specs.declared.load_faults.LoadError.TheVariants.{NoMemory, NoThread, Worker}
 use Rattle.program_words.specs.declared.plan.Plan.{Plan}
 use Rattle.queue_load.specs.declared.report.Report.{Report}
 use Rattle.queue_load.specs.declared.worker.EndedWorker.{EndedWorker}
@@ -52,7 +52,6 @@ FailsSlices {S} {P} {Z} wide may_give_up has_room plan slice (Worker id reason) 
     (until : ℕ) × IsSliceEnd plan slice until
     × (worked : Vec (EndedWorker S P) Z) × (handed ≡ Some worked)
     × AreRefused wide may_give_up has_room plan until worked.items (Worker id reason)
-FailsSlices wide may_give_up has_room plan slice LockHeld handed = ⊥
 
 -- The load has this report and hands back this Book, as `HasReport` says; its Book's journal begins with this one, and has so
 -- many lines.
@@ -61,15 +60,13 @@ EndsWith wide plan known r left lines =
     (book : Volume) × ReportsLoad wide plan r book × (left ≡ book_kept plan book) × StartsWith book.journal known
     × (lines ≡ length book.journal)
 
--- How a load in slices may fail: as in one of them, or, where there are more workers than one, since the lock was held when the
--- queue was closed.
+-- How a load in slices may fail: before them, or behind them, for want of memory, or as in one of them.
 abbrev pub FailsWatched : {S P Z : Type 0} → Bool → (may_give_up : ℕ → Type 0) → (has_room : Type 0) → Plan → (slice : ℕ)
     → LoadError → Option (Vec (EndedWorker S P) Z) → Type 0
 FailsWatched wide may_give_up has_room plan slice NoMemory handed = handed ≡ None
 FailsWatched wide may_give_up has_room plan slice NoThread handed = handed ≡ None
 FailsWatched wide may_give_up has_room plan slice (Worker id reason) handed =
     FailsSlices wide may_give_up has_room plan slice (Worker id reason) handed
-FailsWatched wide may_give_up has_room plan slice LockHeld handed = (handed ≡ None) × (plan.workers ≢ 1)
 
 -- There is a Book of which the report speaks, which is handed back where the queue was a short one; and of its journal the writer
 -- has the whole text more than before, where that is told, and else a beginning of it.

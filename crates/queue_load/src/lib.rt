@@ -3,16 +3,15 @@
 //!
 //! To the layer above it promises, of a load that has a report: each worker pushed its own items and
 //! popped as often as the plan says, the same in each of its rounds, and all of it was entered in the
-//! journal; the report's numbers are those of the workers' answers and of the closed Book; and its audit is
-//! the comparison of these numbers. A load without a report says why: memory, a thread, a worker
-//! that ended early, or the lock. A load that is watched does the same in slices, between which it tells how
+//! journal, which has no other line; the report's numbers are those of the workers' answers and of the closed
+//! Book; and its audit, the comparison of these numbers, is ok. A load without a report says why: memory, a
+//! thread, or a worker that ended early. A load that is watched does the same in slices, between which it tells how
 //! far it is, and writes the journal down, however long that is: exactly the text of the Book's journal, or,
 //! where that fails, a beginning of it, and then it says so.
 #![tactic(auto)]
 
 mod asks;
 mod audit;
-mod hearing;
 mod journal_writer;
 mod leftover;
 pub mod load;
@@ -21,6 +20,7 @@ mod points;
 pub mod report;
 mod slices;
 mod tally;
+mod testifying;
 mod threads;
 pub mod watched;
 pub mod width;

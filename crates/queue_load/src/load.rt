@@ -1,27 +1,27 @@
 // `flatpq load`: workers in threads push and pop on one queue, which is then closed and audited.
-ghost use Rattle.std.specs.Prelude.{◌≡◌, ◌≢◌, ◌+◌, ◌*◌, ◌<◌, ◌≤◌, ℕ, map, length, slice_get};
+ghost use Rattle.std.specs.Prelude.{◌≡◌, ◌+◌, ◌*◌, ◌<◌, ◌≤◌, ℕ, map, length, slice_get};
 ghost use Rattle.std.specs.Prelude.{vec_len, [], false, Some, None, IfOk, IfErr, IfSome, IfNone};
 ghost use Rattle.std.specs.List.{range_with_len};
 ghost use Rattle.pq_book.specs.Book.{AllHaveRoom};
 ghost use Rattle.flat_queue.specs.declared.gate.Turn.TheVariants.{GiveUp};
+ghost use Rattle.flat_queue.specs.Closing.{ClosesAll};
 ghost use Rattle.flat_queue.specs.Opening.{Opens};
 ghost use Rattle.queue_load.specs.Load.{AreDone, AreShares, BeginsLoad, HaveCome, known_then, IsFirstRefusal};
-ghost use Rattle.queue_load.specs.Load.{LeavesFirst, HasRefused, IsTotal, EndsLoad, FailsLoad, HasReport};
+ghost use Rattle.queue_load.specs.Load.{HasRefused, IsTotal, EndsLoad, FailsLoad, HasReport};
 ghost use Rattle.program_words.specs.Lines.{each_of};
 ghost use Rattle.queue_load.specs.Lines.{load_room};
 ghost use Rattle.queue_load.specs.Tally.{IsSmall, all_together};
 ghost use Rattle.queue_load.specs.Asks.{may_give_up};
-ghost use Rattle.queue_load.specs.Hearing.{WorkersStandIn, AreLinearizedWorkers};
+ghost use Rattle.queue_load.specs.Testifying.{AreLinearizedWorkers};
 ghost use Rattle.queue_load.specs.Watched.{EndsWith};
-ghost use Rattle.desk_core.specs.Rule.{StartsWith};
 
 use crate::asks::{Asks, Order};
 use crate::audit::report_of;
-use crate::hearing::first_hears;
 use crate::load_faults::LoadError;
 use crate::report::Report;
 use crate::slices::Unwatched;
 use crate::tally::Tally;
+use crate::testifying::members_of;
 use crate::watched::run_watched_of;
 use crate::width::Width;
 use crate::worker::{EndedWorker, WorkerState, states_of};
@@ -116,46 +116,44 @@ fn total_of<S: Store<Entry<P>>, P: Part>(worked: &[EndedWorker<S, P>], plan: Pla
     total
 }
 
-// Closes the queue with the member of the first of these workers, once that has heard of all others, and all have testified.
+// Closes the queue with the members of all these workers, once they have testified.
 fn closed<S: Store<Entry<P>>, P: Part>(
+    alloc: Global,
     queue: Queue<S, P>,
     worked: Vec<EndedWorker<S, P>>,
     plan: Plan,
 ) -> Result<Book<S, Global, P>, LoadError>
     requires some { 0 < vec_len worked }
+    requires all { vec_len worked ≡ queue.comers }
     requires made { AreDone P.wide queue plan worked.items }
-    ensures ok { IfOk result (λ book.
-        (first : _) × (slice_get worked.items 0 ≡ Some first) × LeavesFirst P.wide queue.room plan first.member book) }
-    ensures known { IfOk result (λ book. StartsWith book.journal (known_then worked.items)) }
-    ensures stand { IfOk result (λ book. WorkersStandIn book.journal worked.items) }
-    ensures linearized { AreLinearizedWorkers worked.items }
-    ensures err { IfErr result (λ error. error ≡ LoadError.LockHeld) }
-    ensures places { IfErr result (λ _. queue.places ≢ 1) }
+    ensures ok { IfOk result (λ book. ClosesAll queue (map (λ w. w.member) worked.items) book) }
+    ensures linearized { IfOk result (λ _. AreLinearizedWorkers worked.items) }
+    ensures err { IfErr result (λ error. error ≡ LoadError.NoMemory) }
 {
-    law_calls_are_lines();
-    let member = first_hears(&queue, worked);
-    match queue.close_with(member) {
-        Ok(book) => Ok(book),
-        Err(_) => Err(LoadError::LockHeld),
+    match members_of(alloc, &queue, worked) {
+        Ok(members) => Ok(queue.close_all(members, Vec::new(alloc))),
+        Err(AllocError) => Err(LoadError::NoMemory),
     }
 }
 
 // Closes the queue, whose workers have made all their requests: the report, the Book, where its journal
 // is kept whole, and how many lines it has.
 pub(crate) fn ended<S: Store<Entry<P>>, P: Part>(
+    alloc: Global,
     queue: Queue<S, P>,
     worked: Vec<EndedWorker<S, P>>,
     plan: Plan,
 ) -> Result<(Report, Option<Book<S, Global, P>>, u64), LoadError>
     requires come { HaveCome P.wide queue plan (each_of plan) worked.items }
     requires count { length worked.items ≡ plan.workers }
+    requires comers { queue.comers ≡ plan.workers }
     requires room { queue.room ≡ load_room plan }
     ensures ok { IfOk result (λ made. EndsWith P.wide plan (known_then worked.items) made.0 made.1 made.2) }
-    ensures err { IfErr result (λ error. error ≡ LoadError.LockHeld) }
-    ensures places { IfErr result (λ _. queue.places ≢ 1) }
+    ensures err { IfErr result (λ error. error ≡ LoadError.NoMemory) }
 {
+    law_calls_are_lines();
     let total = total_of(worked.as_slice(), plan);
-    let book = closed(queue, worked, plan)?;
+    let book = closed(alloc, queue, worked, plan)?;
     let lines = book.len();
     let mut left = Some(book);
     let report = report_of(plan, &total, &mut left);
@@ -164,10 +162,10 @@ pub(crate) fn ended<S: Store<Entry<P>>, P: Part>(
 
 /// Has the workers of this load, in threads of their own, push and pop on one queue over this empty
 /// store, closes it, and reports what they were answered and what is left: the report, and the Book of the
-/// queue, where its journal is kept whole. Before it is closed worker 1 hears a note of each other one: so each call
-/// that the report counts, of whichever worker, stands in the Book's journal, on the line of its number. And all testify: so
-/// one history has the beginnings and ends of all these calls, and one journal linearizes it (Herlihy and Wing 1990). The
-/// items are of this width.
+/// queue, where its journal is kept whole. It is closed with the members of all workers: so each call that the report counts
+/// stands in the Book's journal, on the line of its number, and the journal has no other line. And all testify: so one history
+/// has the beginnings and ends of all these calls, and one journal linearizes it (Herlihy and Wing 1990). The audit of a report
+/// is always ok. The items are of this width.
 ///
 /// The queue is a short one, with a line for each request, where these are 1,048,576 at most, else a
 /// lasting one: then memory holds the last lines alone, and there is no Book.
@@ -175,7 +173,7 @@ pub(crate) fn ended<S: Store<Entry<P>>, P: Part>(
 /// An error that names a worker names one of them, with a reason that this worker may have: the first that was refused, as
 /// `run_watched_of` says, which hands the workers back.
 /// Its reason is that the gate gave up only where the gate may say so to that worker, and want of memory only where some
-/// store lacks room for as many items as the queue has lines. A load of one worker never finds the lock held.
+/// store lacks room for as many items as the queue has lines.
 pub fn run_load_of<P: Width, S: Store<Entry<P>> + Send, R: Threads + Wait + Sync, G: Gate + Sync>(
     rt: &R,
     alloc: Global,

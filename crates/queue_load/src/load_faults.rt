@@ -37,7 +37,7 @@ impl WorkerError {
 /// Why a load has no report.
 #[derive(Clone, Copy, Debug, PartialEq, Eq, Error)]
 pub enum LoadError {
-    /// Memory for the queue or for the list of workers was refused.
+    /// Memory for the queue, or for a list of its workers or of their members, was refused.
     #[error("no memory")]
     NoMemory,
     /// The start of a thread was refused.
@@ -46,13 +46,10 @@ pub enum LoadError {
     /// The worker of this id ended early. That none of a lesser id did is tested.
     #[error("{reason}")]
     Worker { id: u64, reason: WorkerError },
-    /// The lock was held when the queue was closed.
-    #[error("lock held")]
-    LockHeld,
 }
 
 impl LoadError {
-    /// The number of this reason: 6, 13, that of the worker's reason, or 8.
+    /// The number of this reason: 6, 13, or that of the worker's reason.
     pub fn code(&self) -> u32
         ensures { result ≡ load_code self.now }
     {
@@ -60,7 +57,6 @@ impl LoadError {
             LoadError::NoMemory => 6,
             LoadError::NoThread => 13,
             LoadError::Worker { id: _, reason } => reason.code(),
-            LoadError::LockHeld => 8,
         }
     }
 

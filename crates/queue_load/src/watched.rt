@@ -62,7 +62,7 @@ pub fn run_watched_of<
         Ok(made) => made,
         Err(failed) => return Err(failed),
     };
-    let (report, left, lines) = ended(queue, worked, plan)?;
+    let (report, left, lines) = ended(order.alloc, queue, worked, plan)?;
     Ok((report, left, writing.is_whole(lines)))
 }
 

@@ -87,29 +87,30 @@ pub fn work<R: Wait>(
     Ok(WorkDone { member, tasks })
 }
 
-// A worker whose first task is due at its id, and is run four times.
+// A worker whose first task is due at its id, and is run four times: what it is to the queue, and the tasks that it ran.
 fn work_from_id<R: Wait>(
     rt: &R,
     alloc: Global,
     queue: &Queue<Heap>,
     newcomer: Newcomer,
-) -> Result<WorkDone, WorkError>
+) -> Result<(Member<Heap>, Vec<Item>), WorkError>
     requires { newcomer.queue ≡ queue.now }
 {
     let first = Item {
         priority: (newcomer.id() % 1000) as u32,
         value: 3,
     };
-    work(rt, alloc, queue, newcomer, first)
+    let WorkDone { member, tasks } = work(rt, alloc, queue, newcomer, first)?;
+    Ok((member, tasks))
 }
 
-/// All these workers at work, each in a thread of its own.
+/// All these workers at work, each in a thread of its own: what each is to the queue, and the tasks that it ran.
 pub fn all_work<R: Threads + Wait + Sync>(
     rt: &R,
     alloc: Global,
     queue: &Queue<Heap>,
     newcomers: Vec<Newcomer>,
-) -> Result<Vec<Result<WorkDone, WorkError>>, AllocError>
+) -> Result<Vec<Result<(Member<Heap>, Vec<Item>), WorkError>>, AllocError>
     requires { All (λ n. n.queue ≡ queue.now) newcomers.items }
 {
     thread::map_vec(

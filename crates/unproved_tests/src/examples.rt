@@ -12,7 +12,7 @@ use readme_examples::lockers::Home;
 use readme_examples::notes::hand_over;
 use readme_examples::simulation::flashes;
 use readme_examples::two_threads::all_push_and_take;
-use readme_examples::workers::{WorkDone, WorkError, all_work, next_run};
+use readme_examples::workers::{WorkError, all_work, next_run};
 use readme_examples::{lockers, timers};
 use std::alloc::{AllocError, Global};
 use std::process::Abort;
@@ -122,13 +122,13 @@ fn eight_threads_get_eight_lockers(rt: HostRuntime) -> Result<(), Fail> {
 }
 
 // How often these workers, who have ended, ran each task.
-fn runs_of<R: Abort>(rt: &R, workers: &[Result<WorkDone, WorkError>]) -> [u8; 5] {
+fn runs_of<R: Abort, M>(rt: &R, workers: &[Result<(M, Vec<Item>), WorkError>]) -> [u8; 5] {
     let mut runs = [0u8; 5];
     for worker in workers {
-        let Ok(worker) = worker else {
+        let Ok((_, tasks)) = worker else {
             panic!(rt; "the worker has ended")
         };
-        for task in worker.tasks.as_slice() {
+        for task in tasks.as_slice() {
             let number = task.priority as usize % 1000;
             assert!(rt; number < 5 && runs[number] < 4);
             runs[number] += 1;

@@ -28,6 +28,8 @@ mod loads;
 #[cfg(test)]
 mod looks;
 #[cfg(test)]
+mod paused_stores;
+#[cfg(test)]
 mod pools;
 #[cfg(test)]
 mod queue;

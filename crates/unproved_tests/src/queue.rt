@@ -1,6 +1,7 @@
 // The running queue: its calls by one member or two, and what others find while one leads.
 mod beside;
 mod calls;
+mod closing;
 mod gates;
 mod lasting;
 mod leads;

@@ -85,10 +85,9 @@ const GAVE_UP: LoadError = LoadError::Worker {
 
 #[test]
 fn refusals_of_a_load_have_their_texts(rt: HostRuntime) {
-    const OF_LOADS: [(LoadError, &str); 6] = [
+    const OF_LOADS: [(LoadError, &str); 5] = [
         (LoadError::NoMemory, "no memory"),
         (LoadError::NoThread, "no thread"),
-        (LoadError::LockHeld, "lock held"),
         (OUT_OF_MEMORY, "no memory"),
         (OUT_OF_LINES, "book full"),
         (GAVE_UP, "gave up"),

@@ -89,6 +89,12 @@ INLINE pq_code try_take(pq_member *it, uint64_t priority, core_answer *answer) {
     return code;
 }
 
+INLINE pq_code try_step(pq_member *it, uint64_t priority, core_answer *answer) {
+    pq_code code = LEAVE_OUT(pq_core_step_take(&it->proved, priority, answer));
+    flatpq_pace.calls++;
+    return code;
+}
+
 /*
  * Push, pop and peek.
  */
@@ -297,12 +303,14 @@ INLINE pq_code taken(pq_member *it, pq_code code, const core_answer *answer) {
     }
 }
 
-pq_code flatpq_take_first(pq_member *it, uint64_t priority, uint64_t until, core_answer *answer) {
-    pq_code code = try_take(it, priority, answer);
+typedef pq_code attempt(pq_member *member, uint64_t priority, core_answer *answer);
+
+INLINE pq_code take_by(attempt *tries, pq_member *it, uint64_t priority, uint64_t until, core_answer *answer) {
+    pq_code code = tries(it, priority, answer);
     if (!LIKELY(code != LOCK_HELD)) {
         rest resting = flatpq_rest_of(it->queue, until);
         while (code == LOCK_HELD && flatpq_rests(&resting)) {
-            code = try_take(it, priority, answer);
+            code = tries(it, priority, answer);
         }
         flatpq_rested(&resting);
     }
@@ -310,16 +318,32 @@ pq_code flatpq_take_first(pq_member *it, uint64_t priority, uint64_t until, core
 }
 
 /* Does not wait: it tries the lock some times, and now and then yields its processor to the thread that has the lock. */
-pq_code flatpq_take_first_at_once(pq_member *it, uint64_t priority, core_answer *answer) {
-    const int tries = 64, until_yield = 8;
-    pq_code code = try_take(it, priority, answer);
-    for (int tried = 1; code == LOCK_HELD && tried < tries; tried++) {
+INLINE pq_code take_at_once_by(attempt *tries, pq_member *it, uint64_t priority, core_answer *answer) {
+    const int most = 64, until_yield = 8;
+    pq_code code = tries(it, priority, answer);
+    for (int tried = 1; code == LOCK_HELD && tried < most; tried++) {
         if (tried % until_yield == 0) {
             sched_yield();
         }
-        code = try_take(it, priority, answer);
+        code = tries(it, priority, answer);
     }
     return taken(it, code, answer);
+}
+
+pq_code flatpq_take_first(pq_member *it, uint64_t priority, uint64_t until, core_answer *answer) {
+    return take_by(try_take, it, priority, until, answer);
+}
+
+pq_code flatpq_take_first_at_once(pq_member *it, uint64_t priority, core_answer *answer) {
+    return take_at_once_by(try_take, it, priority, answer);
+}
+
+pq_code flatpq_step_take(pq_member *it, uint64_t priority, uint64_t until, core_answer *answer) {
+    return take_by(try_step, it, priority, until, answer);
+}
+
+pq_code flatpq_step_take_at_once(pq_member *it, uint64_t priority, core_answer *answer) {
+    return take_at_once_by(try_step, it, priority, answer);
 }
 
 void flatpq_return_first(pq_code code, const core_answer *answer, pq_item *item, uint64_t *number) {
@@ -384,18 +408,6 @@ pq_code pq_size(pq_member *it, uint64_t until, uint64_t *size, uint64_t *peak) {
  * Posts and rounds.
  */
 
-pq_code flatpq_round(pq_member *it, uint64_t until) {
-    pq_code code = try_round(it);
-    if (code == LOCK_HELD) {
-        rest resting = flatpq_rest_of(it->queue, until);
-        while (code == LOCK_HELD && flatpq_rests(&resting)) {
-            code = try_round(it);
-        }
-        flatpq_rested(&resting);
-    }
-    return code == LOCK_HELD ? PQ_TIMED_OUT : code;
-}
-
 pq_code pq_post(pq_member *it, uint32_t request, pq_item item) {
     own *mine;
     pq_code code = flatpq_begin(&it, PQ_NOW, &mine);
@@ -435,8 +447,8 @@ pq_code pq_combine(pq_member *it) {
     own *mine;
     pq_code code = flatpq_begin(&it, PQ_NOW, &mine);
     if (code == PQ_OK) {
-        code = flatpq_round(it, PQ_NOW);
+        code = try_round(it);
         flatpq_end(mine);
     }
-    return code;
+    return code == LOCK_HELD ? PQ_TIMED_OUT : code;
 }

@@ -52,7 +52,7 @@ _Static_assert(sizeof(core_answer) == 32 && sizeof(core_line) == 64 && sizeof(co
 pq_code pq_core_open(uint32_t threads, uint32_t keeping, uint32_t entries, uint32_t tickets, core *queue);
 pq_code pq_core_join(core *queue, core *member, uint64_t number);
 pq_code pq_core_give_back(core *queue, core *member, uint64_t number);
-pq_code pq_core_shut(core *queue, uint32_t *count, uint64_t **word);
+pq_code pq_core_shut(core *queue);
 pq_code pq_core_close(core *queue, core *journal);
 
 /* Members. */
@@ -69,9 +69,9 @@ pq_code pq_core_try_pop_many(core *member, uint64_t bound, pq_item *items, size_
 pq_code pq_core_look(core *member, core_answer *answer);
 pq_code pq_core_try_round(core *member);
 pq_code pq_core_archive(core *member, uint64_t archived, core *journal);
-pq_code pq_core_wait_begin(core *member, uint32_t *seen, uint64_t **word);
-pq_code pq_core_wait_end(core *member, uint32_t passes_on);
-pq_code pq_core_wakes_owed(core *member, uint32_t *count, uint64_t **word);
+pq_code pq_core_step_take(core *member, uint64_t priority, core_answer *answer);
+pq_code pq_core_end_take(core *member);
+pq_code pq_core_wakes_owed(core *member, uint32_t *count);
 
 /* Journals. */
 pq_code pq_core_lines(core *journal, size_t *count);

@@ -43,7 +43,7 @@ struct pq_member {
     uint32_t keeps;        /* POSTED, LISTENS: its thread keeps it between calls */
     uint32_t place;
     uint32_t has_left;     /* its last take_or_listen found an item */
-    uint32_t is_announced; /* it listens, and the proved queue knows that */
+    uint32_t drains;       /* it listens, and is counted in `concerned`: for what is left in a shut queue */
     uint32_t looks;        /* it listens, and its call still looks: that call does not notify it */
     pq_member *next;       /* of those that are in no use */
     waiter waits;
@@ -83,6 +83,7 @@ struct pq_queue {
     uint64_t most_items; /* 0: as many as there are */
     uint32_t concerned;  /* whom it concerns that an item was taken: DRAIN of each that waits for what is left in a shut queue, and PRODUCER of
                             each that waits for room */
+    uint32_t is_shut;
 
     /* Members, under their lock. */
     uint32_t is_closed __attribute__((aligned(64)));
@@ -270,8 +271,10 @@ HIDDEN void flatpq_rested(const rest *it);
  */
 HIDDEN pq_code flatpq_take_first(pq_member *member, uint64_t priority, uint64_t until, core_answer *answer);
 HIDDEN pq_code flatpq_take_first_at_once(pq_member *member, uint64_t priority, core_answer *answer);
+/* The same by a step of a take that waits, which announces the member before it looks. PQ_SHUT: no item is left, and none comes. */
+HIDDEN pq_code flatpq_step_take(pq_member *member, uint64_t priority, uint64_t until, core_answer *answer);
+HIDDEN pq_code flatpq_step_take_at_once(pq_member *member, uint64_t priority, core_answer *answer);
 HIDDEN pq_code flatpq_count(pq_member *member, uint64_t *count, uint64_t *peak, uint32_t *owes_wake); /* tries once; peak may be NULL */
-HIDDEN pq_code flatpq_round(pq_member *member, uint64_t until);
 HIDDEN void flatpq_return_first(pq_code code, const core_answer *answer, pq_item *item, uint64_t *number);
 
 /*
@@ -319,19 +322,20 @@ typedef struct wait {
     pq_member *member;
     uint64_t until;
     core_answer *answer;
+    int is_listed; /* the member is in its list */
+    int is_shut;   /* the queue was shut when it was put there */
     int was_woken; /* it was woken, and settles that after its next look */
     int is_over;   /* the time had come after its last look */
     int has_slept;
     uint64_t owed; /* the wakes that were owed before it looks */
 } wait;
 
-/* Puts the member into its list, and announces it. PQ_SHUT: it is not announced, as nothing is pushed any more; LOCK_HELD: nor is it announced,
-   while a push is being posted to a queue that is shut. */
-HIDDEN pq_code flatpq_begin_wait(wait *it);
+/* Puts the member into its list, before a step. */
+HIDDEN void flatpq_begin_wait(wait *it);
 HIDDEN uint64_t flatpq_due_time(const pq_queue *queue, uint64_t priority); /* at which an item of this priority is due */
 HIDDEN uint64_t flatpq_due_now(const pq_queue *queue);                     /* the greatest priority that is due */
-/* Takes the member out of its list, and ends its announcement, if it is announced: whether it was woken since its last look began. */
-HIDDEN int flatpq_end_wait(pq_member *member, int is_announced);
+/* Takes the member out of its list, and ends its announcement: whether it was woken since its last look began. */
+HIDDEN int flatpq_end_wait(pq_member *member);
 HIDDEN int flatpq_unlisten(pq_member *member);
 
 /*

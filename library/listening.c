@@ -2,12 +2,12 @@
  * Members that listen for an event loop or a future. A member that listens is in a list, as a thread is that waits (waiting.c). In place of a
  * sleep it returns, and is notified once.
  *
- * At a queue that is shut a member listens for what will be due there: it is counted in `concerned`, and not announced.
+ * At a queue that is shut a member listens for what will be due there, and is counted in `concerned`.
  *
  * An alarm is a member that listens by a timer of the program. It is in a list of its own, and takes no wake from others. While it listens its
  * timer is set for the time at which the first item is due, or for an earlier one. To ring it is to set the timer for a time that is over.
  *
- * Why that holds. The alarm (1) is counted and in its list, with `armed` PQ_FOREVER, (2) announces itself, (3) looks for an item, and (4) sets its
+ * Why that holds. The alarm (1) is counted and in its list, with `armed` PQ_FOREVER, (2) makes a step, which announces it and then looks, and (3) sets its
  * timer and `armed` under the lock of the lists, if it is still in its list. A thread that carries a push out first does so, then claims the
  * wakes that are owed, then looks for the first item, and then says in `earliest` when that is due. The looks and the push need the queue's
  * lock. If the push came before the alarm's look, that look found its item, an earlier one, or that another call took it. Else a wake is owed,
@@ -27,9 +27,9 @@ static int is_alarm(const pq_member *member) {
 static int end_listening(pq_member *member) {
     int was_notified = 0;
     if (member->keeps & LISTENS) {
-        was_notified = flatpq_end_wait(member, (int)member->is_announced);
+        was_notified = flatpq_end_wait(member);
         member->keeps &= ~(uint32_t)LISTENS;
-        if (!member->is_announced) {
+        if (member->drains) {
             __atomic_fetch_sub(&member->queue->concerned, DRAIN, SEQ);
         }
         if (is_alarm(member)) {
@@ -41,25 +41,18 @@ static int end_listening(pq_member *member) {
     return was_notified;
 }
 
-/* Looks, while the member is in its list. */
+/* Looks, while the member is in its list. At a queue that is shut, and empty, a push is being posted: it is to look again soon. */
 static pq_code look(wait *it, uint64_t priority) {
     pq_member *member = it->member;
-    pq_code begun = flatpq_begin_wait(it);
-    pq_code code = begun;
+    pq_code code;
+    flatpq_begin_wait(it);
     member->keeps |= LISTENS;
-    member->is_announced = begun == PQ_OK;
-    if (begun != PQ_OK) {
+    member->drains = (uint32_t)it->is_shut;
+    if (member->drains) {
         __atomic_fetch_add(&member->queue->concerned, DRAIN, SEQ);
     }
-    if (begun == PQ_SHUT) {
-        code = flatpq_round(member, PQ_NOW);
-    } else if (begun == LOCK_HELD) {
-        code = PQ_TIMED_OUT;
-    }
-    if (code == PQ_OK) {
-        code = flatpq_take_first_at_once(member, priority, it->answer);
-    }
-    return code == PQ_EMPTY && begun == PQ_SHUT ? PQ_SHUT : code;
+    code = flatpq_step_take_at_once(member, priority, it->answer);
+    return code == PQ_EMPTY && it->is_shut ? PQ_TIMED_OUT : code;
 }
 
 /* Has the member listen in this list, and look: it listens no more where that found an item to take, or was refused. */
@@ -99,7 +92,7 @@ static pq_code take_or_listen(wait *it, uint64_t priority, void (*notify)(void *
 
 pq_code pq_take_or_listen(pq_member *member, uint64_t priority, pq_item *item, uint64_t *number, void (*notify)(void *context), void *context) {
     core_answer answer;
-    wait it = { NULL, PQ_NOW, &answer, 0, 0, 0, 0 };
+    wait it = { NULL, PQ_NOW, &answer, 0, 0, 0, 0, 0, 0 };
     own *mine;
     pq_code code = flatpq_begin(&member, PQ_NOW, &mine);
     if (code != PQ_OK) {
@@ -176,7 +169,7 @@ static pq_code take_due_or_listen(wait *it, int timer) {
 
 pq_code pq_take_due_or_listen(pq_member *member, int timer, pq_item *item, uint64_t *number) {
     core_answer answer;
-    wait it = { NULL, PQ_NOW, &answer, 0, 0, 0, 0 };
+    wait it = { NULL, PQ_NOW, &answer, 0, 0, 0, 0, 0, 0 };
     own *mine;
     pq_code code = flatpq_begin(&member, PQ_NOW, &mine);
     if (code == PQ_OK) {

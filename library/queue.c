@@ -292,16 +292,15 @@ void pq_give_back(pq_member *member) {
 }
 
 pq_code pq_shut(pq_queue *queue) {
-    uint32_t count;
-    uint64_t *unused;
     pq_code code;
     if (flatpq_special & FORKED) {
         return PQ_FORKED;
     }
     pthread_mutex_lock(&flatpq_members);
-    code = queue->is_closed ? PQ_CLOSED : pq_core_shut(&queue->proved, &count, &unused);
+    code = queue->is_closed ? PQ_CLOSED : pq_core_shut(&queue->proved);
     pthread_mutex_unlock(&flatpq_members);
     if (code == PQ_OK) {
+        __atomic_store_n(&queue->is_shut, 1, SEQ);
         flatpq_wake_all(queue, NULL);
     }
     return code;

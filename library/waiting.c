@@ -1,10 +1,11 @@
 /*
  * Members that wait for an item: their threads sleep, or they listen for an event loop or a future.
  *
- * Why no wake is lost; a move counts as a push. A member that waits (1) puts itself into a list of the queue, (2) announces itself to the proved
- * queue, (3) looks for an item, and (4) sleeps until its word changes. A thread that carries a push out first does so, then asks whether any
- * member is announced, and then owes a wake. The look and the push both need the queue's lock. If the push came first, the look finds its item,
- * or another call took it. Else the member was announced before the push. So a wake is owed, and the member is in the list by then.
+ * Why no wake is lost; a move counts as a push. A member that waits (1) puts itself into a list of the queue, (2) makes a step of the proved queue,
+ * which announces the member and then looks for an item, and (3) sleeps until its word changes. A thread that carries a push out first does so,
+ * then asks whether any member is announced, and then owes a wake. The look and the push both need the queue's lock. If the push came first, the
+ * look finds its item, or another call took it. Else the member was announced before the push. So a wake is owed, and the member is in the list by
+ * then.
  *
  * A thread that owes wakes never waits for the lock of the lists: it adds them to `incoming`, and tries the lock. Each thread that has the lock
  * adds `incoming` to `owed` before it unlocks, and reads `incoming` again after that. So a wake whose thread found the lock held is made by the
@@ -18,9 +19,10 @@
  * A member that is to be woken is first taken out of its list. It is WAKING until the waking thread is done with it, and waits for that.
  * So notify never runs after a call that ended the listening. No lock is held while notify runs.
  *
- * A queue that is shut announces no member: each then makes a round, and looks for the last time. Those that wait for what will be due there
- * are counted in `concerned`, before they look. A thread that takes an item out reads that count afterwards, and where it is not 0 looks whether
- * the queue is empty. If so it wakes all. One that moves an item, which may be due earlier then, reads the count and wakes all.
+ * At a queue that is shut a step that finds no item is the last, unless a push is being posted: then it is made again soon. Those that wait for
+ * what will be due there are counted in `concerned`, before they look. A thread that takes an item out reads that count afterwards, and where it is
+ * not 0 looks whether the queue is empty. If so it wakes all. One that moves an item, which may be due earlier then, reads the count and wakes
+ * all. A member that did not see that the queue is shut was in its list before, and pq_shut wakes it.
  */
 #include "inside.h"
 
@@ -31,7 +33,7 @@ static int goes_on(const wait *it, pq_code code) {
 /* After a look that came to this code. Where the first item is not due, another thread may take it. */
 static void settle(wait *it, pq_code code) {
     pq_queue *queue = it->member->queue;
-    uint64_t settled = code == PQ_EMPTY || code == PQ_NOT_DUE ? it->owed : code == PQ_OK;
+    uint64_t settled = code == PQ_EMPTY || code == PQ_NOT_DUE || code == PQ_SHUT ? it->owed : code == PQ_OK;
     if (!it->was_woken) {
         return;
     }
@@ -49,11 +51,9 @@ static void settle(wait *it, pq_code code) {
     }
 }
 
-pq_code flatpq_begin_wait(wait *it) {
+void flatpq_begin_wait(wait *it) {
     pq_queue *queue = it->member->queue;
     waiter *waits = &it->member->waits;
-    uint32_t seen;
-    uint64_t *unused;
     flatpq_lock_lists(queue);
     it->was_woken = waits->is_woken;
     it->owed = queue->owed + __atomic_load_n(&queue->incoming, SEQ);
@@ -61,7 +61,8 @@ pq_code flatpq_begin_wait(wait *it) {
     __atomic_store_n(&waits->word, ASLEEP, SEQ);
     flatpq_put(waits);
     flatpq_unlock_lists(queue);
-    return pq_core_wait_begin(&it->member->proved, &seen, &unused);
+    it->is_listed = 1;
+    it->is_shut = (int)__atomic_load_n(&queue->is_shut, SEQ);
 }
 
 /* Waits until the thread that wakes this member is done with that: notify has returned then. */
@@ -73,10 +74,11 @@ void flatpq_wait_for_waker(waiter *waits) {
     }
 }
 
-int flatpq_end_wait(pq_member *member, int is_announced) {
+int flatpq_end_wait(pq_member *member) {
     pq_queue *queue = member->queue;
     waiter *waits = &member->waits;
     int was_woken;
+    pq_code ended;
     flatpq_lock_lists(queue);
     if (waits->at != NULL) {
         flatpq_take_out(waits);
@@ -84,10 +86,8 @@ int flatpq_end_wait(pq_member *member, int is_announced) {
     was_woken = (int)waits->is_woken;
     flatpq_unlock_lists(queue);
     flatpq_wait_for_waker(waits);
-    if (is_announced) {
-        pq_code ended = pq_core_wait_end(&member->proved, 0);
-        (void)ended;
-    }
+    ended = pq_core_end_take(&member->proved);
+    (void)ended;
     return was_woken;
 }
 
@@ -101,11 +101,13 @@ static void leave(wait *it) {
     settle(it, PQ_TIMED_OUT);
 }
 
-/* Looks, takes the first item out up to this priority, and settles. Where the lock is held until the deadline it tries some times more. */
+/* Looks, takes the first item out up to this priority, and settles: by a step where the member is in its list. Where the lock is held until the
+   deadline it tries some times more. */
 static pq_code look(wait *it, uint64_t priority) {
-    pq_code code = flatpq_take_first(it->member, priority, it->until, it->answer);
+    pq_member *member = it->member;
+    pq_code code = it->is_listed ? flatpq_step_take(member, priority, it->until, it->answer) : flatpq_take_first(member, priority, it->until, it->answer);
     if (code == PQ_TIMED_OUT) {
-        code = flatpq_take_first_at_once(it->member, priority, it->answer);
+        code = it->is_listed ? flatpq_step_take_at_once(member, priority, it->answer) : flatpq_take_first_at_once(member, priority, it->answer);
     }
     settle(it, code);
     if (code == PQ_EMPTY || code == PQ_NOT_DUE) {
@@ -114,23 +116,20 @@ static pq_code look(wait *it, uint64_t priority) {
     return code;
 }
 
-/* Looks at a queue that is shut: after a round, which carries out what is posted. */
-static pq_code look_last(wait *it, uint64_t priority) {
-    pq_code round = flatpq_round(it->member, it->until);
-    pq_code code = round == PQ_OK || round == PQ_TIMED_OUT ? look(it, priority) : round;
-    return code == PQ_EMPTY && round == PQ_OK ? PQ_SHUT : code;
-}
-
-/* Rests while a push is being posted to a queue that is shut, and looks. */
-static pq_code look_later(wait *it, uint64_t priority) {
+/* Sleeps after a step that took nothing. At a queue that is shut, and empty, a push is being posted: it naps. */
+static void sleep_until(wait *it, pq_code code, uint64_t time) {
     const uint64_t soon = 50000;
-    flatpq_nap(soon);
-    return look(it, priority);
-}
-
-static void sleep_until(wait *it, uint64_t time) {
+    if (it->is_shut && code == PQ_EMPTY) {
+        flatpq_nap(soon);
+        return;
+    }
     flatpq_sleep(&it->member->waits.word, ASLEEP, time < it->until ? time : it->until);
     it->has_slept = 1;
+}
+
+static void end_wait(wait *it) {
+    flatpq_end_wait(it->member);
+    it->is_listed = 0;
 }
 
 /*
@@ -138,19 +137,13 @@ static void sleep_until(wait *it, uint64_t time) {
  */
 
 static pq_code look_or_sleep(wait *it) {
-    pq_code begun = flatpq_begin_wait(it);
-    pq_code code = begun;
-    if (begun == PQ_SHUT) {
-        code = look_last(it, UINT64_MAX);
-    } else if (begun == LOCK_HELD) {
-        code = look_later(it, UINT64_MAX);
-    } else if (begun == PQ_OK) {
-        code = look(it, UINT64_MAX);
-        if (goes_on(it, code)) {
-            sleep_until(it, PQ_FOREVER);
-        }
+    pq_code code;
+    flatpq_begin_wait(it);
+    code = look(it, UINT64_MAX);
+    if (goes_on(it, code)) {
+        sleep_until(it, code, PQ_FOREVER);
     }
-    flatpq_end_wait(it->member, begun == PQ_OK);
+    end_wait(it);
     return code;
 }
 
@@ -185,14 +178,6 @@ uint64_t flatpq_due_now(const pq_queue *queue) {
     return __builtin_add_overflow(queue->time_zero, pq_now() / queue->time_unit, &priority) ? UINT64_MAX : priority;
 }
 
-static int is_watched(pq_queue *queue) {
-    uint64_t watched;
-    flatpq_lock_lists(queue);
-    watched = queue->watched;
-    flatpq_unlock_lists(queue);
-    return watched > pq_now();
-}
-
 /* Sleeps until the first item is due, or where another thread watches for that until this one is woken. */
 static void watch(wait *it) {
     pq_queue *queue = it->member->queue;
@@ -204,7 +189,7 @@ static void watch(wait *it) {
         queue->watched = due;
     }
     flatpq_unlock_lists(queue);
-    sleep_until(it, watches ? due : PQ_FOREVER);
+    sleep_until(it, PQ_NOT_DUE, watches ? due : PQ_FOREVER);
     flatpq_lock_lists(queue);
     if (watches && queue->watched == due) {
         queue->watched = 0;
@@ -212,19 +197,13 @@ static void watch(wait *it) {
     flatpq_unlock_lists(queue);
 }
 
-/* The member is announced. */
 static pq_code look_or_watch(wait *it) {
-    pq_code code;
-    if (!it->has_slept && !it->was_woken && is_watched(it->member->queue)) {
-        sleep_until(it, PQ_FOREVER);
-        return PQ_NOT_DUE;
-    }
-    code = look(it, flatpq_due_now(it->member->queue));
+    pq_code code = look(it, flatpq_due_now(it->member->queue));
     if (goes_on(it, code)) {
         if (code == PQ_NOT_DUE) {
             watch(it);
         } else {
-            sleep_until(it, PQ_FOREVER);
+            sleep_until(it, code, PQ_FOREVER);
         }
     }
     return code;
@@ -235,25 +214,19 @@ static pq_code look_last_or_sleep(wait *it) {
     pq_queue *queue = it->member->queue;
     pq_code code;
     __atomic_fetch_add(&queue->concerned, DRAIN, SEQ);
-    code = look_last(it, flatpq_due_now(queue));
+    code = look(it, flatpq_due_now(queue));
     if (goes_on(it, code)) {
-        sleep_until(it, flatpq_due_time(queue, it->answer->item.priority));
+        sleep_until(it, code, flatpq_due_time(queue, it->answer->item.priority));
     }
     __atomic_fetch_sub(&queue->concerned, DRAIN, SEQ);
     return code;
 }
 
 static pq_code due_or_sleep(wait *it) {
-    pq_code begun = flatpq_begin_wait(it);
-    pq_code code = begun;
-    if (begun == PQ_SHUT) {
-        code = look_last_or_sleep(it);
-    } else if (begun == LOCK_HELD) {
-        code = look_later(it, flatpq_due_now(it->member->queue));
-    } else if (begun == PQ_OK) {
-        code = look_or_watch(it);
-    }
-    flatpq_end_wait(it->member, begun == PQ_OK);
+    pq_code code;
+    flatpq_begin_wait(it);
+    code = it->is_shut ? look_last_or_sleep(it) : look_or_watch(it);
+    end_wait(it);
     return code;
 }
 
@@ -275,7 +248,7 @@ static pq_code take_due(wait *it) {
 
 INLINE pq_code wait_by(pq_code (*takes)(wait *), pq_member *member, pq_item *item, uint64_t until, uint64_t *number) {
     core_answer answer;
-    wait it = { NULL, until, &answer, 0, 0, 0, 0 };
+    wait it = { NULL, until, &answer, 0, 0, 0, 0, 0, 0 };
     own *mine;
     pq_code code = flatpq_begin(&member, until, &mine);
     if (code != PQ_OK) {

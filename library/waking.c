@@ -174,8 +174,7 @@ static void say_room(pq_queue *queue) {
 /* How many wakes are owed. No other call owes them from now on. */
 static uint32_t claim(pq_member *member) {
     uint32_t count = 0;
-    uint64_t *unused;
-    return pq_core_wakes_owed(&member->proved, &count, &unused) == PQ_OK ? count : 0;
+    return pq_core_wakes_owed(&member->proved, &count) == PQ_OK ? count : 0;
 }
 
 /* Looks when the first item is due: 0 where that is not seen, or there is none. The look carries out what is posted, and may so owe wakes. */

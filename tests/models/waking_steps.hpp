@@ -15,8 +15,8 @@ using byte = std::uint8_t;
 
 // Where a process stands. Up to WAKE_ALL it needs the lock.
 enum Step : byte {
-    PUT, SETTLE, PASS_ON, TAKE_OUT, LEAVE, TRY, WAKE_ALL, UNLOCK, WAKE, AGAIN, FIRST_LOOK, ANNOUNCE, ASK_SHUT, LOOK, LAST_LOOK, AFTER_LOOK, SLEEP, UNANNOUNCE,
-    DRAIN, APPLY, COUNT, SWAP, OWE, POP, SHUT, DONE
+    PUT, SETTLE, PASS_ON, TAKE_OUT, LEAVE, TRY, WAKE_ALL, UNLOCK, WAKE, AGAIN, FIRST_LOOK, ASK_SHUT, ASK_OVER, ANNOUNCE, LOOK, AFTER_LOOK, SLEEP, UNANNOUNCE,
+    DRAIN, APPLY, COUNT, SWAP, OWE, POP, SHUT, SAY_SHUT, DONE
 };
 // What its look came to: it goes on; it took an item; it goes without a look; it found the end; or it took an item before it was in a list.
 enum Result : byte { NONE, GOT, GOES, ENDED, GOT_FIRST };
@@ -27,14 +27,14 @@ enum Woken : byte { ASLEEP, WAKING, WOKEN };
 // that listens, and looks again when it was notified; 'm' one that goes then. Others: 'p' a push; '2' a round of two pushes; 'o' a pop; 's' a shut.
 // `count` is how many pushes it makes, wakes it owes, or were owed before its look.
 struct Process {
-    byte kind, at, next, result, woken, was_woken, count, is_announced, drains, to_wake, passes_on;
+    byte kind, at, next, result, woken, was_woken, count, is_announced, is_last, drains, to_wake, passes_on;
 };
 constexpr int MOST = 5;
 // The lists, of each process its number and 1, in the order in which they are woken: threads, threads that wait for what is due, and members
-// that listen.
+// that listen. The proved queue is shut first, and then the library says so.
 struct State {
     Process all[MOST];
-    byte size, items, announced, proved_owed, incoming, lock, owed, on_way, is_shut, drains, lists[3][MOST];
+    byte size, items, announced, proved_owed, incoming, lock, owed, on_way, is_shut, says_shut, drains, lists[3][MOST];
 };
 constexpr byte NOBODY = 255;
 
@@ -46,10 +46,12 @@ inline Fault fault;
 
 inline bool listens(const Process &it) { return it.kind == 'l' || it.kind == 'm'; }
 
-// What follows a step of the wait.
+// What follows a step of the wait. The proved queue's step asks whether the queue is over, announces the member, and looks.
 inline byte after(byte step) {
-    static const byte orders[][6] = { { FIRST_LOOK, PUT, ANNOUNCE, ASK_SHUT, LOOK, SLEEP }, { FIRST_LOOK, PUT, ANNOUNCE, ASK_SHUT, SLEEP },
-                                      { FIRST_LOOK, ANNOUNCE, ASK_SHUT, LOOK, PUT, SLEEP }, { FIRST_LOOK, ANNOUNCE, ASK_SHUT, PUT, LOOK, SLEEP } };
+    static const byte orders[][7] = { { FIRST_LOOK, PUT, ASK_SHUT, ASK_OVER, ANNOUNCE, LOOK, SLEEP },
+                                      { FIRST_LOOK, PUT, ASK_SHUT, ASK_OVER, ANNOUNCE, SLEEP },
+                                      { FIRST_LOOK, ASK_SHUT, ASK_OVER, ANNOUNCE, LOOK, PUT, SLEEP },
+                                      { FIRST_LOOK, ASK_SHUT, PUT, ASK_OVER, ANNOUNCE, LOOK, SLEEP } };
     const byte *order = orders[fault == NO_LOOK ? 1 : fault == LATE ? 2 : fault == EARLY ? 3 : 0];
     while (*order != step) {
         order++;
@@ -192,13 +194,14 @@ inline void count_drain(State &s, Process &it, int more) {
     it.drains = byte(it.drains + more);
 }
 
-// Looks in its list, and the last time. A thread that was woken, and finds an item that it can't take yet, passes that on.
+// Looks in its list. Where the queue was over before, and no item is left, that was the last time. A thread that was woken, and finds an item
+// that it can't take yet, passes that on.
 inline void look(State &s, Process &it) {
-    if (!takes(s, it) && it.at == LAST_LOOK && (it.kind != 'f' || s.items == 0)) {
+    if (!takes(s, it) && it.is_last && s.items == 0) {
         it.result = ENDED;
     }
     it.passes_on = it.kind == 'f' && s.items > 0 && it.was_woken && fault != PASSES_NOTHING;
-    it.at = it.result == GOT ? byte(DRAIN) : it.at == LAST_LOOK ? byte(AFTER_LOOK) : after_look(it);
+    it.at = it.result == GOT ? byte(DRAIN) : fault == DRAINS_LATE && it.result == NONE ? byte(AFTER_LOOK) : after_look(it);
 }
 
 // The steps of a waiter without the lock.
@@ -209,18 +212,16 @@ inline void wait_step(State &s, Process &it) {
         it.result = it.result == GOT ? byte(GOT_FIRST) : it.result;
         it.count = 1;
         break;
-    case ANNOUNCE: s.announced++; it.is_announced = 1; it.at = after(ANNOUNCE); break;
     case ASK_SHUT:
-        it.at = s.is_shut ? byte(LAST_LOOK) : after(ASK_SHUT);
-        s.announced = byte(s.announced - s.is_shut);
-        it.is_announced = !s.is_shut;
-        count_drain(s, it, s.is_shut && it.kind == 'f' && fault != DRAINS_LATE);
+        count_drain(s, it, s.says_shut && it.kind == 'f' && fault != DRAINS_LATE);
+        it.at = after(ASK_SHUT);
         break;
-    case LOOK:
-    case LAST_LOOK: look(s, it); break;
+    case ASK_OVER: it.is_last = s.is_shut; it.at = after(ASK_OVER); break;
+    case ANNOUNCE: s.announced++; it.is_announced = 1; it.at = after(ANNOUNCE); break;
+    case LOOK: look(s, it); break;
     case AFTER_LOOK:
-        count_drain(s, it, it.kind == 'f' && fault == DRAINS_LATE);
-        it.at = it.was_woken ? byte(SETTLE) : it.result != NONE ? byte(TAKE_OUT) : byte(SLEEP);
+        count_drain(s, it, s.says_shut && it.kind == 'f');
+        it.at = after_look(it);
         break;
     case SLEEP: it.at = TAKE_OUT; break;
     case UNANNOUNCE:
@@ -245,7 +246,8 @@ inline void other_step(State &s, Process &it) {
         it.next = it.kind != 'o' && it.result == GOT ? after_look(it) : listens(it) ? byte(OWE) : byte(DONE);
         it.at = s.drains > 0 && s.items == 0 && fault != DRAINS_SILENTLY ? byte(WAKE_ALL) : it.next;
         break;
-    case SHUT: s.is_shut = 1; it.at = fault == SILENT ? byte(DONE) : byte(WAKE_ALL); break;
+    case SHUT: s.is_shut = 1; it.at = SAY_SHUT; break;
+    case SAY_SHUT: s.says_shut = 1; it.at = fault == SILENT ? byte(DONE) : byte(WAKE_ALL); break;
     }
 }
 
@@ -284,7 +286,7 @@ template <class Yield> void steps(const State &s, Yield yield) {
         if (!may_step(s, it)) {
             continue;
         }
-        if (it.kind == 'g' && (it.at == LOOK || it.at == LAST_LOOK)) {
+        if (it.kind == 'g' && it.at == LOOK) {
             // It is refused, or late.
             it.result = GOES;
             it.at = after_look(it);

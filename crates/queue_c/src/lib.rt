@@ -26,5 +26,6 @@ mod reading;
 mod replaying;
 mod returning;
 mod shutting;
+mod taking;
 mod tickets;
 mod waking;

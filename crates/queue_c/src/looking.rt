@@ -24,8 +24,8 @@ fn wanted_of(takes: u32, priority: u64) -> Wanted
     }
 }
 
-// What a look tells as an answer: it has no line but where it took the item out.
-fn told_as(seen: Looked<Item<u64>>) -> Answer<Item<u64>>
+/// What a look tells as an answer: it has no line but where it took the item out.
+pub fn told_as(seen: Looked<Item<u64>>) -> Answer<Item<u64>>
     ensures { result ≡ told_as seen }
 {
     match seen {

@@ -1,3 +1,4 @@
 pub mod Shared
 pub mod Pool
 pub mod StillOpen
+pub mod Taking

@@ -32,8 +32,9 @@ use std::sync::Arc;
 /// its member.
 #[derive(Drop)]
 pub struct SharedHandle<S: Store<Entry<P>>, P: Part = u32> {
-    queue: Arc<Queue<S, P>, Global>,
-    member: Member<S, P>,
+    pub(crate) queue: Arc<Queue<S, P>, Global>,
+    pub(crate) member: Member<S, P>,
+    pub(crate) is_announced: bool,
 }
 
 impl<S: Store<Entry<P>>, P: Part> Model for SharedHandle<S, P> {
@@ -141,7 +142,11 @@ impl<S: Store<Entry<P>>, P: Part> SharedHandle<S, P> {
         requires queue { member.queue ≡ arc_value queue }
         ensures { result ≡ member }
     {
-        SharedHandle { queue, member }
+        SharedHandle {
+            queue,
+            member,
+            is_announced: false,
+        }
     }
 
     /// The id of the comer.
@@ -385,12 +390,17 @@ impl<S: Store<Entry<P>>, P: Part> SharedHandle<S, P> {
         self.queue.archive(&mut self.member, archived, archive)
     }
 
-    /// The member, and its share of the queue.
-    pub fn into_parts(self) -> (Arc<Queue<S, P>, Global>, Member<S, P>)
+    /// The member, and its share of the queue. It waits for no item any more.
+    pub fn into_parts(mut self) -> (Arc<Queue<S, P>, Global>, Member<S, P>)
         ensures queue { arc_value result.0 ≡ self.queue }
         ensures member { result.1 ≡ self }
     {
-        let SharedHandle { queue, member } = self;
+        self.end_take();
+        let SharedHandle {
+            queue,
+            member,
+            is_announced: _,
+        } = self;
         (queue, member)
     }
 }

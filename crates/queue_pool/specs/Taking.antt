@@ -1,0 +1,28 @@
+-- What one step of a take makes of its member.
+use Rattle.std.specs.Prelude.{◌≡◌, ℕ, ◌≤◌, true, false}
+use Rattle.pq_types.specs.Item.{Item}
+use Rattle.announce_board.specs.Tokens.{is_idle}
+use Rattle.flat_queue.specs.Limits.{most_posts}
+use Rattle.flat_queue.specs.Members.{Joined}
+use Rattle.flat_queue.specs.Turns.{FindsLockHeld}
+use Rattle.flat_queue.specs.Looking.{LooksFirstBy}
+use Rattle.flat_queue.specs.declared.looking.Wanted.{Wanted}
+use Rattle.flat_queue.specs.declared.looking.Looked.TheVariants as looked
+use Rattle.queue_pool.specs.Shared.{MayCall}
+use Rattle.queue_pool.specs.declared.taking.TakeStep.{TakeStep as TakeStepOf}
+use Rattle.queue_pool.specs.declared.taking.TakeStep.TheVariants as step
+
+-- what a step of a take came to, of items of any width
+abbrev pub TakeStep : Type 0
+TakeStep = TakeStepOf Item
+
+-- The last request is not answered yet, or no serial is left, and nothing was done; or the member found the lock held; or it looked
+-- at the first item, and took it out where it wanted it; or the queue is over, and the member looked, and found no item. Items have
+-- so many words.
+abbrev pub StepsTakeBy : ℕ → Wanted → Joined → TakeStep → Joined → Type 0
+StepsTakeBy words wants before step.Waits after = (is_idle before.pen.standing ≡ false) × (after ≡ before)
+StepsTakeBy words wants before step.Spent after =
+    (is_idle before.pen.standing ≡ true) × (most_posts before.queue.room ≤ before.pen.posts) × (after ≡ before)
+StepsTakeBy words wants before step.LockHeld after = MayCall before × FindsLockHeld before after
+StepsTakeBy words wants before (step.Looked told) after = MayCall before × LooksFirstBy words wants before told after
+StepsTakeBy words wants before step.Over after = MayCall before × LooksFirstBy words wants before looked.Nothing after

@@ -1,11 +1,11 @@
-"""Says whether the table of crates in docs/ARCHITECTURE.md has a row for each crate of crates.txt: what it is, what it gives the layer
-above, and where to begin reading. What files and names it has is looked for by check_paths. One is counted for each crate.
+"""Says whether the table of crates in docs/ARCHITECTURE.md has a row for each crate of crates.txt: what it is, and where to begin
+reading. What files and names it has is looked for by check_paths. One is counted for each crate.
 """
 
 import crate_list
 from tree import TOP, text_of
 
-HEAD = ["Crate", "What it is", "What it gives the layer above", "Begin at"]
+HEAD = ["Crate", "What it is", "Begin at"]
 
 
 def cells_of(line):

@@ -1,7 +1,8 @@
-"""The record of the wrong bodies that the prover refused, REFUSED: a line for each crate, 'crate count edits sources date toolchain'.
+"""The record of the wrong bodies that the prover refused, REFUSED: a line for each crate, 'crate count edits sources date toolchain logic'.
 
 The two sums are of the crate's edits, and of the src, specs and proofs of the crate and of those that it stands on, as they stood when all
-of its wrong bodies were tried.
+of its wrong bodies were tried. What one version of the toolchain refused counts for another version with the same logic: in that logic the
+clause is false of the body.
 """
 import datetime
 import hashlib
@@ -14,7 +15,7 @@ from sources import PARTS
 from tree import TOP
 
 RECORD = f"{TOP}/REFUSED"
-HEAD = "# crate, wrong bodies that the prover refused, sum of these edits, sum of the sources, date, toolchain\n"
+HEAD = "# crate, wrong bodies that the prover refused, sum of these edits, sum of the sources, date, toolchain, its logic\n"
 
 
 def sum_of_edits(crate):
@@ -46,14 +47,15 @@ def sums_of(crate):
 
 
 def toolchain():
-    """Returns the name of the toolchain."""
-    return subprocess.run(["rt", "version"], capture_output=True, text=True, check=True).stdout.split()[0]
+    """Returns the name of the toolchain, and that of its logic."""
+    name, _, logic = subprocess.run(["rt", "version"], capture_output=True, text=True, check=True).stdout.split()
+    return name, logic
 
 
 def is_recorded(crate):
-    """Whether all wrong bodies of the crate, as they are, were refused over the sources as they are, by this toolchain."""
+    """Whether all wrong bodies of the crate, as they are, were refused over the sources as they are, in the logic of this toolchain."""
     told = recorded().get(crate, ())
-    return told[:3] == sums_of(crate) and told[-1] == toolchain()
+    return told[:3] == sums_of(crate) and told[-1] == toolchain()[1]
 
 
 def recorded():
@@ -67,7 +69,7 @@ def recorded():
 def write(sums):
     """Enters these crates, whose sums are those from before the trial, where they still have them: those that were left out."""
     changed = [crate for crate, told in sums.items() if sums_of(crate) != told]
-    lines = recorded() | {crate: (*told, str(datetime.date.today()), toolchain()) for crate, told in sums.items() if crate not in changed}
+    lines = recorded() | {crate: (*told, str(datetime.date.today()), *toolchain()) for crate, told in sums.items() if crate not in changed}
     with open(f"{RECORD}.new", "w", encoding="utf-8") as it:
         it.write(HEAD)
         it.writelines(f"{' '.join([crate, *lines[crate]])}\n" for crate in sorted(lines) if edits_of(WRONG_BODIES, crate))

@@ -72,6 +72,12 @@ template <class Items> class basic_due_listener;
 
 namespace detail {
 
+/// Whether an iterator says that its range can be gone through only once.
+template <class It, class = void> constexpr bool is_single_pass = false;
+template <class It>
+constexpr bool is_single_pass<It, std::void_t<typename std::iterator_traits<It>::iterator_category>> =
+    !std::is_base_of_v<std::forward_iterator_tag, typename std::iterator_traits<It>::iterator_category>;
+
 /// How many items a batch hands to the library at once.
 constexpr std::size_t batch_room = 64;
 
@@ -140,8 +146,10 @@ public:
         return got<pq_take_due>(until);
     }
 
-    /// Puts a range of items in, and moves their payloads, up to the first that is refused.
+    /// Puts a range of items in, and moves their payloads, up to the first that is refused. The range can be gone through twice, as a vector:
+    /// what a drain or an input iterator gives is collected first.
     template <class Range> pushed_many push_many(Range &&items, deadline until = {}) noexcept {
+        static_assert(!is_single_pass<decltype(std::begin(items))>, "a batch is a range that can be gone through twice");
         pushed_many all = {0, code::ok, 0};
         const auto end = std::end(items);
         for (auto at = std::begin(items); all && at != end;) {

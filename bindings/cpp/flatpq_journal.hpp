@@ -73,7 +73,7 @@ template <class Key> struct values {
     static first shown(pq_item from) noexcept { return first(key_order<Key>::key(from.priority), from.value); }
 };
 
-/// What a loop takes out, each item when the loop comes to it. The loop ends where no item comes.
+/// What a loop takes out, each item when the loop reads it, or asks whether it comes, and none before. The loop ends where no item comes.
 template <class Next> class drained {
     using result_of = std::invoke_result_t<Next &>;
 
@@ -88,29 +88,34 @@ public:
 
         iterator() noexcept = default;
         explicit iterator(drained *of) noexcept : of_(of) {}
-        [[nodiscard]] reference operator*() const noexcept { return **of_->last_; }
-        [[nodiscard]] pointer operator->() const noexcept { return &**of_->last_; }
+        [[nodiscard]] reference operator*() const noexcept { return *of_->current(); }
+        [[nodiscard]] pointer operator->() const noexcept { return &**this; }
+        /// Drops the item, and takes none: a loop that ends here, as over std::views::take, takes no item that it doesn't read.
         iterator &operator++() noexcept {
-            of_ = of_->last_.emplace(of_->next_()) ? of_ : nullptr;
+            of_->last_.reset();
             return *this;
         }
         void operator++(int) noexcept { ++*this; }
-        friend bool operator==(const iterator &a, const iterator &b) noexcept { return a.of_ == b.of_; }
+        friend bool operator==(const iterator &a, const iterator &b) noexcept { return a.is_over() == b.is_over(); }
         friend bool operator!=(const iterator &a, const iterator &b) noexcept { return !(a == b); }
 
     private:
+        [[nodiscard]] bool is_over() const noexcept { return of_ == nullptr || !of_->current(); }
+
         drained *of_ = nullptr;
     };
 
     explicit drained(Next next) noexcept : next_(std::move(next)) {}
     [[nodiscard]] iterator begin() noexcept { return ++iterator(this); }
     [[nodiscard]] iterator end() noexcept { return iterator(nullptr); }
-    /// Why the loop ended: code::empty, code::not_due, or a refusal.
+    /// Why the loop ended: code::empty, code::not_due, or a refusal; code::ok where it left off before that.
     [[nodiscard]] code error() const noexcept { return last_ ? last_->error() : code::ok; }
     /// Of a queue's drain: the number of the journal entry of the item that the loop is at; 0 where it is at none.
     [[nodiscard]] std::uint64_t number() const noexcept { return last_ ? last_->number() : 0; }
 
 private:
+    result_of &current() noexcept { return last_ ? *last_ : last_.emplace(next_()); }
+
     Next next_;
     std::optional<result_of> last_;
 };

@@ -224,6 +224,29 @@ static void batches_come_out_in_order() {
     CHECK(next == 200 && all.error() == code::empty && queue.pop_due_many(0, 5).error() == code::empty);
 }
 
+static void a_loop_takes_no_item_that_it_does_not_read() {
+    auto queue = opened_for(1);
+    push_keys(queue, 0, 5);
+    auto all = queue.drain();
+    auto at = all.begin();
+    for (int key = 0; key < 3; ++key, ++at) {
+        CHECK(at->priority == key && at->payload.number() == key);
+    }
+    CHECK(all.error() == code::ok && all.number() == 0 && *queue.size() == 2 && live == 2);
+    push_keys(queue, 5, 6);
+    for (int key = 3; at != all.end(); ++at, ++key) {
+        CHECK(at->priority == key && (*at).payload.number() == key);
+    }
+    CHECK(all.error() == code::empty && live == 0);
+    push_keys(queue, 0, 2);
+    auto journal = *queue.close();
+    auto left = journal.left();
+    auto first = left.begin();
+    CHECK(first->priority == 0);
+    ++first;
+    CHECK(live == 1 && journal.take()->priority == 1);
+}
+
 /// Calls a queue when it is dropped.
 struct caller {
     struct pushes {
@@ -362,6 +385,7 @@ int main() {
     what_is_left_is_dropped();
     batches_keep_what_is_refused();
     batches_come_out_in_order();
+    a_loop_takes_no_item_that_it_does_not_read();
     what_is_dropped_may_call();
     what_is_dropped_may_call_its_ending_queue();
     CHECK(own_caller::dropped == 4);

@@ -130,7 +130,7 @@ PQ_CHECKED pq_code pq_close(pq_queue *queue, pq_journal **journal);
 
 /* Frees the queue, closed or not: the program must not use the pointer any more. Memory is freed once the last joined member is given
    back, and the last call by an own member has returned. Then `left`, unless it is NULL, is called with each item that was left, in the
-   thread that frees the memory. `left` may still use the pointer: the queue is closed then (PQ_CLOSED). queue may be NULL. */
+   thread that frees the memory; it may use the pointer, of a closed queue. queue may be NULL. No thread that waits is woken: shut it first. */
 void pq_free(pq_queue *queue, void (*left)(void *context, pq_item item), void *context);
 
 /* Members. */
@@ -144,11 +144,11 @@ pq_member *pq_own(pq_queue *queue);
 /* Gives the calling thread's own member back now, if the thread has one. */
 void pq_leave(pq_queue *queue);
 
-/* Joins the queue. The call waits until then for a member that another thread gives back. A joined member may move between threads.
-   PQ_OK; PQ_ALL_JOINED, PQ_NO_MEMORY, PQ_CLOSED, PQ_FORKED: *member is NULL. */
+/* Joins the queue. Where all members are in use, the call takes over one that its thread does not use (pq_own), or waits until then for one that
+   another thread gives back. It may move between threads. PQ_OK; PQ_ALL_JOINED, PQ_NO_MEMORY, PQ_CLOSED, PQ_FORKED: *member is NULL. */
 PQ_CHECKED pq_code pq_join(pq_queue *queue, uint64_t until, pq_member **member);
 
-/* Gives a joined member back, in any thread. A request that it has posted may still be carried out. member may be NULL. */
+/* Gives a joined member back, in any thread. A pop that it has posted may still take an item out, which nobody gets. member may be NULL. */
 void pq_give_back(pq_member *member);
 
 /* The place of the member, by which journal entries name it: 0 to 2079, and no two members have the same at once. Of pq_own it is that of
@@ -174,7 +174,8 @@ PQ_CHECKED pq_code pq_peek(pq_member *member, pq_item *item, uint64_t until, uin
    has an entry, so polling by this call leaves none. */
 PQ_CHECKED pq_code pq_pop_due(pq_member *member, uint64_t priority, pq_item *item, uint64_t until, uint64_t *number);
 
-/* Waits for an item, and takes the first one out. PQ_OK; PQ_EMPTY: none came until then; PQ_SHUT. Only PQ_OK has an entry. */
+/* Waits for an item, and takes the first one out. PQ_OK; PQ_EMPTY: none came until then; PQ_SHUT. Only PQ_OK has an entry. With PQ_NOW or a
+   deadline that is past it returns PQ_EMPTY also if the queue is shut; so does pq_take_due. */
 PQ_CHECKED pq_code pq_take(pq_member *member, pq_item *item, uint64_t until, uint64_t *number);
 
 /* Waits until the first item is due, and takes it out. Priorities are times (pq_options); by default they are those of pq_now.

@@ -2,20 +2,18 @@
    Nobody is told the end of a queue while an item is still posted there. The end of a post wakes nobody, and one that waits for it sees it soon.
    No wake is lost of one that waits for an item, for room or for the end, or listens. A handler is called before each instruction, by the
    processor's trap flag. The linker puts __wrap_syscall in place of the system's. */
-#include "../check.h"
+#include "../trapped.h"
 
 #include <errno.h>
 #include <linux/futex.h>
 #include <sched.h>
-#include <signal.h>
 #include <stdarg.h>
 #include <sys/syscall.h>
-#include <ucontext.h>
 
 long __real_syscall(long number, ...);
 long __wrap_syscall(long number, ...);
 
-enum { TRAP_FLAG = 0x100, MEANWHILE_MS = 20 };
+enum { MEANWHILE_MS = 20 };
 
 /* Whether the thread's steps count, in one thread; whether its last instruction was an atomic one; which step it is, and at which the other
    thread begins. */
@@ -34,16 +32,6 @@ static void meet(void) {
         sched_yield();
     }
     errno = code;
-}
-
-/* Whether this instruction has a lock prefix, or exchanges a word of memory. */
-static int is_atomic(const uint8_t *code) {
-    const uint8_t lock = 0xf0, rex = 0x40, exchange = 0x86, of_registers = 0xc0;
-    if (*code == lock) {
-        return 1;
-    }
-    code += (*code & 0xf0) == rex;
-    return (*code | 1) == (exchange | 1) && code[1] < of_registers;
 }
 
 static void trapped(int signal, siginfo_t *about, void *context) {
@@ -72,13 +60,13 @@ long __wrap_syscall(long number, ...) {
     return __real_syscall(number, words[0], words[1], words[2], words[3], words[4], words[5]);
 }
 
-/* Makes the call with the trap flag set. The stack below it may be in use. */
+/* Makes the call with the trap flag set. */
 static void watch(void (*call)(void)) {
     step = was_atomic = 0;
     is_watched = 1;
-    __asm__ volatile("sub $128, %%rsp; pushfq; orq %0, (%%rsp); popfq; add $128, %%rsp" : : "i"(TRAP_FLAG) : "memory", "cc");
+    set_trap_flag();
     call();
-    __asm__ volatile("sub $128, %%rsp; pushfq; andq %0, (%%rsp); popfq; add $128, %%rsp" : : "i"(~TRAP_FLAG) : "memory", "cc");
+    clear_trap_flag();
     is_watched = 0;
 }
 
@@ -204,11 +192,7 @@ static int meet_at(const struct meeting *it, long at) {
 }
 
 int main(void) {
-    struct sigaction action;
-    sigemptyset(&action.sa_mask);
-    action.sa_sigaction = trapped;
-    action.sa_flags = SA_SIGINFO;
-    CHECK(sigaction(SIGTRAP, &action, NULL) == 0);
+    trap_by(trapped);
     for (size_t i = 0; i < sizeof meetings / sizeof *meetings; i++) {
         long at = 0;
         while (meet_at(&meetings[i], at)) {

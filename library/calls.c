@@ -41,18 +41,21 @@ INLINE pq_item item_of(uint32_t request, const call *it) {
     return request == PQ_PUSH ? it->item : none;
 }
 
+/* What a step of a call does that finds the lock held. */
+enum { POSTS_NOTHING, POSTS };
+
 /* Carries the request out where the lock is free, and does not look at what comes of it. */
-INLINE pq_code try_call_once(uint32_t request, call *it) {
+INLINE pq_code step_call_once(uint32_t request, uint32_t posts, call *it) {
     const pq_item item = item_of(request, it);
-    pq_code code = pq_core_try_call(&it->member->proved, request, item.priority, item.value, &it->answer);
+    pq_code code = pq_core_step_call(&it->member->proved, request, item.priority, item.value, posts, &it->answer);
     flatpq_pace.calls++;
     return code;
 }
 
-static pq_code try_call(uint32_t request, call *it) {
+static pq_code step_call(uint32_t request, uint32_t posts, call *it) {
     pq_code code;
     watch_push(request, item_of(request, it));
-    code = LEAVE_OUT(try_call_once(request, it));
+    code = LEAVE_OUT(step_call_once(request, posts, it));
     if (code == PQ_OK) {
         watch_answer(&it->answer);
         flatpq_carried_out(it->member, &it->answer);
@@ -60,14 +63,32 @@ static pq_code try_call(uint32_t request, call *it) {
     return code;
 }
 
-static pq_code poll(pq_member *it, core_answer *answer) {
-    pq_code code = LEAVE_OUT(pq_core_look(&it->proved, answer));
+static pq_code try_call(uint32_t request, call *it) {
+    return step_call(request, POSTS_NOTHING, it);
+}
+
+/* What follows a look for the answer to what the member posted, which returned this code. */
+static pq_code looked(pq_member *it, pq_code code, const core_answer *answer) {
     flatpq_pace.calls++;
     if (code == PQ_OK) {
         watch_answer(answer);
         flatpq_carried_out(it, answer);
     }
     return code;
+}
+
+static pq_code poll(pq_member *it, core_answer *answer) {
+    pq_code code = LEAVE_OUT(pq_core_look(&it->proved, answer));
+    return looked(it, code, answer);
+}
+
+/* Looks for the answer, and else makes a round, which returns PQ_PENDING, or finds the lock held. */
+static pq_code step_answer(pq_member *it, core_answer *answer) {
+    pq_code code = LEAVE_OUT(pq_core_step_answer(&it->proved, answer));
+    if (code == PQ_PENDING) {
+        flatpq_wake_after(it, NULL);
+    }
+    return looked(it, code, answer);
 }
 
 static pq_code try_round(pq_member *it) {
@@ -102,12 +123,11 @@ INLINE pq_code try_step(pq_member *it, uint64_t priority, core_answer *answer) {
 /* Waits until the posted request has its answer. */
 static pq_code wait_for_answer(pq_member *it, rest *resting, core_answer *answer) {
     for (;;) {
-        pq_code code = poll(it, answer);
-        if (code != PQ_PENDING) {
-            return code;
-        }
-        if (try_round(it) == LOCK_HELD) {
+        pq_code code = step_answer(it, answer);
+        if (code == LOCK_HELD) {
             flatpq_rests(resting);
+        } else if (code != PQ_PENDING) {
+            return code;
         }
     }
 }
@@ -129,8 +149,10 @@ static pq_code try_and_post(uint32_t request, call *it) {
         code = try_call(request, it);
     }
     if (code == LOCK_HELD) {
-        code = post(it->member, request, item_of(request, it));
-        code = code == PQ_OK ? wait_for_answer(it->member, &resting, &it->answer) : code;
+        code = step_call(request, POSTS, it);
+    }
+    if (code == HAS_POSTED) {
+        code = wait_for_answer(it->member, &resting, &it->answer);
     }
     flatpq_rested(&resting);
     return code;
@@ -235,7 +257,7 @@ INLINE pq_code ask_by_own(uint32_t request, call *it) {
     if (request == PQ_PUSH && !LIKELY(!it->member->is_bounded)) {
         return push_within(it, last);
     }
-    code = try_call_once(request, it);
+    code = step_call_once(request, POSTS_NOTHING, it);
     if (!is_done(request, code, it)) {
         return go_on(request, code, it, it->mine);
     }
@@ -253,7 +275,7 @@ INLINE pq_code ask(uint32_t request, call *it) {
     if (!LIKELY(is_plain(request, it->member))) {
         return it->member->is_shared ? ask_by_own(request, it) : push_within(it, NULL);
     }
-    code = try_call_once(request, it);
+    code = step_call_once(request, POSTS_NOTHING, it);
     return is_done(request, code, it) ? returned(request, it) : go_on(request, code, it, NULL);
 }
 

@@ -10,8 +10,9 @@
 
 typedef struct core_inside *core;
 
-/* A call found that another thread carries out requests, and did nothing. No public call returns this code. */
+/* A step found that another thread carries out requests: it did nothing, or it posted its request. No public call returns these codes. */
 #define LOCK_HELD ((pq_code)8)
+#define HAS_POSTED ((pq_code)14)
 
 enum { KIND_PUSHED, KIND_POPPED, KIND_FIRST, KIND_EMPTY, KIND_JOURNAL_FULL, KIND_NO_MEMORY };
 
@@ -57,8 +58,9 @@ pq_code pq_core_close(core *queue, core *journal);
 
 /* Members. */
 pq_code pq_core_place(core *member, uint32_t *place);
+pq_code pq_core_step_call(core *member, uint32_t request, uint64_t priority, uint64_t value, uint32_t posts, core_answer *answer);
+pq_code pq_core_step_answer(core *member, core_answer *answer);
 pq_code pq_core_post(core *member, uint32_t request, uint64_t priority, uint64_t value);
-pq_code pq_core_try_call(core *member, uint32_t request, uint64_t priority, uint64_t value, core_answer *answer);
 pq_code pq_core_try_pop_or_look(core *member, uint32_t takes, uint64_t priority, core_answer *answer);
 pq_code pq_core_try_remove(core *member, uint64_t ticket, core_answer *answer);
 pq_code pq_core_try_reschedule(core *member, uint64_t ticket, uint64_t priority, core_answer *answer);

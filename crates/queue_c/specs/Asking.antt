@@ -10,7 +10,7 @@ use Rattle.flat_queue.specs.declared.counting.Counts.{Counts}
 use Rattle.flat_queue.specs.declared.looking.Wanted.{Wanted}
 use Rattle.flat_queue.specs.declared.counting.Unpushed.TheVariants as unpushed
 use Rattle.queue_c.specs.Handles.{member_in, owner_in}
-use Rattle.queue_c.specs.Calls.{IsOneOf, Posting, CarryingOut, ShuttingOut, Looking, Waiting, Rounding, Missing}
+use Rattle.queue_c.specs.Calls.{IsOneOf, Posting, Looking, Waiting, Rounding, Missing}
 use Rattle.queue_c.specs.Looking.{PoppingOrLooking}
 use Rattle.queue_c.specs.Counting.{Counting, PushingWithin, NotPushing}
 use Rattle.queue_c.specs.declared.codes.TheConstants.{FULL, IDLE, LOCK_HELD, NO_HANDLE, OK, POSTS_SPENT}
@@ -29,20 +29,6 @@ pub record PostAnswers (before : Option Contents) (request : Option Request) (co
   pub waits : (code ≡ WAITS) ↔ MatchOption (member_in before) ⊥ (λ m. IsSome request × (is_idle m.pen.standing ≡ false))
   pub spent : code ≡ POSTS_SPENT → IfSome (member_in before) (λ m. most_posts m.queue.room ≤ m.pen.posts)
   pub shut : code ≡ SHUT → IfSome request IsPush
-  pub owner : owner_in after ≡ owner_in before
-
--- a request that the member carries out itself, with the answer that is told
-pub record TryCallAnswers (before : Option Contents) (request : Option Request) (code : ℕ)
-    (told : PlainAnswer) (after : Option Contents) : Type 0 where
-  pub carried_out : code ≡ OK → CarryingOut (member_in before) request told (member_in after)
-  pub misses : code ≡ LOCK_HELD → Missing (member_in before) (member_in after)
-  pub shut : code ≡ SHUT → ShuttingOut (member_in before) request (member_in after)
-  pub refused : code ≢ OK → code ≢ LOCK_HELD → code ≢ SHUT → after ≡ before
-  pub codes : IsOneOf code (OK ∷ LOCK_HELD ∷ POSTS_SPENT ∷ NO_HANDLE ∷ WAITS ∷ UNKNOWN ∷ SHUT ∷ UNARCHIVED ∷ [])
-  pub no_member : (code ≡ NO_HANDLE) ↔ (member_in before ≡ None)
-  pub unknown : (code ≡ UNKNOWN) ↔ (IsSome (member_in before) × (request ≡ None))
-  pub waits : (code ≡ WAITS) ↔ MatchOption (member_in before) ⊥ (λ m. IsSome request × (is_idle m.pen.standing ≡ false))
-  pub spent : code ≡ POSTS_SPENT → IfSome (member_in before) (λ m. most_posts m.queue.room ≤ m.pen.posts)
   pub owner : owner_in after ≡ owner_in before
 
 -- a pop or a look that takes what it wants, with the answer that is told

@@ -14,7 +14,6 @@ use Rattle.desk_core.specs.Words.{word_number}
 use Rattle.announce_board.specs.Tokens.{is_idle}
 use Rattle.announce_board.specs.Asking.{asked_by, LooksBy}
 use Rattle.flat_queue.specs.Limits.{most_posts}
-use Rattle.flat_queue.specs.Ending.{IsShutOut}
 use Rattle.flat_queue.specs.OwnRequest.{CarriesOutBy}
 use Rattle.flat_queue.specs.Members.{Joined, StaysAtPlace}
 use Rattle.queue_pool.specs.Pool.{Pooled, TakesOutBy, StaysPool, NoneComesBy, inside, lists_of, with_member}
@@ -72,11 +71,6 @@ CarryingOut (Some before) (Some request) told (Some after) =
     (is_idle before.pen.standing ≡ true) × (before.pen.posts < most_posts before.queue.room)
     × ((answer : Answer) × CarriesOutBy words_of_item before request answer after × Tells told answer)
 CarryingOut before request told after = ⊥
-
--- the member has found the lock free, and released it without this request, a push, as the queue was shut
-abbrev pub ShuttingOut : Option Joined → Option Request → Option Joined → Type 0
-ShuttingOut (Some before) (Some request) (Some after) = IsShutOut before request after
-ShuttingOut before request after = ⊥
 
 -- the waiting member has looked at its record, and found the answer that is told; by that it owes no wake
 abbrev pub Looking : Option Joined → PlainAnswer → Option Joined → Type 0

@@ -1,6 +1,7 @@
 pub mod Asking
 pub mod Batches
 pub mod Boxes
+pub mod Calling
 pub mod Calls
 pub mod Copies
 pub mod Counting

@@ -6,16 +6,16 @@ ghost use Rattle.split_core.specs.declared.places.TheConstants.{MAX_COMERS};
 ghost use Rattle.split_grid.specs.Opening.{places_of};
 ghost use Rattle.queue_c.specs.Plain.{request_of};
 ghost use Rattle.queue_c.specs.Handles.{member_in};
-ghost use Rattle.queue_c.specs.Asking.{PostAnswers, TryCallAnswers, LookAnswers, RoundAnswers};
+ghost use Rattle.queue_c.specs.Asking.{PostAnswers, LookAnswers, RoundAnswers};
 ghost use Rattle.queue_c.specs.declared.codes.TheConstants.{NO_HANDLE, OK};
 
-use crate::calls::{counted, is_let_through, owes_wake};
+use crate::calls::{counted, is_let_through};
 use crate::codes::{IDLE, LOCK_HELD, NO_HANDLE, OK, POSTS_SPENT, SHUT, UNARCHIVED, UNKNOWN, WAITS};
 use crate::contents::Contents;
 use crate::handle::Handle;
 use crate::plain::{PlainAnswer, request_of, tell_answer};
 use pq_types::Item;
-use queue_pool::{NotPosted, Seen, Tried};
+use queue_pool::{NotPosted, Seen};
 use std::alloc::Global;
 
 fn place(held: &Contents, place: &mut u32) -> u32
@@ -118,58 +118,6 @@ pub extern "C" fn pq_core_post(
         return NO_HANDLE;
     };
     let code = post(&mut held, request, Item { priority, value });
-    member.put(held);
-    code
-}
-
-// Carries the request of this number out at once, with this item where it is a push, and tells the answer.
-fn try_call(held: &mut Contents, number: u32, item: Item<u64>, answer: &mut PlainAnswer) -> u32
-    ensures answers { TryCallAnswers (Some held.old) (request_of number item) result answer.new (Some held.new) }
-    ensures untold { result ≢ OK → answer.new ≡ answer.old }
-{
-    let Contents::Member(member, _) = held else {
-        return NO_HANDLE;
-    };
-    let Some(request) = request_of(number, item) else {
-        return UNKNOWN;
-    };
-    if !is_let_through(member) {
-        return UNARCHIVED;
-    }
-    let code = match member.try_call(request) {
-        Tried::Waits => WAITS,
-        Tried::Spent => POSTS_SPENT,
-        Tried::LockHeld => LOCK_HELD,
-        Tried::Shut => SHUT,
-        Tried::Answered(found) => {
-            *answer = tell_answer(&found, owes_wake(member));
-            OK
-        }
-    };
-    counted(member, code, answer.line)
-}
-
-/// Carries a request out at once where no other member leads, without a post: 0, and the answer is
-/// told, and whether a wake is owed behind it; 8 where another member led, and then nothing was done; 51 where it is a
-/// push and the queue is shut: the member led, and released without it. Else it is refused as `pq_core_post`. Takes memory for
-/// pushes alone.
-#[unsafe(no_mangle)]
-pub extern "C" fn pq_core_try_call(
-    alloc: Global,
-    member: &mut Handle,
-    request: u32,
-    priority: u64,
-    value: u64,
-    answer: &mut PlainAnswer,
-) -> u32
-    ensures answers { TryCallAnswers member.old.value
-        (request_of request (item priority value)) result answer.new member.new.value }
-    ensures untold { result ≢ OK → answer.new ≡ answer.old }
-{
-    let Some(mut held) = member.take(alloc) else {
-        return NO_HANDLE;
-    };
-    let code = try_call(&mut held, request, Item { priority, value }, answer);
     member.put(held);
     code
 }

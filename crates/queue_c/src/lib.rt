@@ -7,6 +7,7 @@ mod archiving;
 mod asking;
 mod batches;
 mod buffers;
+mod calling;
 mod calls;
 mod closing;
 mod codes;

@@ -4,7 +4,7 @@ ghost use Rattle.queue_c.specs.Tickets.{TicketAnswers, RemoveAnswers, Reschedule
 ghost use Rattle.queue_c.specs.declared.codes.TheConstants.{OK};
 
 use crate::calls::{counted, is_let_through, owes_wake};
-use crate::codes::{LOCK_HELD, NO_HANDLE, OK, POSTS_SPENT, SHUT, UNARCHIVED, WAITS};
+use crate::codes::{LOCK_HELD, NO_HANDLE, OK, POSTS_SPENT, UNARCHIVED, WAITS};
 use crate::contents::Contents;
 use crate::handle::Handle;
 use crate::plain::{PlainAnswer, tell_answer};
@@ -27,7 +27,6 @@ fn use_held(held: &mut Contents, ticketed: Ticketed<u64>, answer: &mut PlainAnsw
         Tried::Waits => WAITS,
         Tried::Spent => POSTS_SPENT,
         Tried::LockHeld => LOCK_HELD,
-        Tried::Shut => SHUT,
         Tried::Answered(found) => {
             *answer = tell_answer(&found, owes_wake(member));
             OK

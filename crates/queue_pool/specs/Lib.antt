@@ -2,3 +2,4 @@ pub mod Shared
 pub mod Pool
 pub mod StillOpen
 pub mod Taking
+pub mod Calling

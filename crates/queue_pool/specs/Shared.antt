@@ -2,15 +2,12 @@
 use Rattle.std.specs.Prelude.{◌≡◌, ℕ, ◌<◌, ◌≤◌, true, false, List, length, take, None, Some}
 use Rattle.std.specs.List.{All}
 use Rattle.pq_types.specs.Item.{Item}
-use Rattle.pq_types.specs.Asked.{Request}
 use Rattle.pq_types.specs.Operation.{Ticketed, Remove, Move}
 use Rattle.pq_types.specs.Control.{is_answer}
 use Rattle.announce_board.specs.Tokens.{is_idle}
 use Rattle.announce_board.specs.Asking.{LooksBy, IsAnswerTo}
 use Rattle.flat_queue.specs.Limits.{most_posts}
 use Rattle.flat_queue.specs.Members.{Joined, StaysAtPlace}
-use Rattle.flat_queue.specs.OwnRequest.{CarriesOutBy}
-use Rattle.flat_queue.specs.Ending.{IsShutOut}
 use Rattle.flat_queue.specs.Turns.{FindsLockHeld}
 use Rattle.flat_queue.specs.UpTo.{CarriesOutUpToBy, TellsUpTo}
 use Rattle.flat_queue.specs.Tickets.{CarriesOutByTicket, TellsFound}
@@ -64,25 +61,12 @@ abbrev pub MayCall : Joined → Type 0
 MayCall m = (is_idle m.pen.standing ≡ true) × (m.pen.posts < most_posts m.queue.room)
 
 -- The last request is not answered yet, or no serial is left, and nothing was done; or the member found
--- the lock held; or won it, and released it without this push, as the queue was shut; or it carried this
--- request out itself, and this is the answer.
-abbrev pub TriesBy : ℕ → Joined → Request → Tried → Joined → Type 0
-TriesBy words before request tried.Waits after = (is_idle before.pen.standing ≡ false) × (after ≡ before)
-TriesBy words before request tried.Spent after =
-    (is_idle before.pen.standing ≡ true) × (most_posts before.queue.room ≤ before.pen.posts) × (after ≡ before)
-TriesBy words before request tried.LockHeld after = MayCall before × FindsLockHeld before after
-TriesBy words before request tried.Shut after = MayCall before × IsShutOut before request after
-TriesBy words before request (tried.Answered answer) after =
-    MayCall before × CarriesOutBy words before request answer after × IsAnswerTo before.queue.room request answer
-
--- The last request is not answered yet, or no serial is left, and nothing was done; or the member found
 -- the lock held; or it carried the request out that the first item asked for, and this is the answer.
 abbrev pub TriesUpToBy : ℕ → ℕ → Joined → Tried → Joined → Type 0
 TriesUpToBy words bound before tried.Waits after = (is_idle before.pen.standing ≡ false) × (after ≡ before)
 TriesUpToBy words bound before tried.Spent after =
     (is_idle before.pen.standing ≡ true) × (most_posts before.queue.room ≤ before.pen.posts) × (after ≡ before)
 TriesUpToBy words bound before tried.LockHeld after = MayCall before × FindsLockHeld before after
-TriesUpToBy words bound before tried.Shut after = ⊥
 TriesUpToBy words bound before (tried.Answered answer) after =
     MayCall before × CarriesOutUpToBy words bound before answer after × TellsUpTo bound answer
 
@@ -93,7 +77,6 @@ TriesTicketBy words ticketed before tried.Waits after = (is_idle before.pen.stan
 TriesTicketBy words ticketed before tried.Spent after =
     (is_idle before.pen.standing ≡ true) × (most_posts before.queue.room ≤ before.pen.posts) × (after ≡ before)
 TriesTicketBy words ticketed before tried.LockHeld after = MayCall before × FindsLockHeld before after
-TriesTicketBy words ticketed before tried.Shut after = ⊥
 TriesTicketBy words ticketed before (tried.Answered answer) after =
     MayCall before × CarriesOutByTicket words ticketed before answer after × TellsFound ticketed answer
 
@@ -168,9 +151,6 @@ TriesPopsBy words bound before items (tried_batch.Done batch) after =
 -- The same of narrow items, which have one word.
 abbrev pub Sees : Joined → Seen → Joined → Type 0
 Sees = SeesBy 1
-
-abbrev pub Tries : Joined → Request → Tried → Joined → Type 0
-Tries = TriesBy 1
 
 abbrev pub TriesUpTo : ℕ → Joined → Tried → Joined → Type 0
 TriesUpTo = TriesUpToBy 1

@@ -4,7 +4,8 @@
 //! What the crate promises to the layer above:
 //! - `SharedHandle` is a member with a share of its queue, idle or waiting, which its calls see:
 //!   it posts, looks, leads a round, archives the journal, or carries a request out itself, or a batch of pushes or pops, where it
-//!   finds the lock free. It takes an item that it may wait for in steps, each of which announces it before it looks.
+//!   finds the lock free. It makes a call in steps, of which one posts only where it found the lock held. It takes an item that it
+//!   may wait for in steps, each of which announces it before it looks.
 //! - `Pool` has the members of a queue that nobody has: it hands out those that came back before it lets a
 //!   newcomer join, so that a queue has so many members at once, and not in all its life.
 //! - `Pool::close` and `Pool::close_with` give the Book of a queue that nobody else shares; the Book has exactly the calls
@@ -14,10 +15,12 @@
 //! count who may be woken, and their caller wakes them, by the event count that `SharedHandle::waiters` gives.
 #![tactic(auto)]
 
+pub mod calling;
 pub mod pool;
 pub mod shared;
 pub mod taking;
 
+pub use calling::{AnswerStep, CallStep};
 pub use pool::{NotTaken, OpenWith, Pool, StillOpen};
 pub use shared::{
     NotPosted, Seen, SharedHandle, Tried, TriedBatch, TriedCount, TriedFirst, TriedPush,

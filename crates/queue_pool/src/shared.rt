@@ -13,7 +13,7 @@ ghost use Rattle.flat_queue.specs.Members.{HasRoomForAll};
 ghost use Rattle.flat_queue.specs.Memory.{HasSpareRoom};
 ghost use Rattle.flat_queue.specs.Settling.{Archives, Settles};
 ghost use Rattle.flat_queue.specs.TrailSweeping.{MakesTrailRoundBy};
-ghost use Rattle.queue_pool.specs.Shared.{SeesBy, TriesBy, TriesUpToBy, TriesFirstBy, TriesPushesBy, TriesPopsBy};
+ghost use Rattle.queue_pool.specs.Shared.{SeesBy, TriesUpToBy, TriesFirstBy, TriesPushesBy, TriesPopsBy};
 ghost use Rattle.queue_pool.specs.Shared.{TriesCountBy, TriesPushWithinBy, TriesTicketBy, TriesRemovalBy, TriesMoveBy};
 
 use flat_queue::{
@@ -90,10 +90,8 @@ pub enum Tried<I = Item> {
     Waits,
     /// All serials have been used: nothing was done.
     Spent,
-    /// Another leads: nothing was done, and the member may post.
+    /// Another leads: nothing was done.
     LockHeld,
-    /// It is a push, and the queue is shut.
-    Shut,
     Answered(Answer<I>),
 }
 
@@ -227,27 +225,6 @@ impl<S: Store<Entry<P>>, P: Part> SharedHandle<S, P> {
         match self.queue.look(&mut self.member) {
             Some(answer) => Seen::Answered(answer),
             None => Seen::Waits,
-        }
-    }
-
-    /// Carries the request out itself, where the last one is answered, not all serials are spent, and it
-    /// finds the lock free, as `Queue::try_call` does, but for a push where the queue is shut: it posts nothing. Takes
-    /// memory for pushes alone, and never waits.
-    pub fn try_call(&mut self, request: Request<Item<P>>) -> Tried<Item<P>>
-        ensures tries { TriesBy (word_number P.wide) self.old request result self.new }
-        ensures memory { HasRoomForAll S.room self.old.queue → result ≢ Tried.Answered Answer.NoMemory }
-        ensures spare { HasSpareRoom S.room self.new.pen.known → result ≢ Tried.Answered Answer.NoMemory }
-    {
-        if !self.member.is_idle() {
-            return Tried::Waits;
-        }
-        if self.member.posts() >= self.queue.most_posts() {
-            return Tried::Spent;
-        }
-        match self.queue.carry_out_unless_shut(&mut self.member, request) {
-            Some(Ok(answer)) => Tried::Answered(answer),
-            Some(Err(Shut)) => Tried::Shut,
-            None => Tried::LockHeld,
         }
     }
 

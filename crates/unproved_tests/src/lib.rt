@@ -40,6 +40,8 @@ mod rests;
 #[cfg(test)]
 mod scripts;
 #[cfg(test)]
+mod shared_calls;
+#[cfg(test)]
 mod structures;
 #[cfg(test)]
 mod tables;

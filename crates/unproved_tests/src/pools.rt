@@ -3,7 +3,7 @@ use flat_queue::{Queue, Shut};
 use leftist_heap::Leftist;
 use pq_book::{Book, Entry};
 use pq_types::{Answer, Item, Reply, Request};
-use queue_pool::{NotPosted, OpenWith, Pool, Seen, SharedHandle, StillOpen, Tried};
+use queue_pool::{CallStep, NotPosted, OpenWith, Pool, Seen, SharedHandle, StillOpen};
 use std::alloc::Global;
 use std::process::Abort;
 use std::sync::Arc;
@@ -138,15 +138,16 @@ fn a_shut_queue_refuses_pushes_alone(rt: HostRuntime) {
         priority: 5,
         value: 1,
     });
-    let entered = |number, reply| Tried::Answered(Answer::Entered(number, reply));
+    let entered = |number, reply| CallStep::Answered(Answer::Entered(number, reply));
     assert!(&rt; other.post(push).is_ok() && pool.waiters().ending().is_quiet());
     assert!(&rt; !pool.waiters().ending().is_shut());
     pool.waiters().shut();
     assert!(&rt; pool.waiters().ending().is_shut() && pool.waiters().owed_wakes() == 0);
-    assert!(&rt; member.try_call(push) == Tried::Shut);
+    assert!(&rt; member.step_call(push, false) == CallStep::Shut);
+    assert!(&rt; member.step_call(push, true) == CallStep::Shut);
     assert!(&rt; member.post(push) == Err(NotPosted::Shut) && pool.waiters().ending().is_quiet());
     assert!(&rt;
-        member.try_call(Request::Least)
+        member.step_call(Request::Least, true)
             == entered(
                 2,
                 Reply::Least(Item {

@@ -4,7 +4,7 @@ use flat_queue::{CallError, Newcomer, Queue};
 use leftist_heap::{GlobalPlaces, TicketHeap};
 use pq_book::Entry;
 use pq_types::{Answer, Item, Reply, Request};
-use queue_pool::{SharedHandle, Tried};
+use queue_pool::{CallStep, SharedHandle, Tried};
 use std::alloc::Global;
 use std::process::Abort;
 use std::sync::Arc;
@@ -49,8 +49,8 @@ fn got(number: u64, found: Item) -> Tried<Item> {
 // What a handle's uses of tickets come to, beside another that leads, in a queue that is shut, and at its own request.
 fn tries<R: Abort>(rt: &R, queue: &Queue<Heap>, handle: &mut SharedHandle<Heap>, other: Newcomer) {
     assert!(rt;
-        handle.try_call(Request::Push(item(5, 1)))
-            == Tried::Answered(Answer::Entered(1, Reply::Pushed))
+        handle.step_call(Request::Push(item(5, 1)), false)
+            == CallStep::Answered(Answer::Entered(1, Reply::Pushed))
     );
     let mut leader = queue.enter(other);
     let lead = leader.lead().expect(rt, "the lock is free");

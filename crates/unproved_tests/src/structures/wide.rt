@@ -3,7 +3,7 @@ use flat_queue::{Called, Handle, Newcomer, Queue, UpTo};
 use leftist_heap::{Leftist, SortedVec};
 use pq_book::{Book, BookError, Entry};
 use pq_types::{Answer, Item, Line, Operation, Reply, Request};
-use queue_pool::{Pool, StillOpen, Tried};
+use queue_pool::{CallStep, Pool, StillOpen, Tried};
 use std::alloc::Global;
 use std::mem::size_of;
 use std::process::Abort;
@@ -266,7 +266,8 @@ fn a_pool_hands_out_a_member_of_a_wide_queue(rt: HostRuntime) -> Result<(), Fail
     let Ok(mut member) = pool.take() else {
         panic!(&rt; "it is in the pool")
     };
-    assert!(&rt; member.try_call(Request::Push(GREATEST)) == entered(1, Reply::Pushed));
+    let pushed = CallStep::Answered(Answer::Entered(1, Reply::Pushed));
+    assert!(&rt; member.step_call(Request::Push(GREATEST), false) == pushed);
     assert!(&rt; member.post(Request::Push(UPPER_ONE)).is_ok());
     pool.give_back(member);
     let Ok(mut member) = pool.take() else {

@@ -1,0 +1,95 @@
+// Calls of a shared handle in steps: beside a lead that is kept, which answers what was posted, and where the queue is shut.
+use crate::common::{Heap, item};
+use flat_queue::{Handle, Newcomer, Queue};
+use pq_types::{Answer, Reply, Request};
+use queue_pool::{AnswerStep, CallStep, SharedHandle};
+use std::alloc::Global;
+use std::process::Abort;
+use std::sync::Arc;
+use std::test::Fail;
+
+// A step that may post, and one that may not, of a push beside a lead, then steps that wait for its answer: the other's round
+// gives that.
+fn steps_beside_a_lead<R: Abort>(
+    rt: &R,
+    handle: &mut SharedHandle<Heap>,
+    leader: &mut Handle<'_, Heap>,
+) {
+    let push = Request::Push(item(5, 1));
+    let lead = leader.lead().expect(rt, "the lock is free");
+    assert!(rt; handle.step_call(push, false) == CallStep::LockHeld && handle.is_idle());
+    assert!(rt; handle.step_answer() == AnswerStep::Nothing);
+    assert!(rt; handle.step_call(push, true) == CallStep::Posted && !handle.is_idle());
+    assert!(rt; handle.step_call(push, true) == CallStep::Waits);
+    assert!(rt; handle.step_answer() == AnswerStep::LockHeld);
+    leader.release(lead);
+    assert!(rt; leader.try_round().is_some());
+    let pushed = Answer::Entered(1, Reply::Pushed);
+    assert!(rt; handle.step_answer() == AnswerStep::Answered(pushed) && handle.is_idle());
+    assert!(rt; handle.step_answer() == AnswerStep::Nothing);
+}
+
+// A step that posts a pop beside a lead, of which nobody makes a round: the next step does, and the one behind it has the
+// answer. The step of a peek then enters at once.
+fn steps_by_itself<R: Abort>(
+    rt: &R,
+    handle: &mut SharedHandle<Heap>,
+    leader: &mut Handle<'_, Heap>,
+) {
+    let lead = leader.lead().expect(rt, "the lock is free");
+    assert!(rt; handle.step_call(Request::Pop, true) == CallStep::Posted);
+    leader.release(lead);
+    assert!(rt; handle.step_answer() == AnswerStep::Led && !handle.is_idle());
+    let popped = Answer::Entered(2, Reply::Got(item(5, 1)));
+    assert!(rt; handle.step_answer() == AnswerStep::Answered(popped));
+    let none = Answer::Entered(3, Reply::Empty);
+    assert!(rt; handle.step_call(Request::Least, true) == CallStep::Answered(none));
+}
+
+// In a queue that is shut a push is refused beside a lead too, where it was to be posted; a pop is posted.
+fn steps_where_it_is_shut<R: Abort>(
+    rt: &R,
+    handle: &mut SharedHandle<Heap>,
+    leader: &mut Handle<'_, Heap>,
+) {
+    let push = Request::Push(item(5, 1));
+    let lead = leader.lead().expect(rt, "the lock is free");
+    assert!(rt; handle.step_call(push, false) == CallStep::LockHeld);
+    assert!(rt; handle.step_call(push, true) == CallStep::Shut && handle.is_idle());
+    assert!(rt; handle.waiters().ending().is_quiet());
+    assert!(rt; handle.step_call(Request::Pop, true) == CallStep::Posted);
+    leader.release(lead);
+    assert!(rt; handle.step_answer() == AnswerStep::Led);
+    let none = Answer::Entered(4, Reply::Empty);
+    assert!(rt; handle.step_answer() == AnswerStep::Answered(none));
+    assert!(rt; handle.step_call(push, true) == CallStep::Shut && handle.is_idle());
+}
+
+// What the steps come to in a queue with room for four lines, whose members are this handle and the other that joins.
+fn steps<R: Abort>(rt: &R, queue: &Queue<Heap>, handle: &mut SharedHandle<Heap>, other: Newcomer) {
+    let mut leader = queue.enter(other);
+    steps_beside_a_lead(rt, handle, &mut leader);
+    steps_by_itself(rt, handle, &mut leader);
+    queue.shut();
+    steps_where_it_is_shut(rt, handle, &mut leader);
+    assert!(rt; handle.step_call(Request::Pop, false) == CallStep::Answered(Answer::BookFull));
+    drop(leader);
+}
+
+#[test]
+fn a_shared_handle_makes_its_calls_in_steps(rt: HostRuntime) -> Result<(), Fail> {
+    let Ok((queue, mut newcomers)) = Queue::new(rt.alloc(), &[1, 2], 4) else {
+        panic!(rt; "there is such a queue")
+    };
+    let Ok(queue) = Arc::new(rt.alloc(), queue) else {
+        panic!(rt; "there is memory")
+    };
+    let other = newcomers.pop().expect(&rt, "there is a second");
+    let own = newcomers.pop().expect(&rt, "there is a first");
+    let member = queue.join(own);
+    let mut handle = SharedHandle::of(queue.clone()?, member);
+    steps(&rt, &queue, &mut handle, other);
+    drop(handle);
+    drop(queue);
+    Ok(())
+}

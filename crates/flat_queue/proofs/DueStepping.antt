@@ -1,6 +1,6 @@
 -- What the steps of a call for what is due come to, one after another.
 use Rattle.std.proofs.Common.{◌≡◌, ◌∙◌, ℕ, zero, suc, ◌<◌, ◌^◌, inl, ap, sym, refl, true, true≢false}
-use Rattle.std.specs.Prelude.{Option, Some, None, is_some, Ok, Err, ⊤}
+use Rattle.std.specs.Prelude.{Option, Some, None, IsSome, is_some, Ok, Err, ⊤}
 use Rattle.std.specs.declared.time.Instant.{Instant}
 use Rattle.pq_types.specs.Item.{Item}
 use Rattle.pq_types.specs.declared.request.Request.TheVariants.{Pop}
@@ -66,6 +66,8 @@ due_ends words late may_tell times deadline wants now a m c (took.Later x) s (is
     (s.looks, s.last, s.found, (wants, behind_tries words wants (looked.Stays x) s.last m c s.missed h, read, come is_late, λ is. h.1.1 (all x.priority short is)))
 due_ends words late may_tell times deadline wants now a m c took.Nothing s (is_late, h) read come is_due all short =
     (s.looks, s.last, s.found, ((wants, behind_tries words wants looked.Nothing s.last m c s.missed h), read, come is_late))
+due_ends words late may_tell times deadline wants now a m c took.Held s (is_late, h) read come is_due all short =
+    let n = so_often s.last m s.missed in (s.looks, s.last, s.found, ((n.0, (m, n.1, h.1)), read, come is_late))
 due_ends words late may_tell times deadline wants now a m c took.Over s h read come is_due all short =
     (s.looks, s.last, s.found, (wants, behind_tries words wants looked.Nothing s.last m c s.missed h))
 
@@ -76,10 +78,10 @@ due_unread words may_tell times deadline a m s unread = (s.looks, s.last, s.foun
 
 -- how far a call has come that goes on
 pub due_goes : (words : ℕ) (late : Type 0) (wants : Wanted) (now : Instant) (clock : Option Instant) (a m c : Joined) (next : DueStage) → DueSoFarBy words a (Some now) m
-    → SightsOnceBy words late wants m (stepped.Goes next) c → (IsLook next → clock ≡ Some now) → DueSoFarBy words a clock c
+    → SightsOnceBy words late wants m (stepped.Goes next) c → (IsLook next → IsSome clock) → DueSoFarBy words a clock c
 due_goes words late wants now clock a m c stage.Announces s h keeps = absurd h
 due_goes words late wants now clock a m c (stage.Looks look) s h keeps =
-    record { looks = s.looks; last = s.last; found = s.found; missed = missed_yet s.last m c s.missed h; still = λ e. absurd (true≢false (ap is_some (sym (keeps tt) ∙ e))) }
+    record { looks = s.looks; last = s.last; found = s.found; missed = missed_yet s.last m c s.missed h; still = λ e. absurd (true≢false (sym (keeps tt) ∙ ap is_some e)) }
 due_goes words late wants now clock a m c (stage.Sleeps seen (Some x)) s h keeps =
     record { looks = suc s.looks; last = c; found = (s.last, s.found, (wants, looked.Stays x, refl, behind_tries words wants (looked.Stays x) s.last m c s.missed h)); missed = inl refl; still = λ e. refl }
 due_goes words late wants now clock a m c (stage.Sleeps seen None) s h keeps =

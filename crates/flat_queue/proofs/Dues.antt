@@ -1,5 +1,5 @@
 -- What looks for what is due come to.
-use Rattle.std.proofs.Common.{◌≡◌, ◌∙◌, ℕ, ap, refl, true, true≢false}
+use Rattle.std.proofs.Common.{◌≡◌, ◌∙◌, ℕ, suc, ap, refl, true, true≢false}
 use Rattle.std.specs.Prelude.{Option, Some, None, is_some, Result, Ok, Err}
 use Rattle.std.specs.declared.time.Instant.{Instant}
 use Rattle.announce_board.specs.Tokens.{is_idle}
@@ -12,7 +12,7 @@ use Rattle.flat_queue.specs.declared.looking.Wanted.{Wanted}
 use Rattle.flat_queue.specs.declared.looking.Looked.TheVariants as looked
 use Rattle.flat_queue.specs.declared.due.Due.TheVariants as due
 use Rattle.flat_queue.specs.declared.error.CallError.{CallError}
-use Rattle.flat_queue.proofs.Takings.{IdleStill, vain_idle, ends_idle, still_idle, repeats_idle}
+use Rattle.flat_queue.proofs.Takings.{IdleStill, vain_idle, ends_idle, still_idle, repeats_idle, missed_idle}
 
 -- a look that made no request leaves its member idle, at its queue
 left_idle : (words : ℕ) (wants : Wanted) (told : Looked) (a c : Joined) → ended_look told ≡ None → is_idle a.pen.standing ≡ true → MissesThenLooksBy words wants a told c → IdleStill a c
@@ -33,6 +33,7 @@ last_idle : (words : ℕ) (may_tell : Option Instant → Type 0) (times : Times)
 last_idle words may_tell times deadline a c (Ok (due.Taken number x now)) i (wants, t, read, is) = ends_idle (LooksForBy words wants) a c (Ok (number, x)) i t
 last_idle words may_tell times deadline a c (Ok (due.Later x now)) i (wants, h, read, come, late) = vain_idle words wants a c (looked.Stays x) i h (λ b l. l.0)
 last_idle words may_tell times deadline a c (Ok (due.Nothing now)) i (h, read, come) = empty_idle words a c i h
+last_idle words may_tell times deadline a c (Ok (due.Held now)) i ((n, h), read, come) = missed_idle (suc n) a c i h
 last_idle words may_tell times deadline a c (Ok due.NoClock) i (e, unread) = still_idle a c i e
 last_idle words may_tell times deadline a c (Err e) i (wants, t) = ends_idle (LooksForBy words wants) a c (Err e) i t
 

@@ -212,7 +212,7 @@ one_idle words Turns before after result i (inr (line, m, v, t)) =
 pub takes_idle : (words : ℕ) (before after : Joined) (result : Result (ℕ × Item) CallError) → is_idle before.pen.standing ≡ true → TakesOneBy words before result after → IdleStill before after
 takes_idle words before after result i t = one_idle words (EntersOrWaitsBy words) before after result i t
 
-missed_idle : (n : ℕ) (before after : Joined) → is_idle before.pen.standing ≡ true → Misses n before after → IdleStill before after
+pub missed_idle : (n : ℕ) (before after : Joined) → is_idle before.pen.standing ≡ true → Misses n before after → IdleStill before after
 missed_idle n before after i h = let m = has_missed_so n before after h in (m.queue, ap is_idle m.standing ∙ i)
 
 none_yet_idle : (words : ℕ) (before after : Joined) (line : ℕ) → TakesNoneYetBy words before line after → IdleStill before after

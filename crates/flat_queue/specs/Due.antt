@@ -1,9 +1,10 @@
 -- What a call makes of its member that takes the first item out once it is due, and waits for that.
-use Rattle.std.specs.Prelude.{◌≡◌, ℕ, ◌+◌, ◌*◌, ◌≤◌, Option, Some, None, Result, Ok, Err}
+use Rattle.std.specs.Prelude.{◌≡◌, ℕ, suc, ◌+◌, ◌*◌, ◌≤◌, Option, Some, None, Result, Ok, Err}
 use Rattle.std.specs.Time.{instant_nanos}
 use Rattle.std.specs.declared.time.Instant.{Instant}
 use Rattle.pq_types.specs.Item.{Item}
 use Rattle.flat_queue.specs.Members.{Joined}
+use Rattle.flat_queue.specs.Turns.{Misses}
 use Rattle.flat_queue.specs.Looking.{Looked, MissesThenLooksBy}
 use Rattle.flat_queue.specs.Taking.{Repeats, ended_look, LooksForBy, TakesSo}
 use Rattle.flat_queue.specs.declared.error.CallError.{CallError}
@@ -35,13 +36,17 @@ abbrev pub LeavesAllBy : ℕ → Joined → Joined → Type 0
 LeavesAllBy words before after =
     (wants : Wanted) × (told : Looked) × (ended_look told ≡ None) × MissesThenLooksBy words wants before told after
 
+-- the member made no request: it tried the lock, once or more often, and found it held each time
+abbrev pub FindsHeldOn : Joined → Joined → Type 0
+FindsHeldOn before after = (again : ℕ) × Misses (suc again) before after
+
 -- the member looked, and there was no item
 abbrev pub SeesEmptyBy : ℕ → Joined → Joined → Type 0
 SeesEmptyBy words before after = (wants : Wanted) × MissesThenLooksBy words wants before looked.Nothing after
 
 -- What a look for what is due came to. It took this item out, on this line, which was due at a time that the clock told before;
 -- or it was refused. Or it made no request, and the deadline has come at such a time: the first item, this one, was not due then,
--- or there was none. Or the clock can't be read, and it did not look.
+-- or there was none; or it found the lock held, and did not look. Or the clock can't be read, and it did not look.
 abbrev pub EndsDueBy : ℕ → (may_tell : Option Instant → Type 0) → Times → Option Instant → Joined → Result Due CallError → Joined → Type 0
 EndsDueBy words may_tell times deadline before (Ok (due.Taken number x now)) after =
     (wants : Wanted) × TakesSo (LooksForBy words wants) before (Ok (number, x)) after
@@ -51,6 +56,8 @@ EndsDueBy words may_tell times deadline before (Ok (due.Later x now)) after =
     × may_tell (Some now) × HasCome deadline now × ¬ (IsDueAt times now x.priority)
 EndsDueBy words may_tell times deadline before (Ok (due.Nothing now)) after =
     SeesEmptyBy words before after × may_tell (Some now) × HasCome deadline now
+EndsDueBy words may_tell times deadline before (Ok (due.Held now)) after =
+    FindsHeldOn before after × may_tell (Some now) × HasCome deadline now
 EndsDueBy words may_tell times deadline before (Ok due.NoClock) after = (after ≡ before) × may_tell None
 EndsDueBy words may_tell times deadline before (Err error) after =
     (wants : Wanted) × TakesSo (LooksForBy words wants) before (Err error) after

@@ -30,7 +30,7 @@ DueStepped = DueSteppedOf Item
 
 -- The member looked once for an item that is wanted. The look took one out, or was refused. Or it left all items there: then the
 -- call sleeps, or it ends where the deadline has come, or at the end of the queue where there was none. Or the member found the
--- lock held, and is to look again. Items have so many words.
+-- lock held, and is to look again, or ends where the deadline has come. Items have so many words.
 abbrev pub SightsOnceBy : ℕ → (late : Type 0) → Wanted → Joined → DueStepped → Joined → Type 0
 SightsOnceBy words late wants before (stepped.Ends (took.Taken number x)) after =
     TakesSo (LooksNowBy words wants) before (Ok (number, x)) after × IsWanted wants x.priority
@@ -38,6 +38,7 @@ SightsOnceBy words late wants before (stepped.Ends (took.Refused error)) after =
     TakesSo (LooksNowBy words wants) before (Err error) after
 SightsOnceBy words late wants before (stepped.Ends (took.Later x)) after = late × LooksFirstBy words wants before (looked.Stays x) after
 SightsOnceBy words late wants before (stepped.Ends took.Nothing) after = late × LooksFirstBy words wants before looked.Nothing after
+SightsOnceBy words late wants before (stepped.Ends took.Held) after = late × FindsHeldYet before after
 SightsOnceBy words late wants before (stepped.Ends took.Over) after = LooksFirstBy words wants before looked.Nothing after
 SightsOnceBy words late wants before (stepped.Goes stage.Announces) after = ⊥
 SightsOnceBy words late wants before (stepped.Goes (stage.Looks look)) after = FindsHeldYet before after
@@ -46,12 +47,13 @@ SightsOnceBy words late wants before (stepped.Goes (stage.Sleeps seen (Some x)))
 SightsOnceBy words late wants before (stepped.Goes (stage.Sleeps seen None)) after =
     LooksFirstBy words wants before looked.Nothing after
 
--- what a call comes back with that came to this, where the clock told this time before its last look
+-- what a call comes back with that came to this, where the clock told this time before its last step
 abbrev pub due_by : DueTook → Instant → Result (Option Due) CallError
 due_by (took.Taken number x) now = Ok (Some (due.Taken number x now))
 due_by (took.Refused error) now = Err error
 due_by (took.Later x) now = Ok (Some (due.Later x now))
 due_by took.Nothing now = Ok (Some (due.Nothing now))
+due_by took.Held now = Ok (Some (due.Held now))
 due_by took.Over now = Ok None
 
 -- the priority of an item that it leaves there is one of a machine word
@@ -60,6 +62,7 @@ IsShort (took.Taken number x) = ⊤
 IsShort (took.Refused error) = ⊤
 IsShort (took.Later x) = x.priority < 2 ^ 64
 IsShort took.Nothing = ⊤
+IsShort took.Held = ⊤
 IsShort took.Over = ⊤
 
 -- the stage is one of a look that goes on

@@ -1,5 +1,5 @@
 // A delay queue: a call that takes the first item out once it is due, and sleeps until then.
-ghost use Rattle.std.specs.Prelude.{◌≡◌, ℕ, ◌^◌, ◌<◌, ◌↔◌, true, Ok, Some, None};
+ghost use Rattle.std.specs.Prelude.{◌≡◌, ℕ, ◌^◌, ◌<◌, ◌↔◌, true, Ok, Some, None, IsSome};
 ghost use Rattle.desk_core.specs.Words.{word_number};
 ghost use Rattle.announce_board.specs.Tokens.{is_idle};
 ghost use Rattle.flat_queue.specs.declared.event_count.Wakes.TheVariants.{EventOrEnd};
@@ -32,6 +32,8 @@ pub enum Due<I = Item> {
     Later(I, Instant),
     /// The deadline came, at this time at the latest, and there was no item.
     Nothing(Instant),
+    /// The deadline came while another held the lock, and nothing was looked at since: this time is not before the deadline.
+    Held(Instant),
     /// The clock can't be read.
     NoClock,
 }
@@ -47,8 +49,9 @@ struct DueCall {
 impl<S: Store<Entry<P>>, P: Part> Queue<S, P> {
     /// Takes the first item out once it is due, by these times and this clock: the number of the pop's journal line, the item,
     /// and when the clock told that it was due. It announces itself, looks at the first item as `take_first` does, and sleeps
-    /// until that is due, or somebody has pushed, or until the deadline where it has one. A look in vain has no line. Where the
-    /// deadline has passed before, it looks once. Items that are due at one time come out in the order of their pushes.
+    /// until that is due, or somebody has pushed, or until the deadline where it has one. A look in vain has no line. The deadline
+    /// ends a wait for the lock too: where another holds that, the call is `Held`. Where the deadline has passed before, it tries
+    /// the lock once, and looks if it gets that. Items that are due at one time come out in the order of their pushes.
     ///
     /// All that wait at such a queue wait by this, or by `take_due_or_end`, and by the same times: one that goes wakes another,
     /// which looks at what is left. Refusals: `BookFull` (10), `Spent` (11). Takes memory for the pushes of others alone.
@@ -97,7 +100,7 @@ impl<S: Store<Entry<P>>, P: Part> Queue<S, P> {
     }
 
     // Such a call, by steps. It sleeps between its looks, or rests where it found the lock held, and reads the clock before each
-    // look. `None` at the end of the queue, where it heeds that.
+    // step. `None` at the end of the queue, where it heeds that.
     fn take_due_waking<R: Wait + TimeSource>(
         &self,
         rt: &R,
@@ -184,18 +187,20 @@ impl DueCall {
     }
 }
 
-// The time by which a look at this stage goes: a look that goes on keeps the one by which it began.
+// The time by which a step at this stage goes: the newest that the clock tells. Where that can't be read, a look that goes on keeps
+// the one by which it went.
 fn time_at<C: TimeSource, P: Part>(
     clock: &C,
     stage: DueStage<Item<P>>,
     now: Instant,
 ) -> Option<Instant>
     ensures told { C.may_tell clock.now (Some now) → C.may_tell clock.now result }
-    ensures keeps { IsLook stage → result ≡ Some now }
+    ensures keeps { IsLook stage → IsSome result }
 {
+    let newest = clock.time();
     match stage {
-        DueStage::Looks(_) => Some(now),
-        DueStage::Announces | DueStage::Sleeps(_, _) => clock.time(),
+        DueStage::Looks(_) => newest.or(Some(now)),
+        DueStage::Announces | DueStage::Sleeps(_, _) => newest,
     }
 }
 
@@ -220,6 +225,7 @@ fn due_by<P: Part>(took: DueTook<Item<P>>, now: Instant) -> Result<Option<Due<It
             Ok(Some(Due::Later(item, now)))
         }
         DueTook::Nothing => Ok(Some(Due::Nothing(now))),
+        DueTook::Held => Ok(Some(Due::Held(now))),
         DueTook::Over => Ok(None),
     }
 }

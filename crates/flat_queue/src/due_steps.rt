@@ -59,6 +59,8 @@ pub enum DueTook<I = Item> {
     Later(I),
     /// The deadline has come, and there was no item.
     Nothing,
+    /// The deadline has come while another held the lock.
+    Held,
     /// The queue is over, and there was no item.
     Over,
 }
@@ -133,8 +135,8 @@ impl<S: Store<Entry<P>>, P: Part> Queue<S, P> {
         self.step_sighting(member, now, look)
     }
 
-    // It is announced, and looks. One that leaves an item there, or is refused, hands a wake on, and so does one that has slept
-    // and takes an item: another was to wake for that, or for the next one.
+    // It is announced, and looks. One that leaves an item there, is refused, or goes where it found the lock held, hands a wake on,
+    // and so does one that has slept and takes an item: another was to wake for that, or for the next one.
     fn step_sighting(
         &self,
         member: &mut Member<S, P>,
@@ -150,7 +152,10 @@ impl<S: Store<Entry<P>>, P: Part> Queue<S, P> {
             return self.end_due(DueTook::Refused(CallError::Spent), true);
         }
         match self.take_first(member, now.wanted) {
-            None => DueStepped::Goes(DueStage::Looks(look)),
+            None => match now.left {
+                Left::Nothing => self.end_due(DueTook::Held, true),
+                Left::Enough => DueStepped::Goes(DueStage::Looks(look)),
+            },
             Some(Looked::Taken(number, item)) => {
                 self.end_due(DueTook::Taken(number, item), look.has_slept)
             }

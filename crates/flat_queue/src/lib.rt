@@ -53,8 +53,9 @@
 //!   from which stage it goes on. A take is to sleep only behind a step that announced it, looked, and found no item. The
 //!   takes here are loops over these steps, which rest and sleep between them, until a `Deadline`.
 //! - `Queue::take_due` is a delay queue, whose priorities are times (`Times`): it takes the first item out once it is due, and
-//!   sleeps until then. Only what it takes has a line. It is a loop over the steps of `Queue::step_due`, each of which looks once;
-//!   `Queue::leave_due` ends a call for what is due that takes no more of them.
+//!   sleeps until then, or until a deadline, which ends its wait for the lock too. Only what it takes has a line. It is a loop over
+//!   the steps of `Queue::step_due`, each of which tries the lock once; `Queue::leave_due` ends a call for what is due that takes no
+//!   more of them.
 //! - `TimeSource` is where these calls have the time from: each time that one of them tells is one that it may tell, also where
 //!   it says that none can be read. Each clock of the standard library is such a source.
 //! - `Queue::shut` ends the pushes of shared handles (the crate `queue_pool`) and of `Queue::push_unless_shut`, and wakes whoever

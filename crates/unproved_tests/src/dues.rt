@@ -107,6 +107,34 @@ fn a_deadline_ends_a_wait_for_what_is_due(rt: HostRuntime) -> Result<(), Fail> {
     Ok(())
 }
 
+// A call beside a thread that keeps the lock ends at its deadline, or by one try where that has passed. It has made no request,
+// hands a wake on, and leaves the item to a later call.
+#[test]
+fn a_deadline_ends_a_wait_for_the_lock(rt: HostRuntime) -> Result<(), Fail> {
+    let (queue, mut newcomers) = opened(&rt, rt.alloc(), &[1, 2]);
+    let mut leader = entered(&rt, &queue, &mut newcomers);
+    let mut handle = entered(&rt, &queue, &mut newcomers);
+    assert!(&rt; leader.push(&rt, item(0, 1)) == Ok(1));
+    let waiters = queue.waiters();
+    let seen = waiters.begin_wait();
+    let times = from_now(&rt);
+    let deadline = due_at(&rt, times, 30);
+    let lead = leader.lead().expect(&rt, "the lock is free");
+    let told = handle.take_due(&rt, times, Some(deadline));
+    let again = handle.take_due_or_end(&rt, times, Some(times.start));
+    leader.release(lead);
+    assert!(&rt; matches!(told, Ok(Due::Held(now)) if now >= deadline));
+    assert!(&rt; matches!(again, Ok(Some(Due::Held(now))) if now >= deadline));
+    assert!(&rt; handle.posts() == 0 && waiters.begin_wait() == seen + 2);
+    waiters.end_wait();
+    waiters.end_wait();
+    let told = handle.take_due(&rt, times, Some(deadline));
+    assert!(&rt; matches!(told, Ok(Due::Taken(2, taken, _)) if taken == item(0, 1)));
+    assert!(&rt; handle.settle() == Some(2));
+    is_awaited_by_nobody(&rt, &queue);
+    Ok(())
+}
+
 // A unit of no time, and times that no clock comes to.
 #[test]
 fn times_of_all_sizes_are_told(rt: HostRuntime) -> Result<(), Fail> {

@@ -66,6 +66,13 @@ impl<S: Store<Entry<P>>, P: Part> Queue<S, P> {
         }
     }
 
+    /// How many comers it was opened for.
+    pub fn comers(&self) -> usize
+        ensures { result ≡ self.now.comers }
+    {
+        self.grid.comers()
+    }
+
     /// The hint that somebody has posted since others were last served.
     pub fn hint(&self) -> &PostHint {
         &self.hint

@@ -36,6 +36,13 @@ impl<T: Fits> Model for Grid<T> {
 }
 
 impl<T: Fits> Grid<T> {
+    /// How many comers it was opened for.
+    pub fn comers(&self) -> usize
+        ensures { result ≡ self.now.comers }
+    {
+        self.comers
+    }
+
     /// Takes the next step of a comer on its way, exactly one event of the grid: the comer is
     /// afterwards what that one step makes of it. (That the step loads no further word, which
     /// would be no event, is read in the source.) Takes no memory, and never waits.

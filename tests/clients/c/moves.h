@@ -55,15 +55,15 @@ static void blame(int is_wrong, const char *why) {
     run.wrong = is_wrong && run.wrong == NULL ? why : run.wrong;
 }
 
-/* The steps of a push: the first one, and those of one that is posted. */
+/* The steps of a push: the first one, which posts where the lock is held, and those of one that has posted. Behind a round the answer is there. */
 static pq_code step_call(core *member, pq_item item, core_answer *answer) {
-    return pq_core_try_call(member, PQ_PUSH, item.priority, item.value, answer);
+    return pq_core_step_call(member, PQ_PUSH, item.priority, item.value, 1, answer);
 }
 
 static pq_code step_answer(core *member, core_answer *answer) {
-    pq_code code = pq_core_look(member, answer);
-    if (code == PQ_PENDING && pq_core_try_round(member) == PQ_OK) {
-        code = pq_core_look(member, answer);
+    pq_code code = pq_core_step_answer(member, answer);
+    if (code == PQ_PENDING) {
+        code = pq_core_step_answer(member, answer);
         answer->owes_wake = 1;
     }
     return code;
@@ -149,7 +149,7 @@ static void pushed(actor *it, pq_code code, const core_answer *answer, enum plac
         tell(answer->number, 1, it->item);
         go_on(it, answer->owes_wake != 0, DONE);
     } else {
-        blame(!(code == PQ_SHUT && run.is_shut) && !(code == LOCK_HELD && is_inside) && !(code == PQ_PENDING && is_inside), "the code of a push");
+        blame(!(code == PQ_SHUT && run.is_shut) && !((code == LOCK_HELD || code == HAS_POSTED) && is_inside), "the code of a push");
         it->at = code == PQ_SHUT ? DONE : otherwise;
     }
 }
@@ -177,7 +177,7 @@ static void step(actor *it, int who, core_answer *answer) {
     if (it->kind == 's') {
         shut(it);
     } else if (it->kind == 'p') {
-        pushed(it, step_call(&it->member, it->item, answer), answer, POSTS);
+        pushed(it, step_call(&it->member, it->item, answer), answer, LOOKS);
     } else {
         take(it, who);
     }

@@ -18,7 +18,6 @@ use Rattle.flat_queue.specs.OwnRequest.{CarriesOutBy}
 use Rattle.flat_queue.specs.Members.{Joined, StaysAtPlace}
 use Rattle.queue_pool.specs.Pool.{Pooled, TakesOutBy, StaysPool, NoneComesBy, inside, lists_of, with_member}
 use Rattle.flat_queue.specs.Settling.{Archives, Settles}
-use Rattle.queue_pool.specs.StillOpen.{IsHeldBesideFirst}
 use Rattle.flat_queue.specs.TrailSweeping.{MakesTrailRoundBy}
 use Rattle.leftist_heap.specs.Store.{first_of, rest_of}
 use Rattle.queue_c.specs.Values.{Told, IsOpened, IsClosed}
@@ -126,10 +125,6 @@ HasOut (Some opened) = inside opened < opened.most
 abbrev pub HasAllIn : Option Pooled → Type 0
 HasAllIn None = ⊥
 HasAllIn (Some opened) = inside opened ≡ opened.most
-
--- the lock is held beside the first member that came back idle, if there is one
-abbrev pub HeldIn : Pooled → Type 0
-HeldIn opened = IsHeldBesideFirst opened.queue opened.idle
 
 -- the queue was closed, and this is what is left of it
 abbrev pub Closing : Option Pooled → Option Told → Type 0

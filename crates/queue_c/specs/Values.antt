@@ -1,13 +1,13 @@
 -- What contracts see of an open queue and of lines of a journal.
-use Rattle.std.specs.Prelude.{◌≡◌, ℕ, ◌-◌, List, length, drop}
+use Rattle.std.specs.Prelude.{◌≡◌, ℕ, ◌-◌, List, ◌++◌, length, drop}
 use Rattle.pq_types.specs.Item.{Item}
 use Rattle.pq_types.specs.Asked.{Line}
 use Rattle.pq_types.specs.History.{left, IsLegal}
 use Rattle.pq_book.specs.Pages.{page_of}
 use Rattle.desk_core.specs.Desk.{volume}
-use Rattle.announce_board.specs.Opening.{IsHomeBook}
+use Rattle.flat_queue.specs.Closing.{ClosesAll}
 use Rattle.flat_queue.specs.Opening.{Opens}
-use Rattle.queue_pool.specs.Pool.{Pooled, HasCallsOf, all_new}
+use Rattle.queue_pool.specs.Pool.{Pooled, inside, all_new}
 
 -- the queue was opened for the comers of these ids, with this room, and all of them wait
 abbrev pub IsOpened : List ℕ → ℕ → Pooled → Type 0
@@ -19,14 +19,14 @@ pub record Told : Type 0 where
   pub lines : List Line
   pub items : List Item
 
--- The journal is that of the Book at home at a desk with the room of this pool's queue, a legal history; of the idle member
--- that came back first it has exactly the calls. These are its lines behind so many: as many as are kept of one with this
+-- The journal is that of the Book which the pool's queue leaves, closed with all its members: a legal history, that has exactly the
+-- calls of each idle one, and no line of another place. These are its lines behind so many: as many as are kept of one with this
 -- room, all of a short one. This content is what its requests leave.
 pub record IsClosed (pool : Pooled) (before : ℕ) (lines : List Line) (content : List Item) : Type 0 where
   pub journal : List Line
-  pub book : IsHomeBook pool.queue.room (volume pool.queue.room journal)
+  pub closes : ClosesAll pool.queue (pool.idle ++ pool.waiting) (volume pool.queue.room journal)
+  pub whole : inside pool ≡ pool.queue.comers
   pub legal : IsLegal journal
-  pub calls : HasCallsOf pool.idle journal
   pub forgotten : before ≡ length journal - page_of pool.queue.room
   pub kept : lines ≡ drop before journal
   pub items : content ≡ left journal

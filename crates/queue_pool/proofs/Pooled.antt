@@ -8,12 +8,12 @@ use Rattle.std.specs.List.{All}
 use Rattle.pq_types.specs.Asked.{Answer}
 use Rattle.announce_board.specs.Tokens.{is_idle}
 use Rattle.announce_board.specs.Asking.{LooksBy}
-use Rattle.flat_queue.specs.Members.{Joined, StaysAtPlace}
+use Rattle.flat_queue.specs.Members.{QueueName, Joined, StaysAtPlace}
 use Rattle.flat_queue.specs.Turns.{LeadsBy, FindsLockHeld, LooksInVainBy}
 use Rattle.flat_queue.specs.TrailSweeping.{MakesTrailRoundBy}
-use Rattle.queue_pool.specs.Pool.{FindsAnswerBy, AllInVainBy, FirstInVainBy, FirstAnsweredBy, AskedInVainBy, FirstToldBy, FirstLedBy, FirstFoundHeld}
+use Rattle.queue_pool.specs.Pool.{IsIdleAt, WaitsAt, FindsAnswerBy, AllInVainBy, FirstInVainBy, FirstAnsweredBy, AskedInVainBy, FirstToldBy, FirstLedBy, FirstFoundHeld}
 use Rattle.flat_queue.specs.declared.combining.Round.{Round}
-use Rattle.std.proofs.lemmas.List.Elements.{All-drop, All-push}
+use Rattle.std.proofs.lemmas.List.Elements.{All-append, All-drop, All-push, All-weaker}
 
 -- by the clause of `pop_front` on the items
 pub all_pop_front : {X : Type 0} (P : X → Type 0) (xs ys : List X) (r : Option X) → xs ≡ option_to_list r ++ ys → All P xs → All P ys × IfSome r P
@@ -117,3 +117,17 @@ told_on words (w ∷ ahead) others xs ys zs turns r some first behind e n =
 -- all that wait were asked in vain
 pub all_asked : (words : ℕ) (xs zs : List Joined) → AskedInVainBy words xs [] zs → AllInVainBy words xs zs
 all_asked words xs zs h = subst (AllInVainBy words xs) (sym h.stand) h.in_vain
+
+-- the members of a pool are of its queue, and none of them leads
+pub all_members : (here queue : QueueName) (idle waiting members : List Joined) → here ≡ queue → All (IsIdleAt queue) idle → All (WaitsAt queue) waiting
+    → members ≡ idle ++ waiting → All (λ (m : Joined). m.queue ≡ here) members × All (λ (m : Joined). m.pen.leading ≡ false) members
+all_members here queue idle waiting members same are wait e =
+    let of_queue = λ (m : Joined). m.queue ≡ here in
+    let led_not = λ (m : Joined). m.pen.leading ≡ false in
+    (
+      subst (All of_queue) (sym e)
+      (All-append of_queue idle waiting
+      (All-weaker (IsIdleAt queue) of_queue (λ m h. h.0 ∙ sym same) idle are) (All-weaker (WaitsAt queue) of_queue (λ m h. h.0 ∙ sym same) waiting wait)),
+      subst (All led_not) (sym e)
+      (All-append led_not idle waiting (All-weaker (IsIdleAt queue) led_not (λ m h. h.2) idle are) (All-weaker (WaitsAt queue) led_not (λ m h. h.2) waiting wait)),
+    )

@@ -1,9 +1,6 @@
 -- What a pool of members has, and what its calls make of it.
 use Rattle.std.specs.Prelude.{◌≡◌, ℕ, ◌+◌, ◌⊎◌, Bool, true, false, List, [], ◌∷◌, ◌++◌, length, Some}
 use Rattle.pq_types.specs.Asked.{Answer}
-use Rattle.pq_types.specs.Asked.{Line}
-use Rattle.desk_core.specs.Calls.{calls_of}
-use Rattle.desk_core.specs.Knows.{Knows}
 use Rattle.announce_board.specs.Tokens.{is_idle}
 use Rattle.announce_board.specs.Asking.{LooksBy}
 use Rattle.flat_queue.specs.Members.{QueueName, Coming, Joined, Joins, StaysAtPlace}
@@ -26,13 +23,13 @@ all_new queue newcomers = record { queue = queue; newcomers = newcomers; idle = 
 abbrev pub inside : Pooled → ℕ
 inside p = length p.newcomers + length p.idle + length p.waiting
 
--- the member is an idle one of this queue
+-- the member is an idle one of this queue, and does not lead
 abbrev pub IsIdleAt : QueueName → Joined → Type 0
-IsIdleAt queue m = (m.queue ≡ queue) × (is_idle m.pen.standing ≡ true)
+IsIdleAt queue m = (m.queue ≡ queue) × (is_idle m.pen.standing ≡ true) × (m.pen.leading ≡ false)
 
--- the member is one of this queue that waits for an answer
+-- the member is one of this queue that waits for an answer, and does not lead
 abbrev pub WaitsAt : QueueName → Joined → Type 0
-WaitsAt queue m = (m.queue ≡ queue) × (is_idle m.pen.standing ≡ false)
+WaitsAt queue m = (m.queue ≡ queue) × (is_idle m.pen.standing ≡ false) × (m.pen.leading ≡ false)
 
 -- the member has waited at its place, and its look found an answer; here, and in all that follows, items have so many words
 abbrev pub FindsAnswerBy : ℕ → Joined → Joined → Type 0
@@ -166,11 +163,6 @@ and_waiting false ms m = ms ++ m ∷ []
 abbrev pub with_member : Pooled → Joined → Pooled
 with_member p m =
     record p { idle = and_idle (is_idle m.pen.standing) p.idle m; waiting = and_waiting (is_idle m.pen.standing) p.waiting m }
-
--- of the idle member that came back first, if there is one, the journal has exactly its calls
-abbrev pub HasCallsOf : List Joined → List Line → Type 0
-HasCallsOf [] journal = Unit {0}
-HasCallsOf (m ∷ others) journal = Knows m.queue.room m.pen journal × (calls_of m.pen.place journal ≡ m.pen.mine)
 
 -- The same of narrow items, which have one word.
 abbrev pub ComesOut : (before : Lists) (m : Joined) (after : Lists) → Type 0

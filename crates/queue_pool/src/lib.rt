@@ -8,8 +8,8 @@
 //!   may wait for in steps, each of which announces it before it looks.
 //! - `Pool` has the members of a queue that nobody has: it hands out those that came back before it lets a
 //!   newcomer join, so that a queue has so many members at once, and not in all its life.
-//! - `Pool::close` and `Pool::close_with` give the Book of a queue that nobody else shares; the Book has exactly the calls
-//!   of the idle member that came back first, or of the one that was handed in.
+//! - `Pool::close` closes a queue that nobody else shares with all its members, and is never refused once all are back: the
+//!   Book has exactly the calls of each idle member, and no line of another place.
 //!
 //! Only `Pool::of`, an archive, and what carries out a push take memory. No call waits, and none wakes: those that led
 //! count who may be woken, and their caller wakes them, by the event count that `SharedHandle::waiters` gives.
@@ -21,7 +21,7 @@ pub mod shared;
 pub mod taking;
 
 pub use calling::{AnswerStep, CallStep};
-pub use pool::{NotTaken, OpenWith, Pool, StillOpen};
+pub use pool::{NotTaken, Pool, StillOpen};
 pub use shared::{
     NotPosted, Seen, SharedHandle, Tried, TriedBatch, TriedCount, TriedFirst, TriedPush,
 };

@@ -1,23 +1,20 @@
 // The members of a queue that nobody has: those that have not joined yet, and those that came back.
 ghost use Rattle.std.specs.Prelude.{◌≡◌, ◌+◌, ◌<◌, ◌≤◌, List, ◌++◌, ◌∷◌, [], length};
-ghost use Rattle.std.specs.Prelude.{true, false, IfOk, IfErr, IfSome, IfNone, Err};
-ghost use Rattle.std.specs.Option.{option_to_list};
+ghost use Rattle.std.specs.Prelude.{true, false, IfOk, OnOk, IfErr, IfSome, IfNone, Err};
 ghost use Rattle.std.specs.List.{All};
 ghost use Rattle.std.specs.Arc.{arc_value};
 ghost use Rattle.std.specs.VecDeque.{deque_len, deque_capacity};
 ghost use Rattle.pq_types.specs.Control.{is_answer};
 ghost use Rattle.desk_core.specs.Words.{word_number};
-ghost use Rattle.announce_board.specs.Tokens.{is_idle};
-ghost use Rattle.announce_board.specs.Opening.{IsHomeBook, IsHomeWith};
+ghost use Rattle.flat_queue.specs.Closing.{ClosesAll};
 ghost use Rattle.flat_queue.specs.Members.{Joined};
 ghost use Rattle.flat_queue.specs.Turns.{LeadsBy, FindsLockHeld};
-ghost use Rattle.queue_pool.specs.Pool.{HasCallsOf, IsIdleAt, WaitsAt, FirstInVainBy, FirstAnsweredBy};
+ghost use Rattle.queue_pool.specs.Pool.{IsIdleAt, WaitsAt, FirstInVainBy, FirstAnsweredBy};
 ghost use Rattle.queue_pool.specs.Pool.{AskedInVainBy, FirstToldBy, FirstLedBy, FirstFoundHeld, ComesOutBy};
 ghost use Rattle.queue_pool.specs.Pool.{NoneComesBy, TakesOutBy, StaysPool, all_new, inside, lists_of, with_member};
-ghost use Rattle.queue_pool.specs.StillOpen.{IsHeldBesideFirst, IsStillOpen, IsOpenWith};
+ghost use Rattle.queue_pool.specs.StillOpen.{IsStillOpen};
 
 use crate::shared::SharedHandle;
-use announce_board::LockHeld;
 use flat_queue::{EventCount, Member, Newcomer, Queue};
 use leftist_heap::Store;
 use pq_book::{Book, Entry};
@@ -64,23 +61,12 @@ impl<S: Store<Entry<P>>, P: Part> Model for Pool<S, P> {
         × (p.most ≤ deque_capacity p.waiting) };
 }
 
-/// Why a queue was not closed.
+/// Why a queue was not closed: here is the pool again.
 pub enum StillOpen<S: Store<Entry<P>>, P: Part = u32> {
-    /// There are other shares of it: here is the pool again.
+    /// Not all comers are inside: a member is out, or was dropped there.
+    Missing(Pool<S, P>),
+    /// All are, and there are other shares of it.
     Shared(Pool<S, P>),
-    /// A member leads.
-    LockHeld,
-}
-
-/// Why a queue was not closed by a member.
-pub enum OpenWith<S: Store<Entry<P>>, P: Part = u32> {
-    /// There are other shares of it: here are the pool and the member again.
-    Shared(Pool<S, P>, SharedHandle<S, P>),
-    /// Another share came up after these were counted, as of a member that is of another queue: here is the pool
-    /// again. The member has left.
-    Left(Pool<S, P>),
-    /// A member leads.
-    LockHeld,
 }
 
 /// Why no member comes out of a pool.
@@ -257,21 +243,18 @@ fn next<S: Store<Entry<P>>, P: Part>(
     told_by_round(queue, waiting)
 }
 
-// Closes the queue, by the member where there is one.
-#[tactic(auto, using(crate::proofs::Homes::home_of))]
-fn close_by<S: Store<Entry<P>>, P: Part>(
-    queue: Queue<S, P>,
-    member: Option<Member<S, P>>,
-) -> Result<Book<S, Global, P>, LockHeld>
-    requires here { IfSome member (IsIdleAt queue) }
-    ensures ok { IfOk result (λ book. IsHomeBook queue.room book) }
-    ensures calls { IfOk result (λ book. HasCallsOf (option_to_list member) book.journal) }
-    ensures err { IfErr result (λ _. IsHeldBesideFirst queue (option_to_list member)) }
+// The idle members, and behind them those that wait. The room of the idle ones has been taken for all.
+fn all_back<S: Store<Entry<P>>, P: Part>(
+    mut idle: VecDeque<Member<S, P>>,
+    mut waiting: VecDeque<Member<S, P>>,
+) -> Vec<Member<S, P>>
+    requires room { deque_len idle + deque_len waiting ≤ deque_capacity idle }
+    ensures { result.items ≡ idle.items ++ waiting.items }
 {
-    match member {
-        Some(member) => queue.close_with(member),
-        None => queue.close(),
-    }
+    let Ok(()) = idle.append(&mut waiting) else {
+        unreachable!()
+    };
+    idle.into_vec()
 }
 
 impl<S: Store<Entry<P>>, P: Part> Pool<S, P> {
@@ -359,56 +342,18 @@ impl<S: Store<Entry<P>>, P: Part> Pool<S, P> {
         }
     }
 
-    /// Closes the queue, which nobody outside the pool shares any more: the Book. Of the idle member that
-    /// came back first it has exactly the calls. `Shared`, with the pool as it was, where somebody
-    /// shares it, and `LockHeld` where a member leads: at a queue of one place that member.
+    /// Closes the queue with all its members and those comers that have not joined: the Book. Of each idle member it has
+    /// exactly the calls, of each that waits at most the entered answer more, and no line of another place. `Missing`, with the
+    /// pool as it was, exactly where not all comers are inside: a member is out, or was dropped there. `Shared`, with the pool as
+    /// it was, where all are inside, and somebody else shares the queue. Takes no memory, and never waits.
     pub fn close(self) -> Result<Book<S, Global, P>, StillOpen<S, P>>
-        ensures ok { IfOk result (λ book. IsHomeBook self.queue.room book) }
-        ensures calls { IfOk result (λ book. HasCallsOf self.idle book.journal) }
+        ensures ok { IfOk result (ClosesAll self.queue (self.idle ++ self.waiting)) }
+        ensures all { OnOk result (inside self ≡ self.queue.comers) }
         ensures err { IfErr result (IsStillOpen self) }
     {
-        let Pool {
-            queue,
-            newcomers,
-            mut idle,
-            waiting,
-            most,
-        } = self;
-        let queue = match Arc::try_unwrap(queue) {
-            Ok(queue) => queue,
-            Err(queue) => {
-                return Err(StillOpen::Shared(Pool {
-                    queue,
-                    newcomers,
-                    idle,
-                    waiting,
-                    most,
-                }));
-            }
-        };
-        match close_by(queue, idle.pop_front()) {
-            Ok(book) => Ok(book),
-            Err(_) => Err(StillOpen::LockHeld),
+        if self.inside() != self.queue.comers() {
+            return Err(StillOpen::Missing(self));
         }
-    }
-
-    /// Closes the queue by this idle member, with which nobody outside the pool shares it: the Book. Its journal
-    /// begins with what the member knew, and of the member it has exactly the calls. `Shared`, with the pool and the
-    /// member as they were, where somebody shares it, and `LockHeld` where a member leads: at a queue of one place this.
-    pub fn close_with(
-        self,
-        member: SharedHandle<S, P>,
-    ) -> Result<Book<S, Global, P>, OpenWith<S, P>>
-        requires queue { member.queue ≡ self.queue }
-        requires idle { is_idle member.pen.standing ≡ true }
-        ensures ok { IfOk result (λ book. IsHomeWith self.queue.room member.pen book) }
-        ensures calls { IfOk result (λ book. HasCallsOf (member ∷ []) book.journal) }
-        ensures err { IfErr result (IsOpenWith self member) }
-    {
-        if Arc::strong_count(&self.queue) != 2 {
-            return Err(OpenWith::Shared(self, member));
-        }
-        let (_, member) = member.into_parts();
         let Pool {
             queue,
             newcomers,
@@ -416,21 +361,15 @@ impl<S: Store<Entry<P>>, P: Part> Pool<S, P> {
             waiting,
             most,
         } = self;
-        let queue = match Arc::try_unwrap(queue) {
-            Ok(queue) => queue,
-            Err(queue) => {
-                return Err(OpenWith::Left(Pool {
-                    queue,
-                    newcomers,
-                    idle,
-                    waiting,
-                    most,
-                }));
-            }
-        };
-        match queue.close_with(member) {
-            Ok(book) => Ok(book),
-            Err(_) => Err(OpenWith::LockHeld),
+        match Arc::try_unwrap(queue) {
+            Ok(queue) => Ok(queue.close_all(all_back(idle, waiting), newcomers.into_vec())),
+            Err(queue) => Err(StillOpen::Shared(Pool {
+                queue,
+                newcomers,
+                idle,
+                waiting,
+                most,
+            })),
         }
     }
 }

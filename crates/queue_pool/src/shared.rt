@@ -28,8 +28,8 @@ use std::sync::Arc;
 
 /// A member with a share of its queue, for a thread that may outlive whoever opened the queue. It is
 /// idle, or waits for the answer to its last post, and its calls see which: where a `Handle` and a
-/// `Pending` say it by their types, this says it when it runs. A contract sees of it what it sees of
-/// its member.
+/// `Pending` say it by their types, this says it when it runs. It leads within its calls alone. A contract sees of it what it
+/// sees of its member.
 #[derive(Drop)]
 pub struct SharedHandle<S: Store<Entry<P>>, P: Part = u32> {
     pub(crate) queue: Arc<Queue<S, P>, Global>,
@@ -38,7 +38,7 @@ pub struct SharedHandle<S: Store<Entry<P>>, P: Part = u32> {
 }
 
 impl<S: Store<Entry<P>>, P: Part> Model for SharedHandle<S, P> {
-    ghost use Rattle.std.specs.Prelude.{◌≡◌};
+    ghost use Rattle.std.specs.Prelude.{◌≡◌, false};
     ghost use Rattle.std.specs.Arc.{arc_value};
     ghost use Rattle.flat_queue.specs.Members.{Joined};
 
@@ -46,7 +46,7 @@ impl<S: Store<Entry<P>>, P: Part> Model for SharedHandle<S, P> {
 
     ghost view = { λ h. h.member };
 
-    ghost invariant = { λ h. h.member.queue ≡ arc_value h.queue };
+    ghost invariant = { λ h. (h.member.queue ≡ arc_value h.queue) × (h.member.pen.leading ≡ false) };
 }
 
 /// Why a request was not posted.
@@ -135,9 +135,10 @@ pub enum TriedPush<I = Item> {
 }
 
 impl<S: Store<Entry<P>>, P: Part> SharedHandle<S, P> {
-    /// The member of this queue, with the share.
-    pub fn of(queue: Arc<Queue<S, P>, Global>, member: Member<S, P>) -> SharedHandle<S, P>
+    // The member of this queue, which does not lead, with the share.
+    pub(crate) fn of(queue: Arc<Queue<S, P>, Global>, member: Member<S, P>) -> SharedHandle<S, P>
         requires queue { member.queue ≡ arc_value queue }
+        requires led_not { member.pen.leading ≡ false }
         ensures { result ≡ member }
     {
         SharedHandle {
@@ -367,10 +368,11 @@ impl<S: Store<Entry<P>>, P: Part> SharedHandle<S, P> {
         self.queue.archive(&mut self.member, archived, archive)
     }
 
-    /// The member, and its share of the queue. It waits for no item any more.
+    /// The member, which does not lead, and its share of the queue. It waits for no item any more.
     pub fn into_parts(mut self) -> (Arc<Queue<S, P>, Global>, Member<S, P>)
         ensures queue { arc_value result.0 ≡ self.queue }
         ensures member { result.1 ≡ self }
+        ensures led_not { result.1.pen.leading ≡ false }
     {
         self.end_take();
         let SharedHandle {

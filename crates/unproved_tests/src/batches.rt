@@ -1,5 +1,5 @@
 // Batches of pushes and pops: their sizes, memory that is refused, shared handles, the end of a queue, and whom they wake.
-use crate::common::{Heap, entered, item, opened};
+use crate::common::{Heap, entered, item, opened, shared};
 use flat_queue::{Batch, CallError, Handle, MOST_BATCH, Member, Newcomer, Queue};
 use leftist_heap::{AnyStore, Store, StoreKind};
 use pq_book::Entry;
@@ -195,9 +195,7 @@ fn a_shared_handle_tries_batches(rt: HostRuntime) -> Result<(), Fail> {
         panic!(&rt; "there is memory")
     };
     let other = newcomers.pop().expect(&rt, "there is a second");
-    let own = newcomers.pop().expect(&rt, "there is a first");
-    let member = queue.join(own);
-    let mut handle = SharedHandle::of(queue.clone()?, member);
+    let mut handle = shared(&rt, rt.alloc(), &queue, newcomers);
     tries(&rt, &queue, &mut handle, other);
     drop(handle);
     drop(queue);

@@ -1,10 +1,12 @@
-// What tests of threads share: waiting for another thread, and a queue over a leftist heap.
+// What tests share: waiting for another thread, a queue over a leftist heap, and a shared handle of one newcomer.
 use flat_queue::{Handle, Newcomer, Queue};
-use leftist_heap::Leftist;
+use leftist_heap::{Leftist, Store};
 use pq_book::Entry;
 use pq_types::Item;
+use queue_pool::{Pool, SharedHandle};
 use std::alloc::Global;
 use std::process::Abort;
+use std::sync::Arc;
 use std::sync::atomic::{AtomicBool, Ordering};
 use std::thread;
 
@@ -44,4 +46,24 @@ pub fn entered<'q, R: Abort>(
     newcomers: &mut Vec<Newcomer>,
 ) -> Handle<'q, Heap> {
     queue.enter(newcomers.pop().expect(rt, "there is one"))
+}
+
+/// A shared handle of the first of these newcomers, which comes out of a pool.
+pub fn shared<S: Store<Entry>, R: Abort>(
+    rt: &R,
+    alloc: Global,
+    queue: &Arc<Queue<S>, Global>,
+    newcomers: Vec<Newcomer>,
+) -> SharedHandle<S> {
+    let Ok(queue) = Arc::try_clone(queue) else {
+        panic!(rt; "it has few owners")
+    };
+    let Ok(mut pool) = Pool::of(alloc, queue, newcomers) else {
+        panic!(rt; "there is memory")
+    };
+    let Ok(handle) = pool.take() else {
+        panic!(rt; "it is in the pool")
+    };
+    drop(pool);
+    handle
 }

@@ -1,5 +1,5 @@
 // A count of the items under the lock, and a push that is refused exactly where as many are there as the bound.
-use crate::common::{Heap, item, opened};
+use crate::common::{Heap, item, opened, shared};
 use flat_queue::{Counts, Newcomer, Queue, Unpushed};
 use pq_types::{Answer, Reply, Request};
 use queue_pool::{SharedHandle, TriedCount, TriedPush};
@@ -91,9 +91,7 @@ fn a_shared_handle_counts_and_pushes_within_a_bound(rt: HostRuntime) -> Result<(
         panic!(&rt; "there is memory")
     };
     let other = newcomers.pop().expect(&rt, "there is a second");
-    let own = newcomers.pop().expect(&rt, "there is a first");
-    let member = queue.join(own);
-    let mut handle = SharedHandle::of(queue.clone()?, member);
+    let mut handle = shared(&rt, rt.alloc(), &queue, newcomers);
     tries(&rt, &queue, &mut handle, other);
     drop(handle);
     drop(queue);

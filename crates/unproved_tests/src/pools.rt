@@ -1,9 +1,9 @@
-// How the queue of a pool is closed, and by its last member: no clause says that it ever is.
+// How the queue of a pool is closed: no clause says that it ever is.
 use flat_queue::{Queue, Shut};
 use leftist_heap::Leftist;
 use pq_book::{Book, Entry};
 use pq_types::{Answer, Item, Reply, Request};
-use queue_pool::{CallStep, NotPosted, OpenWith, Pool, Seen, SharedHandle, StillOpen};
+use queue_pool::{CallStep, NotPosted, Pool, Seen, SharedHandle, StillOpen};
 use std::alloc::Global;
 use std::process::Abort;
 use std::sync::Arc;
@@ -45,36 +45,43 @@ fn pushes<R: Abort>(rt: &R, member: &mut SharedHandle<Heap>) {
     assert!(rt; member.is_idle());
 }
 
-// The pool whose queue stays open, as another shares it.
-fn still_shared<R: Abort>(
-    rt: &R,
-    closed: Result<Book<Heap, Global>, StillOpen<Heap>>,
-) -> Pool<Heap> {
+// How many lines the queue has that is closed.
+fn lines_of<R: Abort>(rt: &R, closed: Result<Book<Heap, Global>, StillOpen<Heap>>) -> u64 {
     match closed {
-        Err(StillOpen::Shared(pool)) => pool,
-        Err(StillOpen::LockHeld) => panic!(rt; "the lock is free"),
         Ok(book) => {
+            let lines = book.len();
             drop(book);
-            panic!(rt; "another is out")
+            lines
+        }
+        Err(StillOpen::Missing(pool)) => {
+            drop(pool);
+            panic!(rt; "all are back")
+        }
+        Err(StillOpen::Shared(pool)) => {
+            drop(pool);
+            panic!(rt; "nobody shares it")
         }
     }
 }
 
-// The same, with the member by which it was to be closed.
-fn both_back<R: Abort>(
+// The pool whose queue stays open, as one of its comers is not inside; or as another shares it.
+fn still_open<R: Abort>(
     rt: &R,
-    closed: Result<Book<Heap, Global>, OpenWith<Heap>>,
-) -> (Pool<Heap>, SharedHandle<Heap>) {
+    closed: Result<Book<Heap, Global>, StillOpen<Heap>>,
+    is_missing: bool,
+) -> Pool<Heap> {
     match closed {
-        Err(OpenWith::Shared(pool, member)) => (pool, member),
-        Err(OpenWith::Left(pool)) => {
-            drop(pool);
-            panic!(rt; "the member has left")
+        Err(StillOpen::Missing(pool)) => {
+            assert!(rt; is_missing);
+            pool
         }
-        Err(OpenWith::LockHeld) => panic!(rt; "the lock is free"),
+        Err(StillOpen::Shared(pool)) => {
+            assert!(rt; !is_missing);
+            pool
+        }
         Ok(book) => {
             drop(book);
-            panic!(rt; "another is out")
+            panic!(rt; "it is not to be closed")
         }
     }
 }
@@ -85,47 +92,57 @@ fn a_pool_is_closed_once_all_are_back(rt: HostRuntime) -> Result<(), Fail> {
     let mut pool = pool_of(&rt, rt.alloc(), &[1, 2]);
     let mut member = taken(&rt, &mut pool);
     pushes(&rt, &mut member);
-    let mut pool = still_shared(&rt, pool.close());
+    let mut pool = still_open(&rt, pool.close(), true);
     pool.give_back(member);
-    match pool.close() {
-        Ok(book) => {
-            assert!(rt; book.len() == 1);
-            drop(book);
-        }
-        Err(StillOpen::Shared(pool)) => {
-            drop(pool);
-            panic!(rt; "none is out")
-        }
-        Err(StillOpen::LockHeld) => panic!(rt; "the lock is free"),
+    assert!(&rt; lines_of(&rt, pool.close()) == 1);
+    Ok(())
+}
+
+// Also with members that wait: a post that was answered has its line, and one that wasn't has none.
+#[test]
+fn a_pool_is_closed_with_members_that_wait(rt: HostRuntime) -> Result<(), Fail> {
+    let push = Request::Push(Item {
+        priority: 5,
+        value: 1,
+    });
+    for (served, lines) in [(false, 0), (true, 1)] {
+        let mut pool = pool_of(&rt, rt.alloc(), &[1, 2, 3]);
+        let (mut member, mut other) = (taken(&rt, &mut pool), taken(&rt, &mut pool));
+        assert!(&rt; member.post(push).is_ok());
+        assert!(&rt; !served || other.try_trail_round().is_some());
+        pool.give_back(member);
+        pool.give_back(other);
+        assert!(&rt; lines_of(&rt, pool.close()) == lines);
     }
     Ok(())
 }
 
-// A member doesn't close its queue while another is out, and is as it was; and closes it then.
+// A member that is dropped outside never comes back: the queue stays open, and the others go on.
 #[test]
-fn a_queue_is_closed_by_its_last_member(rt: HostRuntime) -> Result<(), Fail> {
+fn a_pool_is_not_closed_without_a_member_that_was_dropped(rt: HostRuntime) -> Result<(), Fail> {
     let mut pool = pool_of(&rt, rt.alloc(), &[1, 2]);
-    let mut last = taken(&rt, &mut pool);
-    let other = taken(&rt, &mut pool);
-    pushes(&rt, &mut last);
-    let (pool, last) = both_back(&rt, pool.close_with(last));
-    drop(other);
-    match pool.close_with(last) {
-        Ok(book) => {
-            assert!(rt; book.len() == 1);
-            drop(book);
-        }
-        Err(OpenWith::Shared(pool, last)) => {
-            drop(pool);
-            drop(last);
-            panic!(rt; "none is out but this one")
-        }
-        Err(OpenWith::Left(pool)) => {
-            drop(pool);
-            panic!(rt; "the member has left")
-        }
-        Err(OpenWith::LockHeld) => panic!(rt; "the lock is free"),
-    }
+    drop(taken(&rt, &mut pool));
+    let mut pool = still_open(&rt, pool.close(), true);
+    let mut other = taken(&rt, &mut pool);
+    pushes(&rt, &mut other);
+    pool.give_back(other);
+    assert!(&rt; pool.out() == 1);
+    drop(still_open(&rt, pool.close(), true));
+    Ok(())
+}
+
+// Nor is one while another shares its queue, though all are inside.
+#[test]
+fn a_pool_is_not_closed_while_another_shares_its_queue(rt: HostRuntime) -> Result<(), Fail> {
+    let (queue, newcomers) = Queue::new(rt.alloc(), &[1, 2], 16)?;
+    let Ok(queue) = Arc::new(rt.alloc(), queue) else {
+        panic!(&rt; "there is memory")
+    };
+    let share = queue.clone()?;
+    let pool = Pool::of(rt.alloc(), queue, newcomers)?;
+    let pool = still_open(&rt, pool.close(), false);
+    drop(share);
+    assert!(&rt; lines_of(&rt, pool.close()) == 0);
     Ok(())
 }
 

@@ -1,5 +1,5 @@
 // Removals and moves by ticket: by a member, by a shared handle, beside a lead that is kept, and where the journal is full.
-use crate::common::item;
+use crate::common::{item, shared};
 use flat_queue::{CallError, Newcomer, Queue};
 use leftist_heap::{GlobalPlaces, TicketHeap};
 use pq_book::Entry;
@@ -74,9 +74,7 @@ fn a_shared_handle_moves_and_removes_in_a_queue_that_is_shut(rt: HostRuntime) ->
         panic!(&rt; "there is memory")
     };
     let other = newcomers.pop().expect(&rt, "there is a second");
-    let own = newcomers.pop().expect(&rt, "there is a first");
-    let member = queue.join(own);
-    let mut handle = SharedHandle::of(queue.clone()?, member);
+    let mut handle = shared(&rt, rt.alloc(), &queue, newcomers);
     tries(&rt, &queue, &mut handle, other);
     drop(handle);
     drop(queue);

@@ -1,5 +1,5 @@
 // Pops of what is due: by a shared handle, and beside a lead that is kept, where they wait and post nothing.
-use crate::common::{Heap, wait_for};
+use crate::common::{Heap, shared, wait_for};
 use flat_queue::{Newcomer, Queue, UpTo};
 use pq_types::{Answer, Item, Reply, Request};
 use queue_pool::{CallStep, SharedHandle, Tried};
@@ -110,9 +110,7 @@ fn a_shared_handle_tries_to_pop_up_to_a_bound(rt: HostRuntime) -> Result<(), Fai
         panic!(rt; "there is memory")
     };
     let other = newcomers.pop().expect(&rt, "there is a second");
-    let own = newcomers.pop().expect(&rt, "there is a first");
-    let member = queue.join(own);
-    let mut handle = SharedHandle::of(queue.clone()?, member);
+    let mut handle = shared(&rt, rt.alloc(), &queue, newcomers);
     tries(&rt, &queue, &mut handle, other);
     drop(handle);
     drop(queue);

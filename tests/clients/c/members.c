@@ -84,6 +84,21 @@ static void the_only_one_is_joined_again(void) {
     close_and_free(one);
 }
 
+/* A queue closes with a member that was given back with a request posted. That has an entry where another thread answered it. */
+static void closes_with_one_that_waits(void) {
+    for (uint64_t served = 0; served < 2; served++) {
+        pq_queue *two = opened(2);
+        pq_member *first = joined(two), *second = joined(two);
+        CHECK(pq_post(first, PQ_PUSH, item_of(3, 4)) == PQ_OK);
+        CHECK(served == 0 || pq_combine(second) == PQ_OK);
+        pq_give_back(first);
+        pq_give_back(second);
+        pq_journal *journal = closed(two);
+        CHECK(pq_count(journal, NULL) == served);
+        pq_journal_free(journal);
+    }
+}
+
 /* A member that was joined here makes its calls there. */
 static void *pushes_and_posts(void *member) {
     CHECK(pq_push((pq_member *)member, item_of(1, 2), PQ_FOREVER, NULL) == PQ_OK);
@@ -183,6 +198,7 @@ static void all_is_left_open(void) {
 int main(void) {
     threads_come_and_go();
     the_only_one_is_joined_again();
+    closes_with_one_that_waits();
     members_move_between_threads();
     a_freed_queue_goes_with_its_last_member();
     a_freed_queue_leaves_its_items();

@@ -281,7 +281,10 @@ fn a_pool_hands_out_a_member_of_a_wide_queue(rt: HostRuntime) -> Result<(), Fail
             assert!(&rt; book.len() == 4);
             drop(book);
         }
-        Err(StillOpen::LockHeld) => panic!(&rt; "the lock is free"),
+        Err(StillOpen::Missing(pool)) => {
+            drop(pool);
+            panic!(&rt; "it is back")
+        }
         Err(StillOpen::Shared(pool)) => {
             drop(pool);
             panic!(&rt; "nobody shares it")

@@ -1,5 +1,5 @@
 // Calls of a shared handle in steps: beside a lead that is kept, which answers what was posted, and where the queue is shut.
-use crate::common::{Heap, item};
+use crate::common::{Heap, item, shared};
 use flat_queue::{Handle, Newcomer, Queue};
 use pq_types::{Answer, Reply, Request};
 use queue_pool::{AnswerStep, CallStep, SharedHandle};
@@ -85,9 +85,7 @@ fn a_shared_handle_makes_its_calls_in_steps(rt: HostRuntime) -> Result<(), Fail>
         panic!(rt; "there is memory")
     };
     let other = newcomers.pop().expect(&rt, "there is a second");
-    let own = newcomers.pop().expect(&rt, "there is a first");
-    let member = queue.join(own);
-    let mut handle = SharedHandle::of(queue.clone()?, member);
+    let mut handle = shared(&rt, rt.alloc(), &queue, newcomers);
     steps(&rt, &queue, &mut handle, other);
     drop(handle);
     drop(queue);

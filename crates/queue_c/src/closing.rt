@@ -65,7 +65,7 @@ fn close_queue(pool: QueuePool) -> CallResult
     ensures members_left { (result.code ≡ MEMBERS_LEFT) ↔ HasOut (Some pool) }
     ensures strange { result.code ≡ UNKNOWN → HasAllIn (Some pool) }
 {
-    if pool.out() < 65 {
+    if pool.out() > 0 {
         return CallResult {
             code: MEMBERS_LEFT,
             held: Contents::Queue(pool),

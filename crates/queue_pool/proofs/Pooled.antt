@@ -123,11 +123,10 @@ pub all_members : (here queue : QueueName) (idle waiting members : List Joined) 
     → members ≡ idle ++ waiting → All (λ (m : Joined). m.queue ≡ here) members × All (λ (m : Joined). m.pen.leading ≡ false) members
 all_members here queue idle waiting members same are wait e =
     let of_queue = λ (m : Joined). m.queue ≡ here in
-    let led_not = λ (m : Joined). m.pen.leading ≡ false in
-    (
+    let led_not = λ (m : Joined). m.pen.leading ≡ false in (
       subst (All of_queue) (sym e)
-      (All-append of_queue idle waiting
-      (All-weaker (IsIdleAt queue) of_queue (λ m h. h.0 ∙ sym same) idle are) (All-weaker (WaitsAt queue) of_queue (λ m h. h.0 ∙ sym same) waiting wait)),
+          (All-append of_queue idle waiting
+          (All-weaker (IsIdleAt queue) of_queue (λ m h. h.0 ∙ sym same) idle are) (All-weaker (WaitsAt queue) of_queue (λ m h. h.0 ∙ sym same) waiting wait)),
       subst (All led_not) (sym e)
-      (All-append led_not idle waiting (All-weaker (IsIdleAt queue) led_not (λ m h. h.2) idle are) (All-weaker (WaitsAt queue) led_not (λ m h. h.2) waiting wait)),
+          (All-append led_not idle waiting (All-weaker (IsIdleAt queue) led_not (λ m h. h.2) idle are) (All-weaker (WaitsAt queue) led_not (λ m h. h.2) waiting wait)),
     )

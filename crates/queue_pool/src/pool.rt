@@ -3,6 +3,7 @@ ghost use Rattle.std.specs.Prelude.{◌≡◌, ◌+◌, ◌<◌, ◌≤◌, List
 ghost use Rattle.std.specs.Prelude.{true, false, IfOk, OnOk, IfErr, IfSome, IfNone, Err};
 ghost use Rattle.std.specs.List.{All};
 ghost use Rattle.std.specs.Arc.{arc_value};
+ghost use Rattle.std.specs.Vec.{vec_len, vec_capacity};
 ghost use Rattle.std.specs.VecDeque.{deque_len, deque_capacity};
 ghost use Rattle.pq_types.specs.Control.{is_answer};
 ghost use Rattle.desk_core.specs.Words.{word_number};
@@ -33,15 +34,18 @@ use std::sync::Arc;
 pub struct Pool<S: Store<Entry<P>>, P: Part = u32> {
     queue: Arc<Queue<S, P>, Global>,
     newcomers: VecDeque<Newcomer>,
-    idle: VecDeque<Member<S, P>>,
+    idle: Vec<Member<S, P>>,
     waiting: VecDeque<Member<S, P>>,
+    // It is empty: at a close it takes in those that have not joined.
+    unjoined: Vec<Newcomer>,
     most: usize,
 }
 
 impl<S: Store<Entry<P>>, P: Part> Model for Pool<S, P> {
-    ghost use Rattle.std.specs.Prelude.{◌≡◌, ◌+◌, ◌≤◌, length};
+    ghost use Rattle.std.specs.Prelude.{◌≡◌, ◌+◌, ◌≤◌, [], length};
     ghost use Rattle.std.specs.List.{All};
     ghost use Rattle.std.specs.Arc.{arc_value};
+    ghost use Rattle.std.specs.Vec.{vec_len, vec_capacity};
     ghost use Rattle.std.specs.VecDeque.{deque_len, deque_capacity};
     ghost use Rattle.queue_pool.specs.Pool.{Pooled, IsIdleAt, WaitsAt};
 
@@ -57,8 +61,8 @@ impl<S: Store<Entry<P>>, P: Part> Model for Pool<S, P> {
 
     ghost invariant = { λ p. All (λ n. n.queue ≡ arc_value p.queue) p.newcomers.items
         × All (IsIdleAt (arc_value p.queue)) p.idle.items × All (WaitsAt (arc_value p.queue)) p.waiting.items
-        × (deque_len p.newcomers + deque_len p.idle + deque_len p.waiting ≤ p.most) × (p.most ≤ deque_capacity p.idle)
-        × (p.most ≤ deque_capacity p.waiting) };
+        × (deque_len p.newcomers + vec_len p.idle + deque_len p.waiting ≤ p.most) × (p.most ≤ vec_capacity p.idle)
+        × (p.most ≤ deque_capacity p.waiting) × (p.unjoined.items ≡ []) × (p.most ≤ vec_capacity p.unjoined) };
 }
 
 /// Why a queue was not closed: here is the pool again.
@@ -82,18 +86,18 @@ pub enum NotTaken {
 // Puts an idle member behind the others.
 fn put_idle<S: Store<Entry<P>>, P: Part>(
     queue: &Queue<S, P>,
-    idle: &mut VecDeque<Member<S, P>>,
+    idle: &mut Vec<Member<S, P>>,
     member: Member<S, P>,
 )
     requires here { All (IsIdleAt queue.now) idle.old.items }
     requires is_idle { IsIdleAt queue.now member }
-    requires room { deque_len idle.old < deque_capacity idle.old }
+    requires room { vec_len idle.old < vec_capacity idle.old }
     ensures here { All (IsIdleAt queue.now) idle.new.items }
     ensures items { idle.new.items ≡ idle.old.items ++ member ∷ [] }
-    ensures len { deque_len idle.new ≡ deque_len idle.old + 1 }
-    ensures capacity { deque_capacity idle.new ≡ deque_capacity idle.old }
+    ensures len { vec_len idle.new ≡ vec_len idle.old + 1 }
+    ensures capacity { vec_capacity idle.new ≡ vec_capacity idle.old }
 {
-    idle.push_back_reserved(member);
+    idle.push_reserved(member);
 }
 
 // Puts a member that waits behind the others.
@@ -204,7 +208,7 @@ fn told_by_round<S: Store<Entry<P>>, P: Part>(
 fn next<S: Store<Entry<P>>, P: Part>(
     queue: &Queue<S, P>,
     newcomers: &mut VecDeque<Newcomer>,
-    idle: &mut VecDeque<Member<S, P>>,
+    idle: &mut Vec<Member<S, P>>,
     waiting: &mut VecDeque<Member<S, P>>,
 ) -> Option<Member<S, P>>
     requires newcomers { All (λ n. n.queue ≡ queue.now) newcomers.old.items }
@@ -213,13 +217,13 @@ fn next<S: Store<Entry<P>>, P: Part>(
     ensures newcomers { All (λ n. n.queue ≡ queue.now) newcomers.new.items }
     ensures idle { All (IsIdleAt queue.now) idle.new.items }
     ensures waiting { All (WaitsAt queue.now) waiting.new.items }
-    ensures capacity { (deque_capacity idle.new ≡ deque_capacity idle.old)
+    ensures capacity { (vec_capacity idle.new ≡ vec_capacity idle.old)
         × (deque_capacity waiting.new ≡ deque_capacity waiting.old) }
     ensures fewer { IfSome result (λ _.
-        deque_len newcomers.new + deque_len idle.new + deque_len waiting.new + 1
-        ≡ deque_len newcomers.old + deque_len idle.old + deque_len waiting.old) }
-    ensures as_many { IfNone result (deque_len newcomers.new + deque_len idle.new + deque_len waiting.new
-        ≡ deque_len newcomers.old + deque_len idle.old + deque_len waiting.old) }
+        deque_len newcomers.new + vec_len idle.new + deque_len waiting.new + 1
+        ≡ deque_len newcomers.old + vec_len idle.old + deque_len waiting.old) }
+    ensures as_many { IfNone result (deque_len newcomers.new + vec_len idle.new + deque_len waiting.new
+        ≡ deque_len newcomers.old + vec_len idle.old + deque_len waiting.old) }
     ensures is_idle { IfSome result (IsIdleAt queue.now) }
     ensures comes { IfSome result (λ m.
         ComesOutBy (word_number P.wide)
@@ -230,7 +234,7 @@ fn next<S: Store<Entry<P>>, P: Part>(
         (record { newcomers = newcomers.old.items; idle = idle.old.items; waiting = waiting.old.items })
         (record { newcomers = newcomers.new.items; idle = idle.new.items; waiting = waiting.new.items })) }
 {
-    if let Some(member) = idle.pop_back() {
+    if let Some(member) = idle.pop() {
         return Some(member);
     }
     let turns = waiting.len();
@@ -243,22 +247,19 @@ fn next<S: Store<Entry<P>>, P: Part>(
     told_by_round(queue, waiting)
 }
 
-// The idle members, and behind them those that wait. The room of the idle ones has been taken for all.
-fn all_back<S: Store<Entry<P>>, P: Part>(
-    mut idle: VecDeque<Member<S, P>>,
-    mut waiting: VecDeque<Member<S, P>>,
-) -> Vec<Member<S, P>>
-    requires room { deque_len idle + deque_len waiting ≤ deque_capacity idle }
-    ensures { result.items ≡ idle.items ++ waiting.items }
+// The items of the one, and behind them those of the other, for all of which the one has room.
+fn moved_behind<T: Drop>(mut into: Vec<T>, mut from: VecDeque<T>) -> Vec<T>
+    requires room { vec_len into + deque_len from ≤ vec_capacity into }
+    ensures { result.items ≡ into.items ++ from.items }
 {
-    let Ok(()) = idle.append(&mut waiting) else {
-        unreachable!()
-    };
-    idle.into_vec()
+    while let Some(item) = from.pop_front() {
+        into.push_reserved(item);
+    }
+    into
 }
 
 impl<S: Store<Entry<P>>, P: Part> Pool<S, P> {
-    /// The pool of a queue with these newcomers. It takes memory here for all that may come back, and
+    /// The pool of a queue with these newcomers. It takes memory here for all that may come back, and for a close, and
     /// nowhere else.
     pub fn of(
         alloc: Global,
@@ -269,13 +270,15 @@ impl<S: Store<Entry<P>>, P: Part> Pool<S, P> {
         ensures { IfOk result (λ pool. pool ≡ all_new (arc_value queue) newcomers.items) }
     {
         let most = newcomers.len();
-        let idle = VecDeque::with_capacity(alloc, most)?;
+        let idle = Vec::with_capacity(alloc, most)?;
         let waiting = VecDeque::with_capacity(alloc, most)?;
+        let unjoined = Vec::with_capacity(alloc, most)?;
         Ok(Pool {
             queue,
             newcomers: VecDeque::from_vec(newcomers),
             idle,
             waiting,
+            unjoined,
             most,
         })
     }
@@ -359,15 +362,20 @@ impl<S: Store<Entry<P>>, P: Part> Pool<S, P> {
             newcomers,
             idle,
             waiting,
+            unjoined,
             most,
         } = self;
         match Arc::try_unwrap(queue) {
-            Ok(queue) => Ok(queue.close_all(all_back(idle, waiting), newcomers.into_vec())),
+            Ok(queue) => {
+                let members = moved_behind(idle, waiting);
+                Ok(queue.close_all(members, moved_behind(unjoined, newcomers)))
+            }
             Err(queue) => Err(StillOpen::Shared(Pool {
                 queue,
                 newcomers,
                 idle,
                 waiting,
+                unjoined,
                 most,
             })),
         }

@@ -45,7 +45,7 @@ returns-clause-comes g c =
     let turns : length w ≡ c.len-turns.result = search rules in
     let asked = c.in_default-first_told.ensures.none w [] (sym (append-nil w)) turns in
     let no_idle : c.args.idle.now.items ≡ [] = search rules in
-    let still_none : c.pop_back.new.self.items ≡ [] = search rules in
+    let still_none : c.pop.new.self.items ≡ [] = search rules in
     let no_new : c.args.newcomers.now.items ≡ [] = search rules in
     let still_no_new : c.pop_front.new.self.items ≡ [] = search rules in
     IfSome_then c.told_by_round.result c.told_by_round.ensures.led
@@ -67,7 +67,7 @@ returns-clause-none g c =
     let turns : length w ≡ c.len-turns.result = search rules in
     let asked = c.in_default-first_told.ensures.none w [] (sym (append-nil w)) turns in
     let no_idle : c.args.idle.now.items ≡ [] = search rules in
-    let still_none : c.pop_back.new.self.items ≡ [] = search rules in
+    let still_none : c.pop.new.self.items ≡ [] = search rules in
     let no_new : c.args.newcomers.now.items ≡ [] = search rules in
     let still_no_new : c.pop_front.new.self.items ≡ [] = search rules in
     if_none_then c.told_by_round.result c.told_by_round.ensures.held

@@ -3,8 +3,8 @@ use Rattle.queue_pool.proofs.pool.Pool.close.Goals as goal
 
 pub close_all-requires-clause-members : goal.close_all-requires-clause-members
 close_all-requires-clause-members g c =
-    (all_members c.in-Ok.queue _ _ _ c.all_back.result.items c.in-Ok.ensures.ok c.self.invariant.1 c.self.invariant.2 c.all_back.ensures).0
+    (all_members c.in-Ok.queue _ _ _ c.moved_behind-members.result.items c.in-Ok.ensures.ok c.self.invariant.1 c.self.invariant.2 c.moved_behind-members.ensures).0
 
 pub close_all-requires-clause-led_not : goal.close_all-requires-clause-led_not
 close_all-requires-clause-led_not g c =
-    (all_members c.in-Ok.queue _ _ _ c.all_back.result.items c.in-Ok.ensures.ok c.self.invariant.1 c.self.invariant.2 c.all_back.ensures).1
+    (all_members c.in-Ok.queue _ _ _ c.moved_behind-members.result.items c.in-Ok.ensures.ok c.self.invariant.1 c.self.invariant.2 c.moved_behind-members.ensures).1

@@ -109,7 +109,7 @@ typedef struct pq_options {
     uint32_t members; /* how many members there may be at once: 1 to 64; 0 is 64 */
     uint32_t keeping; /* of enum pq_keeping */
     uint32_t entries;
-    uint32_t tickets;    /* 1: items can be removed or moved by ticket (pq_remove), and pushes and pops take a little longer; 0: they can't */
+    uint32_t tickets;    /* 1: items can be removed or moved by their tickets (pq_remove); pushes and pops take longer. 0: no tickets */
     uint64_t time_zero;  /* for what is due: the priority of the time 0 of pq_now */
     uint64_t time_unit;  /* for what is due: nanoseconds from one priority to the next; 0 means 1 */
     uint64_t most_items; /* how many items the queue may have: a push waits until there are fewer (pq_push); 0: no bound */
@@ -130,7 +130,7 @@ PQ_CHECKED pq_code pq_close(pq_queue *queue, pq_journal **journal);
 
 /* Frees the queue, closed or not: the program must not use the pointer any more. Memory is freed once the last joined member is given
    back, and the last call by an own member has returned. Then `left`, unless it is NULL, is called with each item that was left, in the
-   thread that frees the memory; it may use the pointer, of a closed queue. queue may be NULL. No thread that waits is woken: shut it first. */
+   thread that frees the memory; its calls by `queue` return PQ_CLOSED. queue may be NULL. No thread that waits is woken: shut it first. */
 void pq_free(pq_queue *queue, void (*left)(void *context, pq_item item), void *context);
 
 /* Members. */
@@ -144,8 +144,8 @@ pq_member *pq_own(pq_queue *queue);
 /* Gives the calling thread's own member back now, if the thread has one. */
 void pq_leave(pq_queue *queue);
 
-/* Joins the queue. Where all members are in use, the call takes over one that its thread does not use (pq_own), or waits until then for one that
-   another thread gives back. It may move between threads. PQ_OK; PQ_ALL_JOINED, PQ_NO_MEMORY, PQ_CLOSED, PQ_FORKED: *member is NULL. */
+/* Joins the queue. Where all members are in use, it takes over one that its thread does not use (pq_own), or waits until then for one that is
+   given back. The member may move between threads. PQ_OK; PQ_ALL_JOINED, PQ_NO_MEMORY, PQ_CLOSED, PQ_FORKED: *member is NULL. */
 PQ_CHECKED pq_code pq_join(pq_queue *queue, uint64_t until, pq_member **member);
 
 /* Gives a joined member back, in any thread. A pop that it has posted may still take an item out, which nobody gets. member may be NULL. */
@@ -174,11 +174,11 @@ PQ_CHECKED pq_code pq_peek(pq_member *member, pq_item *item, uint64_t until, uin
    has an entry, so polling by this call leaves none. */
 PQ_CHECKED pq_code pq_pop_due(pq_member *member, uint64_t priority, pq_item *item, uint64_t until, uint64_t *number);
 
-/* Waits for an item, and takes the first one out. PQ_OK; PQ_EMPTY: none came until then; PQ_SHUT. Only PQ_OK has an entry. With PQ_NOW or a
-   deadline that is past it returns PQ_EMPTY also if the queue is shut; so does pq_take_due. */
+/* Waits for an item, and takes the first one out. PQ_OK; PQ_EMPTY: none came until then; PQ_SHUT: the queue is shut and empty. Only PQ_OK has an
+   entry. With PQ_NOW or a deadline that is past it returns PQ_EMPTY also if the queue is shut; so does pq_take_due. */
 PQ_CHECKED pq_code pq_take(pq_member *member, pq_item *item, uint64_t until, uint64_t *number);
 
-/* Waits until the first item is due, and takes it out. Priorities are times (pq_options); by default they are those of pq_now.
+/* Waits until the first item is due, also in a shut queue, and takes it out. Priorities are times (pq_options); by default those of pq_now.
    PQ_OK; PQ_NOT_DUE: *item is the first item, and stays; PQ_EMPTY; PQ_SHUT. Only PQ_OK has an entry. */
 PQ_CHECKED pq_code pq_take_due(pq_member *member, pq_item *item, uint64_t until, uint64_t *number);
 
@@ -222,7 +222,7 @@ pq_code pq_combine(pq_member *member);
 /* Takes the first item out if it is due (pq_take_due); else the member listens by `timer`, a timerfd of CLOCK_MONOTONIC that no other member
    has. It is readable once the first item is due, when an earlier one comes, on a shut, or sometimes for nothing: then call again, while this
    returns PQ_OK. The program neither sets nor reads it, and closes it after pq_unlisten. The call does not wait for the queue's lock. PQ_OK;
-   PQ_NOT_DUE: it listens, *item is the first item, and stays; PQ_EMPTY: it listens, or the timer is set; PQ_SHUT; PQ_NO_TIMER; or a refusal. */
+   PQ_NOT_DUE, PQ_EMPTY: wait for the timer; after PQ_NOT_DUE *item is the first item, which stays; PQ_SHUT; PQ_NO_TIMER; or a refusal. */
 PQ_CHECKED pq_code pq_take_due_or_listen(pq_member *member, int timer, pq_item *item, uint64_t *number);
 
 /* Takes the first item out if its priority is at most this one; else the member listens. It does not wait for the queue's lock.

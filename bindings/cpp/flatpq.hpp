@@ -13,9 +13,10 @@
 // tickets by which items are removed and moved (options::tickets), and listeners for event loops. A program that writes archives to a file
 // survives a crash: wait_archived waits until a push is on disk, and journal<Key>::read_from reads the file back.
 //
-// Any number of threads may call a queue itself. A thread calls through a member of its own, which it gets at its first call; where all
-// members are in use it waits for one. A thread that waits for an item, or for room, keeps its member meanwhile. A program that moves members
-// between threads joins them (queue::join). The last argument of a call is the time until which it may wait (flatpq::deadline).
+// Any number of threads may call a queue itself. A thread calls through a member of its own, which it gets at its first call. Where all
+// members are in use it takes over one that its thread does not use, or waits for one. A thread that waits for an item, or for room, keeps its
+// member meanwhile. A program that moves members between threads joins them (queue::join). The last argument of a call is the time until
+// which it may wait (flatpq::deadline).
 //
 // Queues, members, listeners and journals are moved and never copied, and free what they hold. They may end in any order. Each call of one
 // that was moved from returns code::no_member. Members and listeners are in one call at a time, and so are journals but for const calls.
@@ -137,10 +138,12 @@ public:
         return why == code::ok ? result<std::uint64_t>(number) : why;
     }
 
-    /// Waits for an item, and takes the first one out. code::empty: none came until then; code::timed_out: other threads had the lock.
+    /// Waits for an item, and takes the first one out. code::empty: none came until then; code::timed_out: other threads had the lock, or all
+    /// members; code::shut: the queue is shut and empty.
     found take(deadline until = {}) noexcept { return got<pq_take>(until); }
 
-    /// Waits until the first item is due, and takes it out. Keys are times. code::not_due: found::first() stays; code::empty.
+    /// Waits until the first item is due, also in a shut queue, and takes it out. Keys are times. code::not_due: found::first() stays;
+    /// code::empty, code::timed_out, code::shut.
     found take_due(deadline until = {}) noexcept {
         static_assert(are_times<key>, "keys are times of std::chrono::steady_clock");
         return got<pq_take_due>(until);
@@ -233,8 +236,8 @@ public:
     [[nodiscard]] code combine() noexcept { return static_cast<code>(pq_combine(member_)); }
 
     /// Takes the first item out, or the first one whose key is at most this one; else the member listens: code::empty, or code::not_due with
-    /// found::first(), which stays. It never waits. notify() is called once then, in the thread that pushes, moves or shuts. It must not
-    /// throw, wait or call the queue, and has to live until it was called or the member listens no more.
+    /// found::first(), which stays. It never waits. notify() is called at most once then, in any thread that calls the queue, or in this call. It
+    /// must not throw, wait or call the library, and has to live until it was called or the member listens no more.
     template <class Notify> found take_or_listen(Notify &notify) noexcept { return listened(UINT64_MAX, notify); }
     template <class Notify> found take_or_listen(const key &bound, Notify &notify) noexcept {
         return listened(key_order<key>::number(bound), notify);
@@ -369,8 +372,8 @@ public:
     using found = typename detail::calls<Items>::found;
 
     /// Takes the first item out, or the first one whose key is at most this one. Call it when the descriptor is readable, until it returns
-    /// code::empty, or code::not_due with found::first(), which stays: then the descriptor is readable no more, until a push or a move. It
-    /// never waits. Where it returns code::shut or a refusal the descriptor stays readable.
+    /// code::empty, or code::not_due with found::first(), which stays: then the descriptor is readable no more, until a push, a move or a
+    /// shut. It never waits. Where it returns code::shut or a refusal the descriptor stays readable.
     found take_or_listen() noexcept { return taken(UINT64_MAX); }
     found take_or_listen(const key &bound) noexcept { return taken(key_order<key>::number(bound)); }
     template <class Number, detail::if_signed_for<key, Number> = 0> found take_or_listen(Number) = delete;
@@ -443,7 +446,8 @@ public:
     /// code::closed.
     ~basic_queue() { pq_free(queue_, Items::drops, nullptr); }
 
-    /// Joins the queue. It waits until then for a member that another thread gives back: code::all_joined.
+    /// Joins the queue. Where all members are in use it takes over one that its thread does not use, or waits until then for one that another
+    /// thread gives back: code::all_joined.
     result<member> join(deadline until = {}) noexcept {
         pq_member *joined = nullptr;
         const auto why = queue_ != nullptr ? static_cast<code>(pq_join(queue_, until.at(), &joined)) : code::no_member;
@@ -469,7 +473,7 @@ public:
         }
     }
 
-    /// Shuts the queue down for good: each push is refused. Threads that wait take what is left, and then return code::shut.
+    /// Shuts the queue down for good: each push is refused. Threads that wait for an item take what is left, and then return code::shut.
     code shut() noexcept { return queue_ != nullptr ? static_cast<code>(pq_shut(queue_)) : code::no_member; }
 
     /// Waits until an archive has counted the entry of this number as archived. code::ok, code::timed_out, code::closed.

@@ -263,8 +263,9 @@ macro_rules! calls {
             /// # Errors
             ///
             /// [`Error::Shut`] and [`Error::NoMemory`]; and, as each of these calls, [`Error::Exhausted`], [`Error::JournalFull`],
-            /// [`Error::Unarchived`], [`Error::Pending`] where a posted request of the member has no answer yet, and [`Error::Forked`].
-            /// The payload comes back with it.
+            /// [`Error::Unarchived`], [`Error::Pending`] where a posted request of the member has no answer yet, [`Error::Forked`], with a
+            /// deadline [`Error::TimedOut`], and by the queue itself [`Error::NoMemory`] for its thread's member. The payload comes back with
+            /// it.
             pub fn push(&$($mutable)? self, key: K, payload: T) -> Result<u64, NotPushed<T>> {
                 self.call().push(key, payload)
             }
@@ -334,7 +335,8 @@ macro_rules! calls {
             ///
             /// # Errors
             ///
-            /// [`Error::Pending`] where a posted request of the member has no answer yet, and [`Error::Forked`].
+            /// [`Error::Pending`] where a posted request of the member has no answer yet, [`Error::Forked`], with a deadline
+            /// [`Error::TimedOut`], and by the queue itself [`Error::NoMemory`] for its thread's member.
             ///
             /// ```
             /// let queue = flatpq::TaskQueue::new()?;
@@ -452,7 +454,7 @@ macro_rules! takes {
                 self.call().take()?.ok_or(Error::TimedOut)
             }
 
-            /// Waits until the first payload is due, and takes it out, with its key. Keys are times: moments
+            /// Waits until the first payload is due, also in a shut queue, and takes it out, with its key. Keys are times: moments
             /// ([`Instant`](std::time::Instant)), or those of [`Options::times`](crate::Options::times).
             ///
             /// # Errors
@@ -492,7 +494,7 @@ impl<'a, T: Send, K: Key> Limited<'a, T, K> {
     }
 
     /// Waits for a payload, and takes the first one out: `None` where it got none until the deadline, as none was there, or other threads
-    /// had the lock.
+    /// had the lock, or all members.
     ///
     /// # Errors
     ///
@@ -501,7 +503,7 @@ impl<'a, T: Send, K: Key> Limited<'a, T, K> {
         self.0.take()
     }
 
-    /// Waits until the first payload is due, and takes it out. Where the deadline comes first, the payload stays.
+    /// Waits until the first payload is due, and takes it out. At its deadline it returns [`Due::Later`] or [`Due::Empty`].
     ///
     /// # Errors
     ///

@@ -64,7 +64,7 @@ errors! {
     Forked = 60,
     /// The processor has no SSE4.1.
     Processor = 61,
-    /// Other threads had the lock until the deadline. Nothing was done.
+    /// Other threads had the lock, or all members, until the deadline. Nothing was done.
     TimedOut = 62,
     /// The queue is closed.
     Closed = 63,

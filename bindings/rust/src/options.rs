@@ -100,8 +100,7 @@ impl Options {
         Options { most_items, ..self }
     }
 
-    /// Whether payloads can be removed or moved by ticket ([`TaskQueue::remove`], [`TaskQueue::reschedule`]). Pushes and pops take a little
-    /// longer then.
+    /// Whether payloads can be removed or moved by ticket ([`TaskQueue::remove`], [`TaskQueue::reschedule`]). Pushes and pops take longer then.
     pub fn tickets(self, tickets: bool) -> Options {
         Options { tickets, ..self }
     }

@@ -67,8 +67,9 @@ impl<T> Drop for Shared<T> {
 /// in use a call takes over an idle one, or waits for one. A program that wants to move a member between threads joins one
 /// ([`TaskQueue::join`]).
 ///
-/// A payload of at most eight bytes, such as a number, a `Box` or an `Arc`, lies in its item; any other in a block of memory of its own.
-/// Those that are left are dropped with the last of the queue and its members, or with the journal where the queue was closed.
+/// A payload of at most eight bytes, such as a number or a `Box<u32>`, lies in its item; any other, such as a `Box<dyn FnOnce()>`, in a block
+/// of memory of its own. Those that are left are dropped with the last of the queue and its members, or with the journal where the queue was
+/// closed.
 ///
 /// A queue whose type is not named has keys of the type of those that are pushed, which of bare numbers is `i32`.
 ///
@@ -149,7 +150,7 @@ impl<T: Send, K: Key> TaskQueue<T, K> {
         })
     }
 
-    /// Joins the queue, if there is a member left.
+    /// Joins the queue, if a member is left, or one that its thread does not use, which it takes over.
     ///
     /// # Errors
     ///
@@ -158,7 +159,7 @@ impl<T: Send, K: Key> TaskQueue<T, K> {
         self.join_until(Until::NOW)
     }
 
-    /// Joins the queue, and waits until then for a member that another thread gives back.
+    /// Joins the queue as [`TaskQueue::join`] does, or waits until then for a member that another thread gives back.
     ///
     /// # Errors
     ///
@@ -227,7 +228,7 @@ impl<T: Send, K: Key> TaskQueue<T, K> {
 }
 
 impl<T, K> TaskQueue<T, K> {
-    /// Shuts the queue down for good: from now on each push is refused. Who waits for a payload takes what is left, and then returns
+    /// Shuts the queue down for good: from now on each push is refused. Threads that wait for a payload take what is left, and then return
     /// [`Error::Shut`].
     ///
     /// # Errors

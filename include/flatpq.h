@@ -144,7 +144,7 @@ pq_member *pq_own(pq_queue *queue);
 /* Gives the calling thread's own member back now, if the thread has one. */
 void pq_leave(pq_queue *queue);
 
-/* Joins the queue. Where all members are in use, it takes over one that its thread does not use (pq_own), or waits until then for one that is
+/* Joins the queue. Where all are in use, it takes over a member that its thread does not use (pq_own), or waits until then for one that is
    given back. The member may move between threads. PQ_OK; PQ_ALL_JOINED, PQ_NO_MEMORY, PQ_CLOSED, PQ_FORKED: *member is NULL. */
 PQ_CHECKED pq_code pq_join(pq_queue *queue, uint64_t until, pq_member **member);
 

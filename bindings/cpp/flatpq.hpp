@@ -446,8 +446,8 @@ public:
     /// code::closed.
     ~basic_queue() { pq_free(queue_, Items::drops, nullptr); }
 
-    /// Joins the queue. Where all members are in use it takes over one that its thread does not use, or waits until then for one that another
-    /// thread gives back: code::all_joined.
+    /// Joins the queue. Where all members are in use it takes over one that its thread does not use, or waits until then for one that is given
+    /// back. code::all_joined: there was none.
     result<member> join(deadline until = {}) noexcept {
         pq_member *joined = nullptr;
         const auto why = queue_ != nullptr ? static_cast<code>(pq_join(queue_, until.at(), &joined)) : code::no_member;

@@ -262,10 +262,10 @@ macro_rules! calls {
             ///
             /// # Errors
             ///
-            /// [`Error::Shut`] and [`Error::NoMemory`]; and, as each of these calls, [`Error::Exhausted`], [`Error::JournalFull`],
-            /// [`Error::Unarchived`], [`Error::Pending`] where a posted request of the member has no answer yet, [`Error::Forked`], with a
-            /// deadline [`Error::TimedOut`], and by the queue itself [`Error::NoMemory`] for its thread's member. The payload comes back with
-            /// it.
+            /// [`Error::Shut`] and [`Error::NoMemory`]. Each of these calls may also return [`Error::Exhausted`], [`Error::JournalFull`],
+            /// [`Error::Unarchived`], [`Error::Forked`], or [`Error::Pending`] where a posted request of the member has no answer yet. With a
+            /// deadline it may return [`Error::TimedOut`], and by the queue itself [`Error::NoMemory`], for its thread's member. The payload
+            /// comes back with the error.
             pub fn push(&$($mutable)? self, key: K, payload: T) -> Result<u64, NotPushed<T>> {
                 self.call().push(key, payload)
             }
@@ -335,8 +335,8 @@ macro_rules! calls {
             ///
             /// # Errors
             ///
-            /// [`Error::Pending`] where a posted request of the member has no answer yet, [`Error::Forked`], with a deadline
-            /// [`Error::TimedOut`], and by the queue itself [`Error::NoMemory`] for its thread's member.
+            /// [`Error::Forked`], and [`Error::Pending`] where a posted request of the member has no answer yet. With a deadline
+            /// [`Error::TimedOut`], and by the queue itself [`Error::NoMemory`], for its thread's member.
             ///
             /// ```
             /// let queue = flatpq::TaskQueue::new()?;

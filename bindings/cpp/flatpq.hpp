@@ -13,10 +13,9 @@
 // tickets by which items are removed and moved (options::tickets), and listeners for event loops. A program that writes archives to a file
 // survives a crash: wait_archived waits until a push is on disk, and journal<Key>::read_from reads the file back.
 //
-// Any number of threads may call a queue itself. A thread calls through a member of its own, which it gets at its first call. Where all
-// members are in use it takes over one that its thread does not use, or waits for one. A thread that waits for an item, or for room, keeps its
-// member meanwhile. A program that moves members between threads joins them (queue::join). The last argument of a call is the time until
-// which it may wait (flatpq::deadline).
+// Any number of threads may call a queue itself. A thread gets a member of its own at its first call; where all members are in use it takes
+// over an idle one, or waits for one. A thread that waits for an item, or for room, keeps its member meanwhile. A program that moves members
+// between threads joins them (queue::join). The last argument of a call is the time until which it may wait (flatpq::deadline).
 //
 // Queues, members, listeners and journals are moved and never copied, and free what they hold. They may end in any order. Each call of one
 // that was moved from returns code::no_member. Members and listeners are in one call at a time, and so are journals but for const calls.
@@ -138,12 +137,10 @@ public:
         return why == code::ok ? result<std::uint64_t>(number) : why;
     }
 
-    /// Waits for an item, and takes the first one out. code::empty: none came until then; code::timed_out: other threads had the lock, or all
-    /// members; code::shut: the queue is shut and empty.
+    /// Waits for an item, and takes the first one out. code::empty: none came until then; code::timed_out; code::shut: it is shut and empty.
     found take(deadline until = {}) noexcept { return got<pq_take>(until); }
 
-    /// Waits until the first item is due, also in a shut queue, and takes it out. Keys are times. code::not_due: found::first() stays;
-    /// code::empty, code::timed_out, code::shut.
+    /// The same once the first item is due: it waits for that in a shut queue too. Keys are times. code::not_due: found::first() stays.
     found take_due(deadline until = {}) noexcept {
         static_assert(are_times<key>, "keys are times of std::chrono::steady_clock");
         return got<pq_take_due>(until);
@@ -446,8 +443,7 @@ public:
     /// code::closed.
     ~basic_queue() { pq_free(queue_, Items::drops, nullptr); }
 
-    /// Joins the queue. Where all members are in use it takes over one that its thread does not use, or waits until then for one that is given
-    /// back. code::all_joined: there was none.
+    /// Joins the queue. Where all members are in use it takes over an idle one, or waits until then for one given back: code::all_joined.
     result<member> join(deadline until = {}) noexcept {
         pq_member *joined = nullptr;
         const auto why = queue_ != nullptr ? static_cast<code>(pq_join(queue_, until.at(), &joined)) : code::no_member;

@@ -262,10 +262,9 @@ macro_rules! calls {
             ///
             /// # Errors
             ///
-            /// [`Error::Shut`] and [`Error::NoMemory`]. Each of these calls may also return [`Error::Exhausted`], [`Error::JournalFull`],
-            /// [`Error::Unarchived`], [`Error::Forked`], or [`Error::Pending`] where a posted request of the member has no answer yet. With a
-            /// deadline it may return [`Error::TimedOut`], and by the queue itself [`Error::NoMemory`], for its thread's member. The payload
-            /// comes back with the error.
+            /// [`Error::Shut`]. Each of these calls may return [`Error::Exhausted`], [`Error::JournalFull`], [`Error::Unarchived`],
+            /// [`Error::Forked`], with a deadline [`Error::TimedOut`], or [`Error::Pending`] where a posted request has no answer yet. A push,
+            /// and each call by the queue itself, may return [`Error::NoMemory`]. The payload comes back with the error.
             pub fn push(&$($mutable)? self, key: K, payload: T) -> Result<u64, NotPushed<T>> {
                 self.call().push(key, payload)
             }
@@ -335,7 +334,7 @@ macro_rules! calls {
             ///
             /// # Errors
             ///
-            /// [`Error::Forked`], and [`Error::Pending`] where a posted request of the member has no answer yet. With a deadline
+            /// [`Error::Pending`] where a posted request of the member has no answer yet, and [`Error::Forked`]. With a deadline
             /// [`Error::TimedOut`], and by the queue itself [`Error::NoMemory`], for its thread's member.
             ///
             /// ```

@@ -67,9 +67,8 @@ impl<T> Drop for Shared<T> {
 /// in use a call takes over an idle one, or waits for one. A program that wants to move a member between threads joins one
 /// ([`TaskQueue::join`]).
 ///
-/// A payload of at most eight bytes, such as a number or a `Box<u32>`, lies in its item; any other, such as a `Box<dyn FnOnce()>`, in a block
-/// of memory of its own. Those that are left are dropped with the last of the queue and its members, or with the journal where the queue was
-/// closed.
+/// A payload of at most eight bytes, as a number or a `Box<u32>`, lies in its item; any other, as a `Box<dyn FnOnce()>`, in memory of its own.
+/// Those that are left are dropped with the last of the queue and its members, or with the journal where the queue was closed.
 ///
 /// A queue whose type is not named has keys of the type of those that are pushed, which of bare numbers is `i32`.
 ///
@@ -150,7 +149,7 @@ impl<T: Send, K: Key> TaskQueue<T, K> {
         })
     }
 
-    /// Joins the queue, if a member is left, or one that its thread does not use, which it takes over.
+    /// Joins the queue, if a member is left, or an idle one that it takes over.
     ///
     /// # Errors
     ///

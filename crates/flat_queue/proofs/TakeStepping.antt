@@ -14,13 +14,17 @@ use Rattle.flat_queue.specs.Limits.{most_posts}
 use Rattle.flat_queue.specs.Members.{Joined}
 use Rattle.flat_queue.specs.Calling.{MakesCall, ended}
 use Rattle.flat_queue.specs.OwnRequest.{CarriesOutBy, EntersAtOnceBy}
-use Rattle.flat_queue.specs.Turns.{FindsLockHeld, Misses}
+use Rattle.flat_queue.specs.Turns.{FindsLockHeld, FindsHeldYet, Misses}
 use Rattle.flat_queue.specs.Taking.{PopsInVain, FindsNoneBy, Repeats, LooksNowBy, LooksForBy, TriesUntilFreeBy, TakesSo, MayEnd}
 use Rattle.flat_queue.specs.Taking.{LooksUntilBy, LooksOnBy, TakesUntilBy, OrEndsBy}
-use Rattle.flat_queue.specs.TakeSteps.{Took, TakeStepped, SeesNoneBy, FindsHeldYet, PopsOnceBy, LooksOneTimeBy, TakeStepsBy, popped_by, awaited_by}
+use Rattle.flat_queue.specs.TakeSteps.{Took, TakeStepped, SeesNoneBy, PopsOnceBy, LooksOneTimeBy, TakeStepsBy, popped_by, looked_on, awaited_by}
+use Rattle.flat_queue.specs.DueSteps.{DueStepped, SightsOnceBy}
 use Rattle.flat_queue.specs.declared.error.CallError.{CallError}
 use Rattle.flat_queue.specs.declared.error.CallError.TheVariants as error
 use Rattle.flat_queue.specs.declared.looking.Wanted.TheVariants as wanted
+use Rattle.flat_queue.specs.declared.due_steps.DueStage.TheVariants as due_stage
+use Rattle.flat_queue.specs.declared.due_steps.DueTook.TheVariants as due_took
+use Rattle.flat_queue.specs.declared.due_steps.DueStepped.TheVariants as due_stepped
 use Rattle.flat_queue.specs.declared.take_steps.TakeStage.{TakeStage}
 use Rattle.flat_queue.specs.declared.take_steps.TakeStage.TheVariants as stage
 use Rattle.flat_queue.specs.declared.take_steps.Took.TheVariants as took
@@ -75,6 +79,31 @@ pop_told words late a c (Entered number (LeastIs x)) few h fits = absurd (⊎_el
 pop_told words late a c (Entered number Empty) few h fits = pop_finds_none words a c number few h fits
 pop_told words late a c answer.BookFull few h fits = pop_full words a c few h fits
 pop_told words late a c answer.NoMemory few h fits = absurd fits
+
+-- a look for any item, as one for what is due, is the look of a take
+pub looks_as : (words : ℕ) (late : Type 0) (line : ℕ) (a c : Joined) (r : DueStepped) → SightsOnceBy words late wanted.Anything a r c → LooksOneTimeBy words late line a (looked_on line r) c
+looks_as words late line a c (due_stepped.Ends (due_took.Taken number x)) (h, wanted) = h
+looks_as words late line a c (due_stepped.Ends (due_took.Refused e)) h = h
+looks_as words late line a c (due_stepped.Ends (due_took.Later x)) (is_late, (serves, (first, unwanted))) = absurd (unwanted tt)
+looks_as words late line a c (due_stepped.Ends due_took.Nothing) (is_late, h) = (refl, is_late, inr h)
+looks_as words late line a c (due_stepped.Ends due_took.Held) (is_late, h) = (refl, is_late, inl h)
+looks_as words late line a c (due_stepped.Ends due_took.Over) h = (refl, h)
+looks_as words late line a c (due_stepped.Goes due_stage.Announces) h = absurd h
+looks_as words late line a c (due_stepped.Goes (due_stage.Looks look)) h = (refl, h)
+looks_as words late line a c (due_stepped.Goes (due_stage.Sleeps seen (Some x))) (serves, (first, unwanted)) = absurd (unwanted tt)
+looks_as words late line a c (due_stepped.Goes (due_stage.Sleeps seen None)) h = (refl, h)
+
+-- it tells the end only where the look does
+pub over_as : (line number : ℕ) (r : DueStepped) → looked_on line r ≡ stepped.Ends (took.Over number) → r ≡ due_stepped.Ends due_took.Over
+over_as line number (due_stepped.Ends (due_took.Taken n x)) e = absurd (cc e)
+over_as line number (due_stepped.Ends (due_took.Refused x)) e = absurd (cc e)
+over_as line number (due_stepped.Ends (due_took.Later x)) e = absurd (cc e)
+over_as line number (due_stepped.Ends due_took.Nothing) e = absurd (cc e)
+over_as line number (due_stepped.Ends due_took.Held) e = absurd (cc e)
+over_as line number (due_stepped.Ends due_took.Over) e = refl
+over_as line number (due_stepped.Goes due_stage.Announces) e = absurd (cc e)
+over_as line number (due_stepped.Goes (due_stage.Looks look)) e = absurd (cc e)
+over_as line number (due_stepped.Goes (due_stage.Sleeps seen first)) e = absurd (cc e)
 
 -- The member stands as it stood, or it had a serial left and has found the lock held since.
 abbrev pub HasMissedYet : Joined → Joined → Type 0
@@ -132,7 +161,7 @@ pop_behind a m b line (inr (few, missed)) h =
 abbrev pub LineIs : ℕ → TakeStage → Type 0
 LineIs line stage.Pops = ⊥
 LineIs line (stage.Announces number) = number ≡ line
-LineIs line (stage.Looks number seen is_last) = number ≡ line
+LineIs line (stage.Looks number look) = number ≡ line
 LineIs line (stage.Sleeps number seen) = number ≡ line
 
 -- The member has looked some times, and found none; then it has found the lock held some times.
@@ -153,7 +182,7 @@ step_looks : (words line : ℕ) (late : Type 0) (at : TakeStage) (m c : Joined) 
     → LooksOneTimeBy words late line m r c ⊎ ((r ≡ stepped.Ends (took.Late line)) × late × (c ≡ m))
 step_looks words line late stage.Pops m c r is h = absurd is
 step_looks words line late (stage.Announces number) m c r is h = subst (λ k. LooksOneTimeBy words late k m r c ⊎ ((r ≡ stepped.Ends (took.Late k)) × late × (c ≡ m))) is h
-step_looks words line late (stage.Looks number seen is_last) m c r is h = inl (subst (λ k. LooksOneTimeBy words late k m r c) is h)
+step_looks words line late (stage.Looks number look) m c r is h = inl (subst (λ k. LooksOneTimeBy words late k m r c) is h)
 step_looks words line late (stage.Sleeps number seen) m c r is h = inl (subst (λ k. LooksOneTimeBy words late k m r c) is h)
 
 -- what a take comes to that ends late: behind a look, or a try, or before both
@@ -205,7 +234,7 @@ looks_end words line late may_end a m c at told clock s h over =
 look_goes : (words line : ℕ) (late : Type 0) (a m c : Joined) (at next : TakeStage) → LooksSoFarBy words line a at m → LooksOneTimeBy words late line m (stepped.Goes next) c → LooksSoFarBy words line a next c
 look_goes words line late a m c at stage.Pops s h = absurd h
 look_goes words line late a m c at (stage.Announces number) s h = absurd h
-look_goes words line late a m c at (stage.Looks number seen is_last) s (is, held) =
+look_goes words line late a m c at (stage.Looks number look) s (is, held) =
     record { is = is; looks = s.looks; last = s.last; found = s.found; missed = missed_yet s.last m c s.missed held }
 look_goes words line late a m c at (stage.Sleeps number seen) s (is, none) =
     record { is = is; looks = suc s.looks; last = c; found = (s.last, s.found, finds words s.last m c s.missed none); missed = inl refl }
@@ -221,7 +250,7 @@ held_idle m c i (few, held) = (ap (λ (z : Joined). z.queue) held, ap (λ (z : J
 one_idle : (words line : ℕ) (late : Type 0) (m c : Joined) (next : TakeStage) → is_idle m.pen.standing ≡ true → LooksOneTimeBy words late line m (stepped.Goes next) c → IdleStill m c
 one_idle words line late m c stage.Pops i h = absurd h
 one_idle words line late m c (stage.Announces number) i h = absurd h
-one_idle words line late m c (stage.Looks number seen is_last) i (is, held) = held_idle m c i held
+one_idle words line late m c (stage.Looks number look) i (is, held) = held_idle m c i held
 one_idle words line late m c (stage.Sleeps number seen) i (is, none) = finds_idle words m c i (finds words m m c (inl refl) none)
 
 pub looks_idle : (words line : ℕ) (late : Type 0) (a m c : Joined) (at next : TakeStage) → is_idle m.pen.standing ≡ true → LooksSoFarBy words line a at m → TakeStepsBy words late at m (stepped.Goes next) c
@@ -233,5 +262,5 @@ looks_idle words line late a m c at next i s h =
 pub pop_goes : (words : ℕ) (late : Type 0) (m c : Joined) (next : TakeStage) → is_idle m.pen.standing ≡ true → TakeStepsBy words late stage.Pops m (stepped.Goes next) c → IdleStill m c
 pop_goes words late m c stage.Pops i h = held_idle m c i h
 pop_goes words late m c (stage.Announces line) i h = idle_still m c line h
-pop_goes words late m c (stage.Looks line seen is_last) i h = absurd h
+pop_goes words late m c (stage.Looks line look) i h = absurd h
 pop_goes words late m c (stage.Sleeps line seen) i h = absurd h

@@ -5,7 +5,7 @@ use Rattle.pq_types.specs.Item.{Item}
 use Rattle.flat_queue.specs.Members.{Joined}
 use Rattle.flat_queue.specs.Looking.{IsWanted, LooksFirstBy}
 use Rattle.flat_queue.specs.Taking.{LooksNowBy, TakesSo}
-use Rattle.flat_queue.specs.TakeSteps.{FindsHeldYet}
+use Rattle.flat_queue.specs.Turns.{FindsHeldYet}
 use Rattle.flat_queue.specs.Due.{Due}
 use Rattle.flat_queue.specs.declared.error.CallError.{CallError}
 use Rattle.flat_queue.specs.declared.looking.Wanted.{Wanted}

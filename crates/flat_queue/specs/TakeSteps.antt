@@ -1,15 +1,14 @@
 -- What one step of a take makes of its member.
-use Rattle.std.specs.Prelude.{◌≡◌, ℕ, ◌<◌, ◌⊎◌, Option, Some, None, Result, Ok, Err}
+use Rattle.std.specs.Prelude.{◌≡◌, ℕ, ◌⊎◌, Option, Some, None, Result, Ok, Err}
 use Rattle.std.specs.declared.time.Instant.{Instant}
 use Rattle.pq_types.specs.Item.{Item}
 use Rattle.pq_types.specs.Asked.{Answer}
 use Rattle.pq_types.specs.declared.answer.Reply.TheVariants.{Pushed, Got, Empty, Least as LeastIs}
 use Rattle.pq_types.specs.declared.answer.Answer.TheVariants.{Entered}
 use Rattle.pq_types.specs.declared.answer.Answer.TheVariants as answer
-use Rattle.flat_queue.specs.Limits.{most_posts}
 use Rattle.flat_queue.specs.Members.{Joined}
 use Rattle.flat_queue.specs.OwnRequest.{EntersAtOnceBy}
-use Rattle.flat_queue.specs.Turns.{FindsLockHeld}
+use Rattle.flat_queue.specs.Turns.{FindsHeldYet}
 use Rattle.flat_queue.specs.Looking.{LooksFirstBy}
 use Rattle.flat_queue.specs.Taking.{Awaited, PopsInVain, TakesSo, LooksNowBy}
 use Rattle.flat_queue.specs.declared.error.CallError.{CallError}
@@ -17,6 +16,10 @@ use Rattle.flat_queue.specs.declared.error.CallError.TheVariants as error
 use Rattle.flat_queue.specs.declared.looking.Wanted.TheVariants as wanted
 use Rattle.flat_queue.specs.declared.looking.Looked.TheVariants as looked
 use Rattle.flat_queue.specs.declared.taking.Awaited.TheVariants as awaited
+use Rattle.flat_queue.specs.DueSteps.{DueStepped}
+use Rattle.flat_queue.specs.declared.due_steps.DueStage.TheVariants as due_stage
+use Rattle.flat_queue.specs.declared.due_steps.DueTook.TheVariants as due_took
+use Rattle.flat_queue.specs.declared.due_steps.DueStepped.TheVariants as due_stepped
 use Rattle.flat_queue.specs.declared.take_steps.TakeStage.{TakeStage}
 use Rattle.flat_queue.specs.declared.take_steps.TakeStage.TheVariants as stage
 use Rattle.flat_queue.specs.declared.take_steps.Took.{Took as TookOf}
@@ -35,10 +38,6 @@ TakeStepped = TakeSteppedOf Item
 abbrev pub SeesNoneBy : ℕ → Joined → Joined → Type 0
 SeesNoneBy words before after = LooksFirstBy words wanted.Anything before looked.Nothing after
 
--- the member, which has a serial left, tried the lock once, and found it held
-abbrev pub FindsHeldYet : Joined → Joined → Type 0
-FindsHeldYet before after = (before.pen.posts < most_posts before.queue.room) × FindsLockHeld before after
-
 -- The member tried once to carry a pop of its own out. The pop took the item out, or was refused; or it found none, and the
 -- take is to announce itself; or the member found the lock held, and tries again, or ends where the deadline has come.
 abbrev pub PopsOnceBy : ℕ → (late : Type 0) → Joined → TakeStepped → Joined → Type 0
@@ -49,7 +48,7 @@ PopsOnceBy words late before (stepped.Ends took.Held) after = late × FindsHeldY
 PopsOnceBy words late before (stepped.Ends (took.Over line)) after = ⊥
 PopsOnceBy words late before (stepped.Goes stage.Pops) after = FindsHeldYet before after
 PopsOnceBy words late before (stepped.Goes (stage.Announces line)) after = PopsInVain before line after
-PopsOnceBy words late before (stepped.Goes (stage.Looks line seen is_last)) after = ⊥
+PopsOnceBy words late before (stepped.Goes (stage.Looks line look)) after = ⊥
 PopsOnceBy words late before (stepped.Goes (stage.Sleeps line seen)) after = ⊥
 
 -- The member looked once for any item, in a take whose pop found none on this line. The look took an item out, or was refused;
@@ -66,7 +65,7 @@ LooksOneTimeBy words late line before (stepped.Ends took.Held) after = ⊥
 LooksOneTimeBy words late line before (stepped.Ends (took.Over number)) after = (number ≡ line) × SeesNoneBy words before after
 LooksOneTimeBy words late line before (stepped.Goes stage.Pops) after = ⊥
 LooksOneTimeBy words late line before (stepped.Goes (stage.Announces number)) after = ⊥
-LooksOneTimeBy words late line before (stepped.Goes (stage.Looks number seen is_last)) after =
+LooksOneTimeBy words late line before (stepped.Goes (stage.Looks number look)) after =
     (number ≡ line) × FindsHeldYet before after
 LooksOneTimeBy words late line before (stepped.Goes (stage.Sleeps number seen)) after = (number ≡ line) × SeesNoneBy words before after
 
@@ -76,7 +75,7 @@ abbrev pub TakeStepsBy : ℕ → (late : Type 0) → TakeStage → Joined → Ta
 TakeStepsBy words late stage.Pops before result after = PopsOnceBy words late before result after
 TakeStepsBy words late (stage.Announces line) before result after =
     LooksOneTimeBy words late line before result after ⊎ ((result ≡ stepped.Ends (took.Late line)) × late × (after ≡ before))
-TakeStepsBy words late (stage.Looks line seen is_last) before result after = LooksOneTimeBy words late line before result after
+TakeStepsBy words late (stage.Looks line look) before result after = LooksOneTimeBy words late line before result after
 TakeStepsBy words late (stage.Sleeps line seen) before result after = LooksOneTimeBy words late line before result after
 
 -- what a step comes to whose pop was so answered
@@ -87,6 +86,18 @@ popped_by (Entered number (LeastIs x)) = stepped.Goes (stage.Announces number)
 popped_by (Entered number Empty) = stepped.Goes (stage.Announces number)
 popped_by answer.BookFull = stepped.Ends (took.Refused error.BookFull)
 popped_by answer.NoMemory = stepped.Ends (took.Refused error.NoMemory)
+
+-- what a step of a take comes to whose look came to this, behind a pop that found no item on this line
+abbrev pub looked_on : ℕ → DueStepped → TakeStepped
+looked_on line (due_stepped.Ends (due_took.Taken number x)) = stepped.Ends (took.Taken number x)
+looked_on line (due_stepped.Ends (due_took.Refused error)) = stepped.Ends (took.Refused error)
+looked_on line (due_stepped.Ends (due_took.Later x)) = stepped.Ends (took.Late line)
+looked_on line (due_stepped.Ends due_took.Nothing) = stepped.Ends (took.Late line)
+looked_on line (due_stepped.Ends due_took.Held) = stepped.Ends (took.Late line)
+looked_on line (due_stepped.Ends due_took.Over) = stepped.Ends (took.Over line)
+looked_on line (due_stepped.Goes due_stage.Announces) = stepped.Goes (stage.Announces line)
+looked_on line (due_stepped.Goes (due_stage.Looks look)) = stepped.Goes (stage.Looks line look)
+looked_on line (due_stepped.Goes (due_stage.Sleeps seen first)) = stepped.Goes (stage.Sleeps line seen)
 
 -- what a take comes back with that came to this, where the clock told this time last, or none
 abbrev pub awaited_by : Took → Option Instant → Result (Option Awaited) CallError

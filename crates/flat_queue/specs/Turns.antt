@@ -1,8 +1,9 @@
 -- The turns that a call takes while it waits for its answer.
-use Rattle.std.specs.Prelude.{◌≡◌, ℕ, zero, suc, ◌⊎◌, Option, None}
+use Rattle.std.specs.Prelude.{◌≡◌, ℕ, zero, suc, ◌<◌, ◌⊎◌, Option, None}
 use Rattle.pq_types.specs.Asked.{Answer}
 use Rattle.desk_core.specs.Pen.{after_miss}
 use Rattle.announce_board.specs.Asking.{LooksBy}
+use Rattle.flat_queue.specs.Limits.{most_posts}
 use Rattle.flat_queue.specs.Members.{Joined, StaysAtPlace}
 use Rattle.flat_queue.specs.TrailSweeping.{MakesTrailRoundBy}
 use Rattle.flat_queue.specs.declared.gate.Turn.{Turn}
@@ -15,6 +16,10 @@ LeadsBy words before after = (served doors : ℕ) × MakesTrailRoundBy words bef
 -- the member tried the lock, and found it held
 abbrev pub FindsLockHeld : Joined → Joined → Type 0
 FindsLockHeld before after = after ≡ record before { pen = after_miss before.pen }
+
+-- the member, which has a serial left, tried the lock once, and found it held
+abbrev pub FindsHeldYet : Joined → Joined → Type 0
+FindsHeldYet before after = (before.pen.posts < most_posts before.queue.room) × FindsLockHeld before after
 
 -- the member tried the lock so often, one time after another, and found it held each time
 abbrev pub Misses : ℕ → Joined → Joined → Type 0

@@ -83,6 +83,7 @@ impl<S: Store<Entry<P>>, P: Part> Queue<S, P> {
         for _ in rt.forever() {
             match self.step_asking(member, gate) {
                 CallStepped::Ends(came) => return answer_of(came),
+                CallStepped::IsShut => unreachable!(),
                 CallStepped::Goes(stage) => {
                     self.waiters.wake_owed();
                     self.pause_before(rt, stage, &mut rests);
@@ -100,7 +101,7 @@ impl<S: Store<Entry<P>>, P: Part> Queue<S, P> {
         rests: &mut Rest,
     ) {
         match stage {
-            CallStage::Tries(_, _) => hint::spin_loop(),
+            CallStage::Tries(_, _) | CallStage::TriesUnlessShut(_, _) => hint::spin_loop(),
             CallStage::Looks => (),
             CallStage::Waits => rests.rest(rt, self.joined()),
         }

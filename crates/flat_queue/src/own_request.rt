@@ -104,6 +104,7 @@ impl<S: Store<Entry<P>>, P: Part> Queue<S, P> {
             self.waiters.wake_owed();
             match told {
                 CallStepped::Ends(came) => return end_of(came),
+                CallStepped::IsShut => unreachable!(),
                 CallStepped::Goes(next) => stage = next,
             }
         }
@@ -124,7 +125,7 @@ impl<S: Store<Entry<P>>, P: Part> Queue<S, P> {
         match self.step_held(member, asked, tries, &Open) {
             Then::TriesAgain => CallStage::Tries(request, tries - 1),
             Then::HasPosted => CallStage::Looks,
-            Then::GivesUp => unreachable!(),
+            Then::GivesUp | Then::IsShut => unreachable!(),
         }
     }
 

@@ -3,11 +3,12 @@ ghost use Rattle.std.specs.Prelude.{◌≡◌, ℕ, ◌<◌, true};
 ghost use Rattle.desk_core.specs.Words.{word_number};
 ghost use Rattle.announce_board.specs.Tokens.{is_idle};
 ghost use Rattle.flat_queue.specs.declared.event_count.Wakes.TheVariants.{EventOrEnd};
-ghost use Rattle.flat_queue.specs.TakeSteps.{PopsOnceBy, LooksOneTimeBy, TakeStepsBy, popped_by, awaited_by};
+ghost use Rattle.flat_queue.specs.TakeSteps.{PopsOnceBy, LooksOneTimeBy, TakeStepsBy, popped_by, looked_on, awaited_by};
 
+use crate::due_steps::{DueLook, DueNow, DueStage, DueStepped, DueTook};
 use crate::error::CallError;
 use crate::event_count::Wakes;
-use crate::looking::{Looked, Wanted};
+use crate::looking::Wanted;
 use crate::member::Member;
 use crate::queue::Queue;
 use crate::taking::Awaited;
@@ -31,8 +32,8 @@ pub enum TakeStage {
     Pops,
     /// Its pop found no item, on this line: it is to announce itself, and to look.
     Announces(u64),
-    /// It is announced, and is to look: the line of its pop, the count of events, and whether the queue was over before.
-    Looks(u64, u64, bool),
+    /// It is announced, and is to look: the line of its pop, and what it knew as it was announced.
+    Looks(u64, DueLook),
     /// It is announced, and its look found no item: the line of its pop, and the count of events while which it may sleep.
     Sleeps(u64, u64),
 }
@@ -82,15 +83,17 @@ impl<S: Store<Entry<P>>, P: Part> Queue<S, P> {
             TakeStage::Pops => self.step_popping(member, left),
             TakeStage::Announces(line) => match left {
                 Left::Nothing => TakeStepped::Ends(Took::Late(line)),
-                Left::Enough => self.step_announcing(member, line, wakes, left),
+                Left::Enough => {
+                    self.step_looking(member, line, DueStage::Announces, wakes, left)
+                }
             },
-            TakeStage::Looks(line, seen, was_over) => {
-                let is_last = was_over && matches!(wakes, Wakes::EventOrEnd);
-                self.step_looking(member, line, seen, is_last, left)
+            TakeStage::Looks(line, look) => {
+                self.step_looking(member, line, DueStage::Looks(look), wakes, left)
             }
+            // It hands no wake on as it takes an item, as that is what it was woken for.
             TakeStage::Sleeps(line, _) => {
                 self.waiters.end_wait();
-                self.step_announcing(member, line, wakes, left)
+                self.step_looking(member, line, DueStage::Announces, wakes, left)
             }
         }
     }
@@ -126,11 +129,12 @@ impl<S: Store<Entry<P>>, P: Part> Queue<S, P> {
         }
     }
 
-    // It announces itself, and looks. Whether the queue is over is asked before: where it is, the look is the last one.
-    fn step_announcing(
+    // Its pop, on this line, found no item: it looks for any, as a call does for what is due.
+    fn step_looking(
         &self,
         member: &mut Member<S, P>,
         line: u64,
+        stage: DueStage<Item<P>>,
         wakes: Wakes,
         left: Left,
     ) -> TakeStepped<Item<P>>
@@ -139,58 +143,12 @@ impl<S: Store<Entry<P>>, P: Part> Queue<S, P> {
         ensures steps { LooksOneTimeBy (word_number P.wide) (left ≡ Left.Nothing) line member.old result member.new }
         ensures heeds { (number : ℕ) → result ≡ TakeStepped.Ends (Took.Over number) → wakes ≡ EventOrEnd }
     {
-        let is_last = self.waiters.is_over(wakes);
-        let seen = self.waiters.begin_wait();
-        self.step_looking(member, line, seen, is_last, left)
-    }
-
-    // It is announced, and looks. One that goes where it found the lock held passes a wake on, which it may have got for an item.
-    fn step_looking(
-        &self,
-        member: &mut Member<S, P>,
-        line: u64,
-        seen: u64,
-        is_last: bool,
-        left: Left,
-    ) -> TakeStepped<Item<P>>
-        requires queue { member.old.queue ≡ self.now }
-        requires idle { is_idle member.old.pen.standing ≡ true }
-        ensures steps { LooksOneTimeBy (word_number P.wide) (left ≡ Left.Nothing) line member.old result member.new }
-        ensures last { (number : ℕ) → result ≡ TakeStepped.Ends (Took.Over number) → is_last ≡ true }
-    {
-        if member.posts() >= self.most_posts() {
-            self.waiters.end_wait();
-            return self.refused(CallError::Spent);
-        }
-        match self.take_first(member, Wanted::Anything) {
-            None => match left {
-                Left::Nothing => {
-                    let told = self.leave(Took::Late(line));
-                    self.waiters.count(1);
-                    told
-                }
-                Left::Enough => TakeStepped::Goes(TakeStage::Looks(line, seen, is_last)),
-            },
-            Some(Looked::Nothing) => match left {
-                Left::Nothing => self.leave(Took::Late(line)),
-                Left::Enough if is_last => self.leave(Took::Over(line)),
-                Left::Enough => TakeStepped::Goes(TakeStage::Sleeps(line, seen)),
-            },
-            Some(Looked::Taken(number, item)) => self.leave(Took::Taken(number, item)),
-            Some(Looked::BookFull) => {
-                self.waiters.end_wait();
-                self.refused(CallError::BookFull)
-            }
-            Some(Looked::Stays(_)) => unreachable!(),
-        }
-    }
-
-    // One that was announced comes to this.
-    fn leave(&self, took: Took<Item<P>>) -> TakeStepped<Item<P>>
-        ensures { result ≡ TakeStepped.Ends took }
-    {
-        self.waiters.end_wait();
-        TakeStepped::Ends(took)
+        let now = DueNow {
+            wanted: Wanted::Anything,
+            left,
+            wakes,
+        };
+        looked_on(line, self.step_due(member, stage, now))
     }
 
     // One that is refused takes no item: a wake that it may have got was meant for one, so the next is to be woken.
@@ -199,6 +157,27 @@ impl<S: Store<Entry<P>>, P: Part> Queue<S, P> {
     {
         self.waiters.count(1);
         TakeStepped::Ends(Took::Refused(error))
+    }
+}
+
+// What a step of a take comes to whose look came to this, behind a pop that found no item on this line.
+fn looked_on<P: Part>(line: u64, looked: DueStepped<Item<P>>) -> TakeStepped<Item<P>>
+    ensures { result ≡ looked_on line looked }
+{
+    match looked {
+        DueStepped::Ends(DueTook::Taken(number, item)) => {
+            TakeStepped::Ends(Took::Taken(number, item))
+        }
+        DueStepped::Ends(DueTook::Refused(error)) => TakeStepped::Ends(Took::Refused(error)),
+        DueStepped::Ends(DueTook::Later(_) | DueTook::Nothing | DueTook::Held) => {
+            TakeStepped::Ends(Took::Late(line))
+        }
+        DueStepped::Ends(DueTook::Over) => TakeStepped::Ends(Took::Over(line)),
+        DueStepped::Goes(DueStage::Announces) => TakeStepped::Goes(TakeStage::Announces(line)),
+        DueStepped::Goes(DueStage::Looks(look)) => TakeStepped::Goes(TakeStage::Looks(line, look)),
+        DueStepped::Goes(DueStage::Sleeps(seen, _)) => {
+            TakeStepped::Goes(TakeStage::Sleeps(line, seen))
+        }
     }
 }
 

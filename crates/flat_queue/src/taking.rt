@@ -129,7 +129,7 @@ impl<S: Store<Entry<P>>, P: Part> Queue<S, P> {
                     TakeStage::Announces(line) => {
                         return self.look_on(rt, member, line, &by, wakes);
                     }
-                    TakeStage::Looks(_, _, _) | TakeStage::Sleeps(_, _) => unreachable!(),
+                    TakeStage::Looks(_, _) | TakeStage::Sleeps(_, _) => unreachable!(),
                 },
             }
             clock = by.left();
@@ -183,7 +183,7 @@ impl<S: Store<Entry<P>>, P: Part> Queue<S, P> {
     ) {
         match stage {
             TakeStage::Sleeps(_, seen) => deadline.sleep(rt, &self.waiters, seen, wakes),
-            TakeStage::Pops | TakeStage::Announces(_) | TakeStage::Looks(_, _, _) => {
+            TakeStage::Pops | TakeStage::Announces(_) | TakeStage::Looks(_, _) => {
                 rests.rest(rt, self.joined());
             }
         }
@@ -202,7 +202,7 @@ impl<S: Store<Entry<P>>, P: Part> Queue<S, P> {
 // How a take rests on from this stage: a look that begins does so afresh, as its member is to.
 fn rests_at(stage: TakeStage, rests: Rest, afresh: Rest) -> Rest {
     match stage {
-        TakeStage::Looks(_, _, _) => rests,
+        TakeStage::Looks(_, _) => rests,
         TakeStage::Pops | TakeStage::Announces(_) | TakeStage::Sleeps(_, _) => afresh.of_tries(),
     }
 }

@@ -16,8 +16,6 @@ use Rattle.queue_pool.specs.declared.calling.CallStep.{CallStep as CallStepOf}
 use Rattle.queue_pool.specs.declared.calling.CallStep.TheVariants as step
 use Rattle.queue_pool.specs.declared.calling.AnswerStep.{AnswerStep as AnswerStepOf}
 use Rattle.queue_pool.specs.declared.calling.AnswerStep.TheVariants as answer_step
-use Rattle.queue_pool.specs.declared.calling.Then.{Then}
-use Rattle.queue_pool.specs.declared.calling.Then.TheVariants as then
 
 -- what a step of a call came to, and one of a call that has posted, of items of any width
 abbrev pub CallStep : Type 0
@@ -26,14 +24,12 @@ CallStep = CallStepOf Item
 abbrev pub AnswerStep : Type 0
 AnswerStep = AnswerStepOf Item
 
--- What a member does that found the lock held, and may post this request, or may not: it stays as it is; or it has posted the
--- request once; or it stays as it is, as the request is a push. Here, and in all that follows, items have so many words.
-abbrev pub FindsItHeldBy : ℕ → Joined → Request → (posts : Bool) → Then → Joined → Type 0
-FindsItHeldBy words before request posts then.Stays after = (posts ≡ false) × (after ≡ before)
-FindsItHeldBy words before request posts then.HasPosted after = (posts ≡ true) × PostsOnceBy words request before after
-FindsItHeldBy words before request posts then.IsShut after = (posts ≡ true) × IsPush request × (after ≡ before)
+-- how often a call is to try the lock again before it posts, by whether its step may post
+abbrev pub tries_of : (posts : Bool) → ℕ
+tries_of true = 0
+tries_of false = 1
 
--- The member found the lock held, and then posted this request once.
+-- The member found the lock held, and then posted this request once. Here, and in all that follows, items have so many words.
 abbrev pub PostsBehindMissBy : ℕ → Joined → Request → Joined → Type 0
 PostsBehindMissBy words before request after = (held : Joined) × FindsLockHeld before held × PostsOnceBy words request held after
 

@@ -17,7 +17,8 @@ ghost use Rattle.queue_pool.specs.Shared.{SeesBy, TriesUpToBy, TriesFirstBy, Tri
 ghost use Rattle.queue_pool.specs.Shared.{TriesCountBy, TriesPushWithinBy, TriesTicketBy, TriesRemovalBy, TriesMoveBy};
 
 use flat_queue::{
-    Backlog, Batch, Counts, EventCount, Looked, Member, Queue, Round, Shut, Unpushed, Wanted,
+    Backlog, Batch, Counts, DueStage, EventCount, Looked, Member, Queue, Round, Shut, Unpushed,
+    Wanted,
 };
 use leftist_heap::{Store, TicketStore};
 use pq_book::{Entry, LinesError};
@@ -34,7 +35,7 @@ use std::sync::Arc;
 pub struct SharedHandle<S: Store<Entry<P>>, P: Part = u32> {
     pub(crate) queue: Arc<Queue<S, P>, Global>,
     pub(crate) member: Member<S, P>,
-    pub(crate) is_announced: bool,
+    pub(crate) stage: DueStage<Item<P>>,
 }
 
 impl<S: Store<Entry<P>>, P: Part> Model for SharedHandle<S, P> {
@@ -144,7 +145,7 @@ impl<S: Store<Entry<P>>, P: Part> SharedHandle<S, P> {
         SharedHandle {
             queue,
             member,
-            is_announced: false,
+            stage: DueStage::Announces,
         }
     }
 
@@ -378,7 +379,7 @@ impl<S: Store<Entry<P>>, P: Part> SharedHandle<S, P> {
         let SharedHandle {
             queue,
             member,
-            is_announced: _,
+            stage: _,
         } = self;
         (queue, member)
     }

@@ -1,10 +1,10 @@
 // How a member takes an item that it may wait for, in steps: its caller rests, or sleeps, between them.
-ghost use Rattle.std.specs.Prelude.{◌≡◌, ◌≢◌};
+ghost use Rattle.std.specs.Prelude.{◌≡◌};
 ghost use Rattle.desk_core.specs.Words.{word_number};
-ghost use Rattle.queue_pool.specs.Taking.{StepsTakeBy};
+ghost use Rattle.queue_pool.specs.Taking.{StepsTakeBy, ended_take, take_goes_on};
 
 use crate::shared::SharedHandle;
-use flat_queue::{Looked, Wanted};
+use flat_queue::{DueNow, DueStage, DueStepped, DueTook, Left, Looked, Wakes, Wanted};
 use leftist_heap::Store;
 use pq_book::Entry;
 use pq_types::{Item, Part};
@@ -25,10 +25,11 @@ pub enum TakeStep<I = Item> {
 }
 
 impl<S: Store<Entry<P>>, P: Part> SharedHandle<S, P> {
-    /// The next step of a take of the first item, where that is wanted. It announces the member as one that waits, and looks at
-    /// the first item, as `try_take_first` does. So whoever sleeps has looked after the announcement, and found nothing to take. A
-    /// take that is over is announced no more; one that is given up ends by `end_take`. Takes memory for the pushes of others
-    /// alone, and never waits.
+    /// The next step of a take of the first item, where that is wanted, as `Queue::step_due` makes it. It announces the member as
+    /// one that waits, and looks at the first item, as `try_take_first` does. So whoever sleeps has looked after the announcement,
+    /// and found nothing to take. A take that is over is announced no more; one that is given up ends by `end_take`. One that goes
+    /// on where it has slept hands a wake on, as it takes an item; one that ended by `end_take` before does not. Takes memory for
+    /// the pushes of others alone, and never waits.
     pub fn step_take(&mut self, wanted: Wanted) -> TakeStep<Item<P>>
         ensures { StepsTakeBy (word_number P.wide) wanted self.old result self.new }
     {
@@ -39,50 +40,57 @@ impl<S: Store<Entry<P>>, P: Part> SharedHandle<S, P> {
             self.end_take();
             return TakeStep::Spent;
         }
-        let is_last = self.queue.waiters().ending().is_over();
-        self.announce();
-        let Some(seen) = self.queue.take_first(&mut self.member, wanted) else {
-            return TakeStep::LockHeld;
+        let now = DueNow {
+            wanted,
+            left: Left::Enough,
+            wakes: Wakes::EventOrEnd,
         };
-        self.came_to(seen, is_last)
+        match self.queue.step_due(&mut self.member, self.stage, now) {
+            DueStepped::Ends(took) => {
+                self.stage = DueStage::Announces;
+                ended(took)
+            }
+            DueStepped::Goes(stage) => {
+                self.stage = stage;
+                gone_on(stage)
+            }
+        }
     }
 
-    /// Ends a take that is announced: it waits for no item any more. Takes no memory, and never waits.
+    /// Ends a take that is announced: it waits for no item any more. It hands no wake on: its caller does. Takes no memory, and
+    /// never waits.
     pub fn end_take(&mut self)
         ensures { self.new ≡ self.old }
     {
-        if self.is_announced {
-            self.queue.waiters().end_wait();
-            self.is_announced = false;
+        match self.stage {
+            DueStage::Announces => (),
+            DueStage::Looks(_) | DueStage::Sleeps(_, _) => self.queue.waiters().end_wait(),
         }
+        self.stage = DueStage::Announces;
     }
+}
 
-    // It waits for an item from now on, where it doesn't so already.
-    fn announce(&mut self)
-        ensures { self.new ≡ self.old }
-    {
-        if !self.is_announced {
-            self.queue.waiters().begin_wait();
-            self.is_announced = true;
-        }
+// What a step comes to whose take is over.
+fn ended<P: Part>(took: DueTook<Item<P>>) -> TakeStep<Item<P>>
+    ensures { result ≡ ended_take took }
+{
+    match took {
+        DueTook::Taken(number, item) => TakeStep::Looked(Looked::Taken(number, item)),
+        DueTook::Refused(_) => TakeStep::Looked(Looked::BookFull),
+        DueTook::Later(item) => TakeStep::Looked(Looked::Stays(item)),
+        DueTook::Nothing => TakeStep::Looked(Looked::Nothing),
+        DueTook::Held => TakeStep::LockHeld,
+        DueTook::Over => TakeStep::Over,
     }
+}
 
-    // What a step comes to that saw this, where the queue was over before, or was not.
-    fn came_to(&mut self, seen: Looked<Item<P>>, is_last: bool) -> TakeStep<Item<P>>
-        ensures same { self.new ≡ self.old }
-        ensures seen { result ≢ TakeStep.Over → result ≡ TakeStep.Looked seen }
-        ensures over { result ≡ TakeStep.Over → seen ≡ Looked.Nothing }
-    {
-        match seen {
-            Looked::Nothing if is_last => {
-                self.end_take();
-                TakeStep::Over
-            }
-            Looked::Nothing | Looked::Stays(_) => TakeStep::Looked(seen),
-            Looked::Taken(_, _) | Looked::BookFull => {
-                self.end_take();
-                TakeStep::Looked(seen)
-            }
-        }
+// What a step comes to whose take goes on from this stage.
+fn gone_on<P: Part>(stage: DueStage<Item<P>>) -> TakeStep<Item<P>>
+    ensures { result ≡ take_goes_on stage }
+{
+    match stage {
+        DueStage::Announces | DueStage::Looks(_) => TakeStep::LockHeld,
+        DueStage::Sleeps(_, Some(item)) => TakeStep::Looked(Looked::Stays(item)),
+        DueStage::Sleeps(_, None) => TakeStep::Looked(Looked::Nothing),
     }
 }

@@ -1,26 +1,14 @@
-use Rattle.std.proofs.Common.{rules, ◌<◌, ◌≡◌, ◌∙◌, ap, sym, subst}
-use Rattle.std.specs.Prelude.{Some, IfSome}
+use Rattle.std.proofs.Common.{◌≡◌, ◌∙◌, sym, subst}
 use Rattle.desk_core.specs.Words.{word_number}
-use Rattle.flat_queue.specs.Limits.{most_posts}
-use Rattle.flat_queue.specs.Looking.{LooksFirstBy}
 use Rattle.flat_queue.specs.TakeSteps.{LooksOneTimeBy}
-use Rattle.flat_queue.specs.declared.looking.Wanted.TheVariants.{Anything}
 use Rattle.flat_queue.specs.declared.take_steps.Left.TheVariants.{Nothing}
-use Rattle.flat_queue.proofs.Takings.{takes_now, full_now}
+use Rattle.flat_queue.proofs.TakeStepping.{looks_as, over_as}
 use Rattle.flat_queue.proofs.queue.Queue.step_looking.Goals as goal
 
-pub returns-in-Some-Taken-clause-steps : goal.returns-in-Some-Taken-clause-steps
-returns-in-Some-Taken-clause-steps g c =
-    let it = c.in-Some-Taken in
-    let few : c.args.member.now.pen.posts < most_posts c.args.member.now.queue.room = search rules in
-    let looked = subst (λ r. IfSome r (λ told. LooksFirstBy (word_number g.P.Part.wide) Anything c.args.member.now told c.take_first.new.member)) (it.is ∙ ap Some it.field-0-is) c.take_first.ensures.looks in
-    subst (λ r. LooksOneTimeBy (word_number g.P.Part.wide) (c.args.left ≡ Nothing) c.args.line c.args.member.now r c.take_first.new.member) (sym c.leave-in-Some-Taken.ensures)
-    (takes_now _ Anything c.args.member.now c.take_first.new.member it.number it.item few looked)
+pub returns-clause-steps : goal.returns-clause-steps
+returns-clause-steps g c =
+    subst (λ r. LooksOneTimeBy (word_number g.P.Part.wide) (c.args.left ≡ Nothing) c.args.line c.args.member.now r c.step_due.new.member) (sym c.looked_on.ensures)
+    (looks_as _ _ c.args.line c.args.member.now c.step_due.new.member c.step_due.result c.step_due.ensures.steps)
 
-pub returns-in-Some-BookFull-clause-steps : goal.returns-in-Some-BookFull-clause-steps
-returns-in-Some-BookFull-clause-steps g c =
-    let it = c.in-Some-BookFull in
-    let few : c.args.member.now.pen.posts < most_posts c.args.member.now.queue.room = search rules in
-    let looked = subst (λ r. IfSome r (λ told. LooksFirstBy (word_number g.P.Part.wide) Anything c.args.member.now told c.take_first.new.member)) (it.is ∙ ap Some it.field-0-is) c.take_first.ensures.looks in
-    subst (λ r. LooksOneTimeBy (word_number g.P.Part.wide) (c.args.left ≡ Nothing) c.args.line c.args.member.now r c.take_first.new.member) (sym c.refused-in-Some-BookFull.ensures)
-    (full_now _ Anything c.args.member.now c.take_first.new.member few looked)
+pub returns-clause-heeds : goal.returns-clause-heeds
+returns-clause-heeds g c number e = c.step_due.ensures.heeds (over_as c.args.line number c.step_due.result (sym c.looked_on.ensures ∙ e))

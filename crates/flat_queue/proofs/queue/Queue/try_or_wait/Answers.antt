@@ -15,13 +15,13 @@ returns-in-Ends g c =
     let after = c.step_call-told.new.member in
     subst (λ r. MakesCall (TriesOrWaitsBy (word_number g.P.Part.wide)) (λ told. told) room before c.args.request r after) (sym c.end_of.ensures)
     (steps_end _ room before c.loop.member after c.args.request c.loop.stage c.in-Ends.came
-    (subst (λ q. before.pen.posts < most_posts q.room) (sym c.requires.queue) c.requires.few) c.loop.invariant.2 c.in-Ends.ensures)
+    (subst (λ q. before.pen.posts < most_posts q.room) (sym c.requires.queue) c.requires.few) c.loop.invariant.2 c.in-Ends.ensures.steps)
 
 pub loop-preserved : goal.loop-preserved
 loop-preserved g c =
     let room = HasRoomForAll g.S.Store.room c.args.self.now in
     let before = c.args.member.now in
     let after = c.step_call-told.new.member in
-    let h = c.in-Goes.ensures in
+    let h = c.in-Goes.ensures.steps in
     let fits = steps_fit _ (λ turn. turn ≡ Lead) room c.loop.member after c.loop.stage c.in-Goes.next c.loop.invariant.1 h in
     (fits.0 ∙ c.loop.invariant.0, fits.1, steps_go _ room before c.loop.member after c.args.request c.loop.stage c.in-Goes.next c.loop.invariant.2 h)

@@ -12,7 +12,7 @@
  * through it. A program that wants to move a member between threads joins one itself (pq_join).
  *
  * Most calls take `until`, the time until which they may wait for the queue's lock, a member or an item: a time of pq_now, PQ_NOW (never), or
- * PQ_FOREVER. A call that returns PQ_TIMED_OUT has done nothing, and nothing of it happens later. Only pq_write is a cancellation point.
+ * PQ_FOREVER. PQ_TIMED_OUT: nothing was done or will be, but for *done pushes of pq_push_many. Only pq_write is a cancellation point.
  *
  * All that a thread does before it pushes or moves an item happens before what another does after a call that returned it. So a value may be
  * a pointer.
@@ -65,7 +65,7 @@ typedef enum pq_code {
     PQ_NOT_DUE = 50,      /* the priority of the first item is above the bound: the item stays */
     PQ_SHUT = 51,         /* the queue is shut, so it takes no push; or it is shut and empty */
     PQ_UNARCHIVED = 52,   /* the request could make memory forget an entry that is not archived */
-    PQ_FULL = 53,         /* the queue has as many items as it may have: nothing was done */
+    PQ_FULL = 53,         /* the queue has as many items as it may have */
     PQ_NOT_LAWFUL = 54,   /* a line of text is no entry that may come next */
     PQ_TORN = 55,         /* the last line of the text is cut off, as after a crash */
     PQ_NOT_READ = 56,     /* a read failed */
@@ -74,14 +74,14 @@ typedef enum pq_code {
     PQ_NO_TICKETS = 59,   /* the queue was not opened with tickets */
     PQ_FORKED = 60,       /* this process is a forked child of one that had opened a queue */
     PQ_PROCESSOR = 61,    /* the processor has no SSE4.1 */
-    PQ_TIMED_OUT = 62,    /* other threads had the lock, or all members, until then: nothing was done */
+    PQ_TIMED_OUT = 62,    /* other threads had the lock, or all members, until then */
     PQ_CLOSED = 63        /* the queue is closed */
 } pq_code;
 
 /* The text of a code. */
 const char *pq_code_text(uint32_t code);
 
-/* The version of the library. Library and header fit together if both have the same major and minor version. */
+/* The version of the library. It fits a header of the same major and minor version that is not newer: a patch may add calls. */
 uint32_t pq_version(void);
 
 /* Times are nanoseconds of CLOCK_MONOTONIC. pq_after: so many from now; PQ_FOREVER where there is no such time. */
@@ -192,7 +192,7 @@ PQ_CHECKED pq_code pq_pop_due_many(pq_member *member, uint64_t priority, pq_item
                                    uint64_t *number);
 
 /* How many items the queue has, exactly, at one moment of the call. It has no entry. peak may be NULL; else *peak is the most items that the
-   queue has had at once, from when it was opened to that moment. PQ_OK. */
+   queue has had at once, from when it was opened to that moment. PQ_OK; never PQ_EXHAUSTED, PQ_JOURNAL_FULL or PQ_UNARCHIVED. */
 PQ_CHECKED pq_code pq_size(pq_member *member, uint64_t until, uint64_t *size, uint64_t *peak);
 
 /* Takes the item of this ticket out, wherever it waits: the ticket is the number of the entry that put it in. No other call returns it then. Also

@@ -15,7 +15,7 @@
 //
 // Any number of threads may call a queue itself. A thread gets a member of its own at its first call; where all members are in use it takes
 // over an idle one, or waits for one. A thread that waits for an item, or for room, keeps its member meanwhile. A program that moves members
-// between threads joins them (queue::join). The last argument of a call is the time until which it may wait (flatpq::deadline).
+// between threads joins them (queue::join). The last argument is the time until which a call may wait (deadline); drain and clear have none.
 //
 // Queues, members, listeners and journals are moved and never copied, and free what they hold. They may end in any order. Each call of one
 // that was moved from returns code::no_member. Members and listeners are in one call at a time, and so are journals but for const calls.

@@ -468,8 +468,8 @@ macro_rules! takes {
 
 pub(crate) use {calls, takes};
 
-/// Calls that wait for other threads until a deadline at most, by [`TaskQueue::until`](crate::TaskQueue::until) or
-/// [`TaskMember::until`](crate::TaskMember::until). One that returns [`Error::TimedOut`] has done nothing, and nothing of it happens later.
+/// Calls that wait until a deadline at most: [`TaskQueue::until`](crate::TaskQueue::until), [`TaskMember::until`](crate::TaskMember::until).
+/// One that returns [`Error::TimedOut`] has done nothing but what [`NotAllPushed`] says of a batch, and nothing of it happens later.
 ///
 /// ```
 /// use flatpq::{TaskQueue, Until};

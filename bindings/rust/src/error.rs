@@ -52,7 +52,7 @@ errors! {
     Shut = 51,
     /// The request could make memory forget a journal entry that is not archived.
     Unarchived = 52,
-    /// The queue has as many items as it may have ([`Options::most_items`](crate::Options::most_items)). Nothing was done.
+    /// The queue has as many items as it may have ([`Options::most_items`](crate::Options::most_items)).
     Full = 53,
     /// A line of text is no journal entry that may come next.
     NotLawful = 54,
@@ -64,7 +64,7 @@ errors! {
     Forked = 60,
     /// The processor has no SSE4.1.
     Processor = 61,
-    /// Other threads had the lock, or all members, until the deadline. Nothing was done.
+    /// Other threads had the lock, or all members, until the deadline.
     TimedOut = 62,
     /// The queue is closed.
     Closed = 63,

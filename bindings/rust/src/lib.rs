@@ -71,7 +71,7 @@ pub use options::{Keeping, Options};
 pub use tasks::{Member, Queue, TaskMember, TaskQueue};
 
 /// The version of the library that is linked: 10,000 times its major number, 100 times its minor number, and its patch. It goes with
-/// this crate where all but the patch are the same.
+/// this crate where all but the patch are the same, and its patch is not lower.
 ///
 /// ```
 /// let numbers = [env!("CARGO_PKG_VERSION_MAJOR"), env!("CARGO_PKG_VERSION_MINOR"), env!("CARGO_PKG_VERSION_PATCH")];

@@ -128,9 +128,9 @@ pq_code pq_shut(pq_queue *queue);
    PQ_OK; PQ_MEMBERS_LEFT, PQ_NO_MEMORY: the queue stays open; PQ_CLOSED, PQ_FORKED. */
 PQ_CHECKED pq_code pq_close(pq_queue *queue, pq_journal **journal);
 
-/* Frees the queue, closed or not: the program must not use the pointer any more. Memory is freed once the last joined member is given
-   back, and the last call by an own member has returned. Then `left`, unless it is NULL, is called with each item that was left, in the
-   thread that frees the memory; its calls by `queue` return PQ_CLOSED. queue may be NULL. No thread that waits is woken: shut it first. */
+/* Frees the queue, closed or not: the program must not use the pointer any more. Memory is freed once joined members are given back, calls have
+   returned, and threads that listen or have posted by pq_own have ended. Then `left`, unless it is NULL, is called with each item that was left, in
+   the thread that frees the memory; its calls by `queue` return PQ_CLOSED. queue may be NULL. No thread that waits is woken: shut it first. */
 void pq_free(pq_queue *queue, void (*left)(void *context, pq_item item), void *context);
 
 /* Members. */
@@ -233,11 +233,11 @@ PQ_CHECKED pq_code pq_take_due_or_listen(pq_member *member, int timer, pq_item *
 PQ_CHECKED pq_code pq_take_or_listen(pq_member *member, uint64_t priority, pq_item *item, uint64_t *number,
                                      void (*notify)(void *context), void *context);
 
-/* Ends the listening: then notify neither runs nor is called again, nor is the timer set. 1: the member listened, and was not notified. */
+/* Ends the listening, as a take or a refused call does: notify neither runs nor is called again. 1: the member listened, and was not notified. */
 int pq_unlisten(pq_member *member);
 
-/* A notify that writes to an eventfd. context is its number: pq_notify_fd, (void *)(intptr_t)fd. The event loop reads the descriptor first,
-   and then takes items until there is none. */
+/* A notify that writes to an eventfd. context is its number: pq_notify_fd, (void *)(intptr_t)fd. Take until there is no item before the event
+   loop first waits, and whenever the descriptor is readable, after a read of it. */
 void pq_notify_fd(void *context);
 
 /* Journals: of a closed queue, copied from an open one, or read back from text. Many threads may read one. */

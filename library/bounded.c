@@ -16,6 +16,9 @@
  * gives up, it sets `room` to SAID again, and the next producer is woken.
  *
  * A thread that reads SAID or HEARD after its pop has nothing to say: a producer has yet to set `room` back, and then to try.
+ *
+ * Where the journal fills, and is full, no item goes out any more. A producer that finds the queue full then asks for that too. A call that is
+ * refused for it says that there is room, so each producer that sleeps is woken in turn, and is refused.
  */
 #include "inside.h"
 
@@ -110,11 +113,35 @@ static void settle(push *it) {
     }
 }
 
+static pq_code look(pq_member *member, core_answer *first) {
+    flatpq_pace.calls++;
+    return LEAVE_OUT(pq_core_try_pop_or_look(&member->proved, 0, 0, first));
+}
+
+/* Whether the journal is full. The look carries out what is posted. */
+static int is_stuck(const push *it) {
+    pq_member *member = it->member;
+    core_answer first;
+    pq_code code = member->queue->fills ? look(member, &first) : PQ_FULL;
+    if (!LIKELY(code != LOCK_HELD)) {
+        rest resting = flatpq_rest_of(member->queue, it->until);
+        while (code == LOCK_HELD && flatpq_rests(&resting)) {
+            code = look(member, &first);
+        }
+        flatpq_rested(&resting);
+    }
+    if (code != PQ_OK) {
+        return 0;
+    }
+    flatpq_carried_out(member, &first);
+    return first.kind == KIND_JOURNAL_FULL;
+}
+
 /* Whether another producer is to be woken. It may be woken for nothing. */
 static int leaves_room(const push *it, pq_code code) {
     const uint32_t two = 2 * PRODUCER;
     if (code != PQ_OK) {
-        return it->was_woken;
+        return it->was_woken || code == PQ_JOURNAL_FULL;
     }
     return __atomic_load_n(&it->member->queue->concerned, SEQ) >= two && flatpq_has_room(it->member);
 }
@@ -149,6 +176,10 @@ static pq_code wait_for_room(push *it) {
             break;
         }
         settle(it);
+        if (is_stuck(it)) {
+            code = PQ_JOURNAL_FULL;
+            break;
+        }
         if (flatpq_is_late(it->until)) {
             break;
         }
@@ -165,8 +196,8 @@ pq_code flatpq_push_within(pq_member *member, pq_item item, uint64_t until, core
     if (code == PQ_OK || code == PQ_FULL) {
         flatpq_carried_out(member, answer);
     }
-    if (code == PQ_FULL && until != PQ_NOW) {
-        code = wait_for_room(&it);
+    if (code == PQ_FULL) {
+        code = is_stuck(&it) ? PQ_JOURNAL_FULL : until != PQ_NOW ? wait_for_room(&it) : PQ_FULL;
     }
     if (code == PQ_OK && answer->kind != KIND_PUSHED) {
         return answer->kind == KIND_NO_MEMORY ? PQ_NO_MEMORY : PQ_JOURNAL_FULL;

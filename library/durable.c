@@ -9,7 +9,7 @@
 
 static void wake_awaiting(pq_queue *queue) {
     __atomic_fetch_add(&queue->archives, 1, SEQ);
-    if (__atomic_load_n(&queue->awaiting, SEQ) > 0) {
+    if (__atomic_load_n(&queue->staying, SEQ) > 0) {
         flatpq_wake_each(&queue->archives);
     }
 }
@@ -46,10 +46,10 @@ static pq_code look(pq_queue *queue, uint64_t number, uint64_t until) {
     return flatpq_is_late(until) ? PQ_TIMED_OUT : LOCK_HELD;
 }
 
-/* Changes how many wait. The queue may be gone after this. */
-static void count_awaiting(pq_queue *queue, uint32_t more) {
+/* Changes how many threads the queue's memory stays for. It may be gone after this. */
+void flatpq_count_staying(pq_queue *queue, uint32_t more) {
     pthread_mutex_lock(&flatpq_members);
-    __atomic_fetch_add(&queue->awaiting, more, SEQ);
+    __atomic_fetch_add(&queue->staying, more, SEQ);
     flatpq_unlock(queue);
 }
 
@@ -71,9 +71,9 @@ pq_code pq_wait_archived(pq_queue *queue, uint64_t number, uint64_t until) {
     }
     code = look(queue, number, until);
     if (code == LOCK_HELD) {
-        count_awaiting(queue, 1);
+        flatpq_count_staying(queue, 1);
         code = sleep_until_archived(queue, number, until);
-        count_awaiting(queue, UINT32_MAX);
+        flatpq_count_staying(queue, UINT32_MAX);
     }
     return code;
 }

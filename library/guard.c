@@ -55,11 +55,9 @@ pq_code flatpq_may_open(void) {
     return sees_forks ? PQ_OK : PQ_NO_MEMORY;
 }
 
-void flatpq_barrier(void) {
-    if ((flatpq_special & FENCES) == 0) {
-        syscall(SYS_membarrier, MEMBARRIER_CMD_PRIVATE_EXPEDITED, 0);
-    }
+int flatpq_barrier(void) {
     __atomic_thread_fence(SEQ);
+    return flatpq_special & FENCES || syscall(SYS_membarrier, MEMBARRIER_CMD_PRIVATE_EXPEDITED, 0) == 0;
 }
 
 uint64_t pq_now(void) {

@@ -42,7 +42,7 @@ struct pq_member {
     uint32_t has_tickets : 1;
     uint32_t keeps;        /* POSTED, LISTENS: its thread keeps it between calls */
     uint32_t place;
-    uint32_t has_left;     /* its last take_or_listen found an item */
+    uint32_t has_left;     /* its last take_or_listen that looked found an item */
     uint32_t drains;       /* it listens, and is counted in `concerned`: for what is left in a shut queue */
     uint32_t looks;        /* it listens, and its call still looks: that call does not notify it */
     pq_member *next;       /* of those that are in no use */
@@ -81,6 +81,7 @@ struct pq_queue {
     core proved;
     uint64_t time_zero, time_unit;
     uint64_t most_items; /* 0: as many as there are */
+    uint32_t fills;      /* its journal does, and is then full for good */
     uint32_t concerned;  /* whom it concerns that an item was taken: DRAIN of each that waits for what is left in a shut queue, and PRODUCER of
                             each that waits for room */
     uint32_t is_shut;
@@ -91,7 +92,7 @@ struct pq_queue {
     uint32_t is_ending; /* a thread frees its memory; the function `left` may call it meanwhile */
     uint32_t is_marked; /* the records of the queue are WANTED */
     uint32_t out;       /* members in use */
-    uint32_t awaiting;  /* threads that wait until an entry is archived */
+    uint32_t staying;   /* threads for which its memory stays: they wait until an entry is archived, or shut it */
     pq_member *spare;   /* members in no use */
     own *owns;
     wanting *first, **end;
@@ -147,7 +148,7 @@ extern uint32_t flatpq_may_spin HIDDEN; /* there is more than one processor */
 
 HIDDEN pq_code flatpq_may_open(void);
 HIDDEN pq_code flatpq_may_read(void);
-HIDDEN void flatpq_barrier(void);                                            /* in all threads of the process */
+HIDDEN int flatpq_barrier(void);                                             /* in all threads of the process: whether it was made */
 HIDDEN int flatpq_sleep(const uint32_t *word, uint32_t seen, uint64_t until); /* while the word is that: 0; 1: the time has come */
 HIDDEN void flatpq_nap(uint64_t nanoseconds);
 HIDDEN void flatpq_wake(const uint32_t *word);
@@ -184,7 +185,7 @@ HIDDEN void flatpq_release(pq_queue *queue, pq_member *member);
 HIDDEN void flatpq_mark(pq_queue *queue, uint32_t taken);
 HIDDEN void flatpq_put_in(pq_queue *queue, own *record, pq_member *member);
 HIDDEN pq_code flatpq_take_over(pq_queue *queue, pq_member **member);
-HIDDEN void flatpq_take_back(pq_queue *queue);
+HIDDEN int flatpq_take_back(pq_queue *queue);
 HIDDEN pq_code flatpq_begin_own(pq_member *shared, uint64_t until, own **mine);
 HIDDEN void flatpq_end_own(own *mine);
 HIDDEN int flatpq_has_own(const pq_member *shared);
@@ -350,6 +351,7 @@ HIDDEN pq_code flatpq_push_within(pq_member *member, pq_item item, uint64_t unti
  */
 HIDDEN void flatpq_count_archived(pq_queue *queue, uint64_t archived);
 HIDDEN void flatpq_end_awaiting(pq_queue *queue); /* the queue is closed or freed */
+HIDDEN void flatpq_count_staying(pq_queue *queue, uint32_t more);
 
 /*
  * journal.c

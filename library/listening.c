@@ -81,7 +81,11 @@ static pq_code take_or_listen(wait *it, uint64_t priority, void (*notify)(void *
     if (code == PQ_EMPTY || code == PQ_NOT_DUE) {
         code = listen(it, &member->queue->listeners, priority, notify, context);
     }
-    member->has_left = code == PQ_OK || code == PQ_NOT_DUE;
+    if (code == PQ_OK || code == PQ_NOT_DUE) {
+        member->has_left = 1;
+    } else if (code == PQ_EMPTY || code == PQ_SHUT) {
+        member->has_left = 0;
+    }
     if (it->was_woken && code != PQ_OK) {
         flatpq_owe(member->queue, 1);
     } else if (passes_on && code == PQ_NOT_DUE) {

@@ -63,7 +63,9 @@ pq_code flatpq_take_over(pq_queue *queue, pq_member **member) {
         return PQ_ALL_JOINED;
     }
     flatpq_mark(queue, WANTED);
-    flatpq_barrier();
+    if (!flatpq_barrier()) {
+        return PQ_ALL_JOINED;
+    }
     for (own *it = queue->owns; it != NULL; it = it->next_of_queue) {
         if (is_idle(it)) {
             *member = take_out(it);
@@ -73,17 +75,23 @@ pq_code flatpq_take_over(pq_queue *queue, pq_member **member) {
     return PQ_ALL_JOINED;
 }
 
-/* Takes all idle members over, and gives them back. */
-void flatpq_take_back(pq_queue *queue) {
+/* Takes all idle members over, and gives them back: whether others that listen relied on one of them. */
+int flatpq_take_back(pq_queue *queue) {
     own *next;
+    int has_left = 0;
     flatpq_mark(queue, WANTED);
-    flatpq_barrier();
+    if (!flatpq_barrier()) {
+        return 0;
+    }
     for (own *it = queue->owns; it != NULL; it = next) {
         next = it->next_of_queue;
         if (is_idle(it)) {
-            flatpq_release(queue, take_out(it));
+            pq_member *member = take_out(it);
+            has_left |= (int)member->has_left;
+            flatpq_release(queue, member);
         }
     }
+    return has_left;
 }
 
 /*
@@ -225,11 +233,11 @@ static void stay_loaded(void) {
 /* A record for this thread, whose end gives the member back: the system makes another round of destructors where one sets the key again. */
 static own *new_record(void) {
     pthread_once(&once, make_key);
-    if (flatpq_thread.owns == NULL) {
-        stay_loaded();
-        flatpq_thread.owns = calloc(LISTS, sizeof(own *));
+    stay_loaded();
+    if (!has_key || pthread_setspecific(at_end, &flatpq_thread) != 0) {
+        return NULL;
     }
-    if (flatpq_thread.owns == NULL || !has_key || pthread_setspecific(at_end, &flatpq_thread) != 0) {
+    if (flatpq_thread.owns == NULL && (flatpq_thread.owns = calloc(LISTS, sizeof(own *))) == NULL) {
         return NULL;
     }
     forget_taken();

@@ -51,6 +51,7 @@ pq_code pq_open(const pq_options *options, pq_queue **queue) {
     made->time_zero = asked->time_zero;
     made->time_unit = asked->time_unit != 0 ? asked->time_unit : 1;
     made->most_items = asked->most_items;
+    made->fills = asked->keeping == PQ_FILLS;
     made->earliest = PQ_FOREVER;
     made->own.queue = made;
     made->own.is_shared = 1;
@@ -85,7 +86,7 @@ static void end(pq_queue *queue) {
 }
 
 void flatpq_unlock(pq_queue *queue) {
-    int ends = queue->is_freed && !queue->is_ending && queue->out == 0 && queue->awaiting == 0;
+    int ends = queue->is_freed && !queue->is_ending && queue->out == 0 && queue->staying == 0;
     int is_wanted = queue->is_freed || queue->first != NULL;
     queue->is_ending |= (uint32_t)ends;
     if (!ends && is_wanted != (int)queue->is_marked) {
@@ -298,21 +299,24 @@ pq_code pq_shut(pq_queue *queue) {
     }
     pthread_mutex_lock(&flatpq_members);
     code = queue->is_closed ? PQ_CLOSED : pq_core_shut(&queue->proved);
+    /* A thread that finds the end may free the queue. Its memory stays until this call is done with it. */
+    __atomic_fetch_add(&queue->staying, code == PQ_OK, SEQ);
     pthread_mutex_unlock(&flatpq_members);
     if (code == PQ_OK) {
         __atomic_store_n(&queue->is_shut, 1, SEQ);
         flatpq_wake_all(queue, NULL);
+        flatpq_count_staying(queue, UINT32_MAX);
     }
     return code;
 }
 
 /* Under the lock. */
-static pq_code close_proved(pq_queue *queue, core *journal) {
+static pq_code close_proved(pq_queue *queue, core *journal, int *has_left) {
     pq_code code;
     if (queue->is_closed) {
         return PQ_CLOSED;
     }
-    flatpq_take_back(queue);
+    *has_left = flatpq_take_back(queue);
     if (queue->out > 0) {
         return PQ_MEMBERS_LEFT;
     }
@@ -328,6 +332,7 @@ static pq_code close_proved(pq_queue *queue, core *journal) {
 pq_code pq_close(pq_queue *queue, pq_journal **journal) {
     pq_journal *made = NULL;
     core closed = NULL;
+    int has_left = 0;
     pq_code code;
     if (journal != NULL) {
         *journal = NULL;
@@ -339,8 +344,11 @@ pq_code pq_close(pq_queue *queue, pq_journal **journal) {
         return PQ_NO_MEMORY;
     }
     pthread_mutex_lock(&flatpq_members);
-    code = close_proved(queue, &closed);
+    code = close_proved(queue, &closed, &has_left);
     flatpq_unlock(queue);
+    if (code == PQ_MEMBERS_LEFT && has_left) {
+        flatpq_owe(queue, 1);
+    }
     if (code != PQ_OK) {
         free(made);
     } else if (journal == NULL) {

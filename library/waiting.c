@@ -30,7 +30,7 @@ static int goes_on(const wait *it, pq_code code) {
     return (code == PQ_EMPTY || code == PQ_NOT_DUE) && !it->is_over;
 }
 
-/* After a look that came to this code. Where the first item is not due, another thread may take it. */
+/* After a look that came to this code. Where the first item is not due, another may take it. */
 static void settle(wait *it, pq_code code) {
     pq_queue *queue = it->member->queue;
     uint64_t settled = code == PQ_EMPTY || code == PQ_NOT_DUE || code == PQ_SHUT ? it->owed : code == PQ_OK;
@@ -40,7 +40,7 @@ static void settle(wait *it, pq_code code) {
     it->was_woken = 0;
     flatpq_lock_lists(queue);
     flatpq_add_incoming(queue);
-    if (code == PQ_NOT_DUE && queue->takers.first != NULL) {
+    if (code == PQ_NOT_DUE && (queue->takers.first != NULL || queue->listeners.first != NULL)) {
         settled = 1;
     }
     queue->owed -= settled < queue->owed ? settled : queue->owed;
@@ -102,7 +102,7 @@ static void leave(wait *it) {
 }
 
 /* Looks, takes the first item out up to this priority, and settles: by a step where the member is in its list. Where the lock is held until the
-   deadline it tries some times more. */
+   deadline it tries some times more. An item that became due meanwhile is not left: the wait goes on. */
 static pq_code look(wait *it, uint64_t priority) {
     pq_member *member = it->member;
     pq_code code = it->is_listed ? flatpq_step_take(member, priority, it->until, it->answer) : flatpq_take_first(member, priority, it->until, it->answer);
@@ -110,7 +110,7 @@ static pq_code look(wait *it, uint64_t priority) {
         code = it->is_listed ? flatpq_step_take_at_once(member, priority, it->answer) : flatpq_take_first_at_once(member, priority, it->answer);
     }
     settle(it, code);
-    if (code == PQ_EMPTY || code == PQ_NOT_DUE) {
+    if (code == PQ_EMPTY || (code == PQ_NOT_DUE && it->answer->item.priority > flatpq_due_now(member->queue))) {
         it->is_over = flatpq_is_late(it->until);
     }
     return code;

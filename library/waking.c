@@ -247,10 +247,15 @@ void flatpq_wake_all(pq_queue *queue, waiter *but) {
    and may be due earlier now. */
 static int concerns_drain(pq_member *member, const core_answer *answer) {
     core_answer first;
+    pq_code code;
     if (answer != NULL && (answer->kind == KIND_EMPTY || answer->kind == KIND_MOVED)) {
         return 1;
     }
-    return LEAVE_OUT(pq_core_try_pop_or_look(&member->proved, 0, 0, &first)) != PQ_OK || first.kind == KIND_EMPTY;
+    code = LEAVE_OUT(pq_core_try_pop_or_look(&member->proved, 0, 0, &first));
+    if (code == PQ_OK && first.owes_wake) {
+        flatpq_wake_owed(member);
+    }
+    return code != PQ_OK || first.kind == KIND_EMPTY;
 }
 
 /* Wakes all that wait for what is left in a shut queue, where that concerns them. */
@@ -279,12 +284,12 @@ int flatpq_has_room(pq_member *member) {
     return code != PQ_OK || count < member->queue->most_items;
 }
 
-/* Whether a queue may have room after a call with this answer, and nobody has said so. */
+/* Whether a queue may have room after a call with this answer, or its journal is full, and nobody has said so. */
 static int may_have_room(pq_member *member, const core_answer *answer) {
     if (__atomic_load_n(&member->queue->room, SEQ) != NONE_SAID || (answer != NULL && answer->kind == KIND_FULL)) {
         return 0;
     }
-    return (answer != NULL && answer->kind == KIND_POPPED) || flatpq_has_room(member);
+    return (answer != NULL && (answer->kind == KIND_POPPED || answer->kind == KIND_JOURNAL_FULL)) || flatpq_has_room(member);
 }
 
 COLD void flatpq_wake_after(pq_member *member, const core_answer *answer) {

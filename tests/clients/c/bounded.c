@@ -60,6 +60,12 @@ static void bounds_may_be_any(void) {
     CHECK(pq_push(pq_own(queue), item_of(1, 2), PQ_FOREVER, NULL) == PQ_OK);
     CHECK(pq_push(pq_own(queue), item_of(1, 2), PQ_FOREVER, NULL) == PQ_JOURNAL_FULL && size_of(queue) == 1);
     close_and_free(queue);
+    /* At the bound too, as no item goes out any more. */
+    queue = opened_within(1, 1);
+    CHECK(pq_push(pq_own(queue), item_of(1, 2), PQ_FOREVER, NULL) == PQ_OK);
+    CHECK(pq_push(pq_own(queue), item_of(1, 2), PQ_NOW, NULL) == PQ_JOURNAL_FULL);
+    CHECK(pq_push(pq_own(queue), item_of(1, 2), PQ_FOREVER, NULL) == PQ_JOURNAL_FULL && size_of(queue) == 1);
+    close_and_free(queue);
 }
 
 /*
@@ -162,6 +168,18 @@ static void each_call_wakes_one(void) {
         pq_give_back(member);
         close_and_free(it.queue);
     }
+}
+
+/* No item goes out once the journal is full. A call that finds it full wakes all that wait, and they are refused. */
+static void a_full_journal_wakes_all(void) {
+    struct full it;
+    pq_item item;
+    fill(&it, 2, MANY);
+    while (pq_peek(pq_own(it.queue), &item, PQ_FOREVER, NULL) == PQ_OK) {
+    }
+    all_return(&it, PQ_JOURNAL_FULL);
+    CHECK(size_of(it.queue) == 2);
+    close_and_free(it.queue);
 }
 
 /* The push of another thread carries out two posted pops. It takes the room of one, and a producer gets that of the other. */
@@ -406,6 +424,7 @@ int main(int count, char **words) {
     no_push_is_posted();
     bounds_may_be_any();
     each_call_wakes_one();
+    a_full_journal_wakes_all();
     a_push_wakes_another();
     a_joining_wakes_one();
     as_many_are_woken_as_go_out();

@@ -150,8 +150,10 @@ static void who_goes_leaves_that_to_another(void) {
     CHECK(notified(&second) == 1 && notified(&first) == 0);
     CHECK(take_up_to(&second, 2, &item) == PQ_NOT_DUE && pq_unlisten(second.member) == 1 && notified(&first) == 1);
     CHECK(take_up_to(&first, 2, &item) == PQ_NOT_DUE && take_up_to(&second, 2, &item) == PQ_NOT_DUE);
+    /* A call that is refused in between changes nothing. */
+    CHECK(pq_post(first.member, PQ_PEEK, item) == PQ_OK && take_up_to(&first, 2, &item) == PQ_PENDING && notified(&second) == 0);
     pq_give_back(first.member);
-    CHECK(notified(&second) == 1);
+    CHECK(notified(&second) == 1 && pq_combine(other) == PQ_OK);
     pq_give_back(second.member);
     pq_give_back(other);
     close_and_free(queue);
@@ -178,6 +180,40 @@ static void two_pushes_notify_two(void) {
         pq_give_back(posting[i]);
     }
     pq_give_back(third);
+    close_and_free(queue);
+}
+
+static void *waits_for_what_is_due(void *own) {
+    pq_item item;
+    CHECK(pq_take_due(pq_own((pq_queue *)own), &item, PQ_FOREVER, NULL) == PQ_SHUT);
+    return NULL;
+}
+
+/* The thread is woken too, and can take none of them yet. */
+static void a_batch_notifies_each_beside_a_thread(void) {
+    enum { MANY = 3 };
+    const uint64_t late = in_ms(3600000);
+    const pq_item items[MANY] = { { late, 1 }, { late, 2 }, { late, 3 } };
+    pq_queue *queue = opened(MANY + 2);
+    loop loops[MANY] = { loop_of(queue), loop_of(queue), loop_of(queue) };
+    pthread_t thread = started(waits_for_what_is_due, queue);
+    size_t done = 0;
+    sleep_ms(50);
+    for (int i = 0; i < MANY; i++) {
+        CHECK(take(&loops[i]) == PQ_EMPTY);
+    }
+    CHECK(pq_push_many(pq_own(queue), items, MANY, PQ_FOREVER, &done, NULL) == PQ_OK && done == MANY);
+    for (int i = 0; i < MANY; i++) {
+        while (!is_set(&loops[i].notified)) {
+            sleep_ms(1);
+        }
+        CHECK(take(&loops[i]) == PQ_OK);
+    }
+    for (int i = 0; i < MANY; i++) {
+        pq_give_back(loops[i].member);
+    }
+    CHECK(pq_shut(queue) == PQ_OK);
+    ended(thread);
     close_and_free(queue);
 }
 
@@ -281,11 +317,13 @@ static void a_descriptor_is_written_to(void) {
 }
 
 int main(void) {
+    alarm(200);
     it_is_notified_once();
     what_is_not_due_stays();
     who_listens_no_more_is_not_notified();
     who_goes_leaves_that_to_another();
     two_pushes_notify_two();
+    a_batch_notifies_each_beside_a_thread();
     the_end_notifies();
     it_is_refused();
     one_listens_by_pq_own();

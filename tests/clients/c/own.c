@@ -12,9 +12,9 @@ static pq_queue *queue;
 
 long __real_syscall(long number, ...);
 long __wrap_syscall(long number, ...);
-static int sleeps;
+static int sleeps, has_barriers, refuses_barriers;
 
-/* The library's sleeps come here. */
+/* The library's sleeps come here, and its barriers in all threads. */
 long __wrap_syscall(long number, ...) {
     va_list words;
     long of[6];
@@ -24,6 +24,10 @@ long __wrap_syscall(long number, ...) {
     }
     va_end(words);
     set(&sleeps, is_set(&sleeps) || (number == SYS_futex && (of[1] & FUTEX_CMD_MASK) == FUTEX_WAIT_BITSET));
+    if (number == SYS_membarrier) {
+        has_barriers = !refuses_barriers && __real_syscall(number, of[0], of[1], of[2]) == 0;
+        return has_barriers ? 0 : -1;
+    }
     return __real_syscall(number, of[0], of[1], of[2], of[3], of[4], of[5]);
 }
 
@@ -390,10 +394,30 @@ static void threads_call_while_they_end(void) {
     pq_journal_free(journal);
 }
 
+/* The system refuses the barrier by which a thread sees that a member is idle: then it takes none over. */
+static void without_a_barrier_no_member_is_taken_over(void) {
+    helper other;
+    pq_member *member = NULL;
+    queue = opened(1);
+    refuses_barriers = has_barriers;
+    begins(&other);
+    does(&other, pushes_one);
+    if (refuses_barriers) {
+        CHECK(pq_join(queue, PQ_NOW, &member) == PQ_ALL_JOINED && pq_close(queue, NULL) == PQ_MEMBERS_LEFT);
+        refuses_barriers = 0;
+    }
+    CHECK(pq_join(queue, PQ_NOW, &member) == PQ_OK);
+    does(&other, has_none);
+    pq_give_back(member);
+    ends(&other);
+    close_and_free(queue);
+}
+
 int main(void) {
     many_threads_share_two_members();
     thousands_come_and_go();
     idle_members_are_taken_over();
+    without_a_barrier_no_member_is_taken_over();
     members_that_are_in_use_are_kept();
     a_close_takes_idle_ones_back();
     calls_wait_for_members(1);

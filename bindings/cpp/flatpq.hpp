@@ -17,10 +17,11 @@
 // over an idle one, or waits for one. A thread that waits for an item, or for room, keeps its member meanwhile. A program that moves members
 // between threads joins them (queue::join). The last argument is the time until which a call may wait (deadline); drain and clear have none.
 //
-// Queues, members, listeners and journals are moved and never copied, and free what they hold. They may end in any order. Each call of one
-// that was moved from returns code::no_member. Members and listeners are in one call at a time, and so are journals but for const calls.
+// Queues, members, listeners and journals are moved and never copied, and free what they hold. They may end in any order. Where a queue,
+// member or listener was moved from, its calls return code::no_member; batches of nothing do nothing. A journal that was moved from is empty.
+// Members and listeners are in one call at a time, and so are journals but for const calls.
 //
-// The constructor of a queue and result::value() throw flatpq::error. Containers and streams throw what they throw (std::bad_alloc), and so
+// The constructors of a queue and result::value() throw flatpq::error. Containers and streams throw what they throw (std::bad_alloc), and so
 // does a copy of a payload; nothing has changed then. All else is noexcept. Without exceptions a queue is opened by open().
 #ifndef FLATPQ_HPP
 #define FLATPQ_HPP
@@ -37,6 +38,7 @@
 #include <memory>
 #include <optional>
 #include <sys/eventfd.h>
+#include <sys/syscall.h>
 #include <sys/timerfd.h>
 #include <type_traits>
 #include <unistd.h>
@@ -73,13 +75,13 @@ template <class Items> class basic_due_listener;
 namespace detail {
 
 /// Whether an iterator says that its range can be gone through only once.
-template <class It, class = void> constexpr bool is_single_pass = false;
+template <class It, class = void> inline constexpr bool is_single_pass = false;
 template <class It>
-constexpr bool is_single_pass<It, std::void_t<typename std::iterator_traits<It>::iterator_category>> =
+inline constexpr bool is_single_pass<It, std::void_t<typename std::iterator_traits<It>::iterator_category>> =
     !std::is_base_of_v<std::forward_iterator_tag, typename std::iterator_traits<It>::iterator_category>;
 
 /// How many items a batch hands to the library at once.
-constexpr std::size_t batch_room = 64;
+inline constexpr std::size_t batch_room = 64;
 
 /// The calls that queues and members have in common.
 template <class Items> class calls {
@@ -92,7 +94,8 @@ public:
     using journal = basic_journal<Items>;
 
     /// Puts a key and a value, or a payload, in: the number of the journal entry, which is the item's ticket. Where the call is refused the
-    /// payload is where it was. At a queue with a bound it waits for room: code::full, where there was none until then.
+    /// payload is where it was; one that was made from an argument of another type is dropped. At a queue with a bound it waits for room:
+    /// code::full, where there was none until then.
     result<std::uint64_t> push(const key &priority, payload &&value, deadline until = {}) noexcept {
         pq_item in = {key_order<key>::number(priority), 0};
         if (!Items::put(value, in.value)) {
@@ -150,6 +153,7 @@ public:
     /// what a drain or an input iterator gives is collected first.
     template <class Range> pushed_many push_many(Range &&items, deadline until = {}) noexcept {
         static_assert(!is_single_pass<decltype(std::begin(items))>, "a batch is a range that can be gone through twice");
+        static_assert(!is_signed_for<key, std::decay_t<decltype((*std::begin(items)).priority)>>, "a signed number is no unsigned key");
         pushed_many all = {0, code::ok, 0};
         const auto end = std::end(items);
         for (auto at = std::begin(items); all && at != end;) {
@@ -206,10 +210,10 @@ public:
     }
 
     /// Takes all items out, or those whose keys are at most this one: `for (auto &item : queue.drain())`.
-    [[nodiscard]] auto drain() noexcept {
+    [[nodiscard]] auto drain() & noexcept {
         return drained([this] { return due(UINT64_MAX, {}); });
     }
-    [[nodiscard]] auto drain(const key &bound) noexcept {
+    [[nodiscard]] auto drain(const key &bound) & noexcept {
         return drained([this, most = key_order<key>::number(bound)] { return due(most, {}); });
     }
 
@@ -222,10 +226,15 @@ public:
 
     /// For programs that never wait: post a request, poll for what its call would have returned, and carry out what members have posted. Only
     /// items of values are posted, and no push at a queue with a bound. Of a push that was carried out poll() has an item without a meaning.
-    [[nodiscard]] code post(request asked, const item &pushed = item()) noexcept {
-        static_assert(std::is_same_v<Items, values<key>>, "payloads are not posted");
-        const pq_item in = {key_order<key>::number(pushed.priority), pushed.value};
-        return static_cast<code>(pq_post(member_, static_cast<std::uint32_t>(asked), in));
+    [[nodiscard]] code post(request asked, const item &pushed) noexcept {
+        return posted(asked, {key_order<key>::number(pushed.priority), pushed.value});
+    }
+    [[nodiscard]] code post(request asked) noexcept {
+        if constexpr (std::is_default_constructible_v<key>) {
+            return posted(asked, {key_order<key>::number(key()), 0});
+        } else {
+            return asked == request::push ? code::bad_request : posted(asked, {0, 0});
+        }
     }
     found poll() noexcept {
         return got([](pq_member *by, pq_item *out, std::uint64_t, std::uint64_t *number) { return pq_poll(by, out, number); }, {});
@@ -306,8 +315,13 @@ private:
     }
 
     template <class Notify> found listened(std::uint64_t bound, Notify &notify) noexcept {
-        const auto call = [](void *context) { (*static_cast<Notify *>(context))(); };
-        return listened_by(bound, call, const_cast<std::remove_const_t<Notify> *>(std::addressof(notify)));
+        const auto call = [](void *context) { (*reinterpret_cast<Notify *>(context))(); };
+        return listened_by(bound, call, reinterpret_cast<void *>(reinterpret_cast<std::uintptr_t>(std::addressof(notify))));
+    }
+
+    code posted(request asked, pq_item in) noexcept {
+        static_assert(std::is_same_v<Items, values<key>>, "payloads are not posted");
+        return static_cast<code>(pq_post(member_, static_cast<std::uint32_t>(asked), in));
     }
 };
 
@@ -331,7 +345,7 @@ public:
 
 namespace detail {
 
-/// A member with a descriptor, which is closed once the member was given back.
+/// A member with a descriptor, which is closed once the member was given back. The function syscall is no cancellation point.
 template <class Items> class with_descriptor {
 public:
     using key = typename Items::key;
@@ -352,7 +366,7 @@ protected:
     ~with_descriptor() {
         member_.give_back();
         if (fd_ >= 0) {
-            ::close(fd_);
+            ::syscall(SYS_close, fd_);
         }
     }
 
@@ -385,7 +399,7 @@ private:
             return first;
         }
         eventfd_t count = 0;
-        eventfd_read(this->fd_, &count);
+        ::syscall(SYS_read, this->fd_, &count, sizeof count);
         void *const context = reinterpret_cast<void *>(static_cast<std::intptr_t>(this->fd_));
         auto later = this->member_.listened_by(bound, pq_notify_fd, context);
         if (later.error() != code::empty && later.error() != code::not_due) {
@@ -419,8 +433,9 @@ public:
     using due_listener = basic_due_listener<Items>;
     using journal = basic_journal<Items>;
 
-    /// Opens a queue. Where open() returns code::bad_option, no_memory, forked or processor, the constructor throws it.
-    explicit basic_queue(options asked = {}) : basic_queue(open(asked).value()) {}
+    /// Open a queue. Where open() returns code::bad_option, no_memory, forked or processor, the constructors throw it.
+    FLATPQ_MAY_THROW basic_queue() : basic_queue(options()) {}
+    FLATPQ_MAY_THROW explicit basic_queue(options asked) : basic_queue(open(asked).value()) {}
     [[nodiscard]] static result<basic_queue> open(options asked = {}) noexcept {
         pq_options raw = {asked.members, static_cast<std::uint32_t>(asked.keeping), asked.entries, asked.tickets, 0, 0, asked.most_items};
         if constexpr (detail::are_times<key>) {

@@ -73,7 +73,8 @@ template <class Key> struct values {
     static first shown(pq_item from) noexcept { return first(key_order<Key>::key(from.priority), from.value); }
 };
 
-/// What a loop takes out, each item when the loop reads it, or asks whether it comes, and none before. The loop ends where no item comes.
+/// What a loop takes out, each item when the loop reads it, or asks whether it comes, and none before. The loop ends where no item comes. An
+/// item that came and was not read is the next loop's first.
 template <class Next> class drained {
     using result_of = std::invoke_result_t<Next &>;
 
@@ -88,14 +89,28 @@ public:
 
         iterator() noexcept = default;
         explicit iterator(drained *of) noexcept : of_(of) {}
-        [[nodiscard]] reference operator*() const noexcept { return *of_->current(); }
+        [[nodiscard]] reference operator*() const noexcept {
+            of_->is_read_ = true;
+            return *of_->current();
+        }
         [[nodiscard]] pointer operator->() const noexcept { return &**this; }
-        /// Drops the item, and takes none: a loop that ends here, as over std::views::take, takes no item that it doesn't read.
+        /// Drops the item, and takes no other: a loop that ends here, as over std::views::take, takes no item that it doesn't read.
         iterator &operator++() noexcept {
+            of_->current();
             of_->last_.reset();
+            of_->is_read_ = false;
             return *this;
         }
-        void operator++(int) noexcept { ++*this; }
+        /// The same; `*at++` is the item that it drops.
+        struct dropped {
+            value_type item;
+            [[nodiscard]] value_type operator*() noexcept { return std::move(item); }
+        };
+        dropped operator++(int) noexcept {
+            dropped last{std::move(**this)};
+            ++*this;
+            return last;
+        }
         friend bool operator==(const iterator &a, const iterator &b) noexcept { return a.is_over() == b.is_over(); }
         friend bool operator!=(const iterator &a, const iterator &b) noexcept { return !(a == b); }
 
@@ -106,7 +121,7 @@ public:
     };
 
     explicit drained(Next next) noexcept : next_(std::move(next)) {}
-    [[nodiscard]] iterator begin() noexcept { return ++iterator(this); }
+    [[nodiscard]] iterator begin() noexcept { return is_read_ || error() != code::ok ? ++iterator(this) : iterator(this); }
     [[nodiscard]] iterator end() noexcept { return iterator(nullptr); }
     /// Why the loop ended: code::empty, code::not_due, or a refusal; code::ok where it left off before that.
     [[nodiscard]] code error() const noexcept { return last_ ? last_->error() : code::ok; }
@@ -118,6 +133,7 @@ private:
 
     Next next_;
     std::optional<result_of> last_;
+    bool is_read_ = false;
 };
 
 } // namespace detail
@@ -166,12 +182,16 @@ public:
         using iterator_category = std::input_iterator_tag;
         using value_type = entry;
         using difference_type = std::ptrdiff_t;
-        using pointer = void;
+        struct pointer {
+            entry at;
+            [[nodiscard]] const entry *operator->() const noexcept { return &at; }
+        };
         using reference = entry;
 
         iterator() noexcept = default;
         iterator(const basic_journal *of, std::size_t index) noexcept : of_(of), index_(index) {}
         [[nodiscard]] entry operator*() const noexcept { return *of_->read(index_); }
+        [[nodiscard]] pointer operator->() const noexcept { return {**this}; }
         iterator &operator++() noexcept {
             ++index_;
             return *this;
@@ -187,14 +207,14 @@ public:
     [[nodiscard]] iterator begin() const noexcept { return iterator(this, 0); }
     [[nodiscard]] iterator end() const noexcept { return iterator(this, size()); }
 
-    /// Writes all entries as text, as pq_text does, and flushes. code::ok; code::not_written: a part may be written.
+    /// Writes all entries as text, as pq_text does, and flushes. code::ok, code::no_member; code::not_written: a part may be written.
     [[nodiscard]] code write(std::ostream &out) const {
         char line[PQ_TEXT_ROOM];
         pq_entry raw = {};
         for (std::size_t index = 0; out && own_ && pq_read(own_.get(), index, &raw) == PQ_OK; ++index) {
             out.write(line, static_cast<std::streamsize>(pq_text(&raw, line)));
         }
-        return out.flush() ? code::ok : code::not_written;
+        return !own_ ? code::no_member : out.flush() ? code::ok : code::not_written;
     }
 
     /// Reads a journal of values back from a file descriptor, as pq_journal_read does.
@@ -212,7 +232,7 @@ public:
     }
 
     /// Takes the items out that are left: `for (auto &item : journal.left())`.
-    [[nodiscard]] auto left() noexcept {
+    [[nodiscard]] auto left() & noexcept {
         return detail::drained([this] { return take(); });
     }
 
@@ -229,7 +249,7 @@ private:
     std::unique_ptr<pq_journal, frees> own_;
 };
 
-/// A journal that was read back; or code::not_lawful, code::not_read, code::no_memory.
+/// A journal that was read back; or code::not_lawful, code::not_read, code::no_memory, code::processor.
 template <class Items> class [[nodiscard]] read_back : public result<basic_journal<Items>> {
     static_assert(std::is_same_v<Items, detail::values<typename Items::key>>, "payloads are not read back");
 

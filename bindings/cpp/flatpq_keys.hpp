@@ -84,13 +84,14 @@ struct times<std::chrono::steady_clock, std::chrono::duration<Rep, Period>,
 };
 
 /// Whether the keys of a type are times.
-template <class Key, class = void> constexpr bool are_times = false;
+template <class Key, class = void> inline constexpr bool are_times = false;
 template <class Key>
-constexpr bool are_times<Key, std::void_t<decltype(key_order<Key>::time_zero), decltype(key_order<Key>::time_unit)>> = true;
+inline constexpr bool are_times<Key, std::void_t<decltype(key_order<Key>::time_zero), decltype(key_order<Key>::time_unit)>> = true;
 
 /// Whether an argument is a signed number and the keys are unsigned: a negative one would come out last.
 template <class Key, class Number>
-using if_signed_for = std::enable_if_t<std::is_unsigned_v<Key> && std::is_arithmetic_v<Number> && std::is_signed_v<Number>, int>;
+inline constexpr bool is_signed_for = std::is_unsigned_v<Key> && std::is_arithmetic_v<Number> && std::is_signed_v<Number>;
+template <class Key, class Number> using if_signed_for = std::enable_if_t<is_signed_for<Key, Number>, int>;
 
 } // namespace detail
 

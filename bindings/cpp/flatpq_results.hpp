@@ -9,8 +9,17 @@
 #include <cstdio>
 #include <cstdlib>
 #include <optional>
+#include <ratio>
 #include <stdexcept>
+#include <type_traits>
 #include <utility>
+
+// A source file without exceptions has these functions under names of its own. So a program may have source files of both kinds.
+#if defined(__cpp_exceptions)
+#define FLATPQ_MAY_THROW
+#else
+#define FLATPQ_MAY_THROW [[gnu::abi_tag("without_exceptions")]]
+#endif
 
 namespace flatpq {
 
@@ -40,7 +49,8 @@ private:
 };
 
 /// A value, or the code that says why there is none. Without a value, value() throws flatpq::error, and `*` and `->` end the program with
-/// the text of the code. Without exceptions value() does the same as `*`.
+/// the text of the code. Without exceptions value() does the same as `*`. Of a temporary result both return the value itself, so a loop can go
+/// through `queue.close().value()`.
 template <class T> class [[nodiscard]] result {
 public:
     result(T value) noexcept : value_(std::move(value)) {}
@@ -55,13 +65,14 @@ public:
 
     [[nodiscard]] T &operator*() & noexcept { return *checked(); }
     [[nodiscard]] const T &operator*() const & noexcept { return *checked(); }
-    [[nodiscard]] T &&operator*() && noexcept { return std::move(*checked()); }
+    [[nodiscard]] T operator*() && noexcept { return std::move(*checked()); }
     [[nodiscard]] T *operator->() noexcept { return checked(); }
     [[nodiscard]] const T *operator->() const noexcept { return checked(); }
-    T &value() & { return *or_thrown(); }
-    const T &value() const & { return *or_thrown(); }
-    T &&value() && { return std::move(*or_thrown()); }
+    FLATPQ_MAY_THROW T &value() & { return *or_thrown(); }
+    FLATPQ_MAY_THROW const T &value() const & { return *or_thrown(); }
+    FLATPQ_MAY_THROW T value() && { return std::move(*or_thrown()); }
     template <class U> [[nodiscard]] T value_or(U &&other) && { return std::move(value_).value_or(std::forward<U>(other)); }
+    template <class U> [[nodiscard]] T value_or(U &&other) const & { return value_.value_or(std::forward<U>(other)); }
 
 private:
     const T *checked() const noexcept {
@@ -72,7 +83,7 @@ private:
         return &*value_;
     }
     T *checked() noexcept { return const_cast<T *>(std::as_const(*this).checked()); }
-    const T *or_thrown() const {
+    FLATPQ_MAY_THROW const T *or_thrown() const {
 #if defined(__cpp_exceptions)
         if (!value_) {
             throw flatpq::error(error_);
@@ -80,7 +91,7 @@ private:
 #endif
         return checked();
     }
-    T *or_thrown() { return const_cast<T *>(std::as_const(*this).or_thrown()); }
+    FLATPQ_MAY_THROW T *or_thrown() { return const_cast<T *>(std::as_const(*this).or_thrown()); }
 
     std::optional<T> value_;
     code error_ = code::ok;
@@ -134,7 +145,13 @@ private:
         if (std::chrono::duration<double, std::nano>(longest).count() >= 9.2e18) {
             return PQ_FOREVER;
         }
-        return static_cast<std::uint64_t>(std::chrono::ceil<std::chrono::nanoseconds>(longest).count());
+        if constexpr (std::is_integral_v<Rep>) {
+            using to = std::ratio_divide<Period, std::nano>;
+            __extension__ typedef unsigned __int128 wide;
+            return static_cast<std::uint64_t>((static_cast<wide>(longest.count()) * to::num + (to::den - 1)) / to::den);
+        } else {
+            return static_cast<std::uint64_t>(std::chrono::ceil<std::chrono::nanoseconds>(longest).count());
+        }
     }
 
     std::uint64_t at_ = PQ_FOREVER;

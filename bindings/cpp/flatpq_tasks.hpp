@@ -6,12 +6,14 @@
 //
 // Its calls are those of flatpq::queue (flatpq.hpp). A payload of at most 8 bytes that is copied as bytes (std::is_trivially_copyable) lies in
 // the item itself, and any other in memory of its own, which a push asks for (code::no_memory) and a pop frees. A push moves the payload in,
-// and a pop moves it out; a refused push moves it back. Payloads that nobody takes are dropped by clear(), with the journal of a closed queue,
-// or with the last of a queue and its members. A payload that may throw while it is moved or dropped doesn't compile.
+// and a pop moves it out; a refused push moves it back. One that was made from an argument of another type is dropped then. Payloads that
+// nobody takes are dropped by clear(), with the journal of a closed queue, or with the last of a queue and its members. A payload that may
+// throw while it is moved or dropped doesn't compile.
 //
 // A journal has no payloads. Its entries show keys; as text they have for each payload a token: an address, which is used again, or the payload's
-// own bytes. So an archive of payloads is a record of what happened, and no payload is read back from it (read_from doesn't compile). A
-// program that has to survive a restart stores its payloads by ids of its own, and pushes the ids into a flatpq::queue.
+// own bytes. The padding in these is 0 where the compiler can clear it. So an archive of payloads is a record of what happened, and no payload
+// is read back from it (read_from doesn't compile). A program that has to survive a restart stores its payloads by ids of its own, and pushes
+// the ids into a flatpq::queue.
 #ifndef FLATPQ_TASKS_HPP
 #define FLATPQ_TASKS_HPP
 
@@ -40,7 +42,7 @@ template <class T, class Key = std::uint64_t> struct task {
 namespace detail {
 
 /// Whether a payload lies in an item's value; else it has a block, whose address the value is.
-template <class T> constexpr bool lies_in_value = sizeof(T) <= sizeof(std::uint64_t) && std::is_trivially_copyable_v<T>;
+template <class T> inline constexpr bool lies_in_value = sizeof(T) <= sizeof(std::uint64_t) && std::is_trivially_copyable_v<T>;
 
 /// How a key and a payload lie in an item of the library.
 template <class T, class Key> class payloads {
@@ -68,8 +70,14 @@ public:
 
     static bool put(T &from, std::uint64_t &value) noexcept {
         if constexpr (lies_in_value<T>) {
+            block copy(std::move(from));
+#if defined(__has_builtin)
+#if __has_builtin(__builtin_clear_padding)
+            __builtin_clear_padding(&copy);
+#endif
+#endif
             value = 0;
-            std::memcpy(&value, std::addressof(from), sizeof(T));
+            std::memcpy(&value, std::addressof(copy.payload), sizeof(T));
             return true;
         } else {
             auto *const made = new (std::nothrow) block(std::move(from));

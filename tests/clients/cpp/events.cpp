@@ -122,11 +122,45 @@ static void a_callback_is_called_once() {
     CHECK(queue.take_or_listen(bell).error() == code::shut);
 }
 
+static int rings = 0;
+
+static void rings_once_more() { ++rings; }
+
+static void a_plain_function_is_called() {
+    auto queue = *flatpq::queue<>::open();
+    auto member = *queue.join();
+    CHECK(member.take_or_listen(rings_once_more).error() == code::empty && queue.push(5u, 6) && rings == 1);
+    CHECK(member.take_or_listen(4u, rings_once_more).error() == code::not_due && member.unlisten() && rings == 1);
+}
+
+// A function of its own: AddressSanitizer doesn't see that a cancelled thread leaves the frames that it is in.
+[[gnu::noinline]] static void listens(flatpq::queue<clock_of::time_point> &queue) {
+    auto any = *queue.listen();
+    auto due = *queue.listen_due();
+    CHECK(any.take_or_listen().error() == code::empty && due.take_or_listen().error() == code::empty);
+    any = *queue.listen();
+}
+
+static void *is_cancelled(void *queue) {
+    CHECK(pthread_cancel(pthread_self()) == 0);
+    listens(*static_cast<flatpq::queue<clock_of::time_point> *>(queue));
+    pthread_testcancel();
+    return nullptr;
+}
+
+// A thread that is to be cancelled ends its calls first.
+static void no_call_is_a_cancellation_point() {
+    auto queue = *flatpq::queue<clock_of::time_point>::open();
+    CHECK(ended(started(is_cancelled, &queue)) == PTHREAD_CANCELED && queue.close());
+}
+
 int main() {
     a_descriptor_is_readable_where_an_item_may_be();
     one_that_ends_wakes_another();
     payloads_come_so();
     a_timer_is_readable_when_the_first_is_due();
     a_callback_is_called_once();
+    a_plain_function_is_called();
+    no_call_is_a_cancellation_point();
     return 0;
 }

@@ -12,6 +12,7 @@
 #include <sstream>
 #include <string>
 #include <thread>
+#include <utility>
 #include <vector>
 
 using flatpq::code;
@@ -64,6 +65,9 @@ static void entries_are_read_and_written() {
     std::cout << text.str();
     std::ofstream full("/dev/full");
     CHECK(full && journal.write(full) == code::not_written);
+    auto moved = std::move(journal);
+    CHECK(journal.write(text) == code::no_member && text && journal.begin() == journal.end());
+    journal = std::move(moved);
     std::vector<item<unsigned>> left;
     for (const auto &it : journal.left()) {
         left.push_back(it);
@@ -76,6 +80,7 @@ static void payloads_show_their_keys() {
     CHECK(*queue.push(2.5, "late") == 1 && *queue.push(-1, "soon") == 2 && queue.pop()->payload == "soon");
     const auto journal = *queue.archive(1);
     CHECK(journal.size() == 2 && journal.before() == 1 && journal.read(0)->item == -1.0 && (*journal.begin()).number == 2);
+    CHECK(journal.begin()->number == 2 && *journal.begin()->item == -1.0 && (*journal.begin()++).number == 2);
     CHECK((*std::next(journal.begin())).request == request::pop);
     CHECK(std::all_of(journal.begin(), journal.end(), [](auto it) { return it.item == -1.0; }));
 }

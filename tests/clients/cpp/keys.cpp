@@ -103,6 +103,18 @@ struct version {
     friend bool operator==(const version &a, const version &b) { return a.major == b.major && a.minor == b.minor; }
 };
 
+/// One that is not made of nothing.
+struct rank {
+    explicit rank(std::uint64_t from) noexcept : number(from) {}
+    std::uint64_t number;
+};
+
+/// An item of the program's own, for batches.
+struct job {
+    std::uint8_t priority;
+    std::uint16_t value;
+};
+
 /// A time of the program's own: milliseconds since the clock's zero, from 1000 on.
 struct tick {
     std::uint64_t number;
@@ -115,6 +127,11 @@ template <> struct flatpq::key_order<version> {
     static version key(std::uint64_t number) noexcept {
         return {static_cast<std::uint16_t>(number >> 16), static_cast<std::uint16_t>(number)};
     }
+};
+
+template <> struct flatpq::key_order<rank> {
+    static std::uint64_t number(rank key) noexcept { return key.number; }
+    static rank key(std::uint64_t number) noexcept { return rank(number); }
 };
 
 template <> struct flatpq::key_order<tick> {
@@ -143,9 +160,24 @@ static_assert(refuses<flatpq::queue<unsigned>, double>(pushes, pops_due, pops_ma
 static_assert(takes<flatpq::queue<>, unsigned>(pushes, pops_due, pops_many, drains) && takes<flatpq::listener<>, unsigned>(listens));
 static_assert(takes<flatpq::queue<int>, int>(pushes, pops_due, pops_many, drains) && takes<flatpq::queue<double>, int>(pushes, pops_due, drains));
 
-// Nor is one the key of a payload of a batch.
+// Nor is one the key of a payload of a batch, nor of an item (signed_batch.cpp).
 static_assert(!std::is_constructible_v<flatpq::task<char>, int, char> && std::is_constructible_v<flatpq::task<char>, unsigned, char>);
 static_assert(std::is_constructible_v<flatpq::task<char, int>, int, char>);
+
+// Keys that are not made of nothing are posted, and a batch may have items of the program's own.
+static void types_of_the_program_will_do() {
+    auto ranks = *flatpq::queue<rank>::open();
+    CHECK(ranks.post(flatpq::request::push, {rank(5), 6}) == code::ok && ranks.combine() == code::ok && ranks.poll());
+    CHECK(ranks.post(flatpq::request::push) == code::bad_request && ranks.post(flatpq::request::pop) == code::ok && ranks.combine() == code::ok);
+    const auto popped = ranks.poll();
+    CHECK(popped->priority.number == 5 && popped->value == 6);
+    auto numbers = *flatpq::queue<int>::open();
+    CHECK(numbers.post(flatpq::request::push) == code::ok && numbers.combine() == code::ok && numbers.poll());
+    CHECK(*numbers.pop() == flatpq::item<int>(0, 0));
+    auto queue = *flatpq::queue<>::open();
+    const std::vector<job> jobs = {{7, 8}, {5, 6}};
+    CHECK(queue.push_many(jobs).count == 2 && *queue.pop() == flatpq::item<>(5, 6) && *queue.pop() == flatpq::item<>(7, 8));
+}
 
 // Nothing comes out before its time, what is due at one time comes in the order of its pushes, and what stays is shown exactly.
 static void what_is_due_comes_out_in_time() {
@@ -197,6 +229,7 @@ int main() {
     times_are_ordered<std::chrono::hours>({std::chrono::hours::min(), -1h, 0h, 1h, std::chrono::hours::max()});
     times_are_ordered<std::chrono::duration<double>>({std::chrono::duration<double>(-0.5), 0s, std::chrono::duration<double>(0.25)});
     are_ordered<version>({{0, 0}, {0, 65535}, {1, 0}, {1, 2}, {65535, 65535}});
+    types_of_the_program_will_do();
     what_is_due_comes_out_in_time();
     times_have_units();
     return 0;

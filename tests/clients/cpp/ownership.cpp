@@ -6,6 +6,8 @@
 #include <string>
 #include <thread>
 #include <type_traits>
+#include <utility>
+#include <vector>
 
 using namespace std::chrono_literals;
 using flatpq::code;
@@ -27,6 +29,16 @@ static_assert(are_ranges<const flatpq::journal<>, const flatpq::task_journal<std
 static_assert(are_ranges<decltype(std::declval<flatpq::queue<> &>().drain()), decltype(std::declval<flatpq::journal<> &>().left())>);
 #endif
 
+// What goes on taking is of a queue, a member or a journal that stays, and no temporary.
+template <class From, class = void> constexpr bool drains = false;
+template <class From> constexpr bool drains<From, std::void_t<decltype(std::declval<From>().drain())>> = true;
+template <class From, class = void> constexpr bool drains_due = false;
+template <class From> constexpr bool drains_due<From, std::void_t<decltype(std::declval<From>().drain(1u))>> = true;
+template <class From, class = void> constexpr bool has_left = false;
+template <class From> constexpr bool has_left<From, std::void_t<decltype(std::declval<From>().left())>> = true;
+static_assert(drains<flatpq::queue<> &> && drains_due<flatpq::queue<> &> && drains<flatpq::member<> &> && has_left<flatpq::journal<> &>);
+static_assert(!drains<flatpq::queue<>> && !drains_due<flatpq::queue<>> && !drains<flatpq::member<>> && !has_left<flatpq::journal<>>);
+
 static flatpq::queue<> opened_for(std::uint32_t members) { return *flatpq::queue<>::open({members}); }
 
 // Each call of one that was moved from, or closed, by these.
@@ -37,6 +49,7 @@ template <class By> static void calls_are_refused(By &it, code why) {
     item<> items[] = {{1, 2}};
     const auto batch = it.push_many(items);
     CHECK(batch.error == why && batch.count == 0 && batch.number == 0 && it.post(flatpq::request::pop) == why && it.poll().error() == why);
+    CHECK(it.push_many(std::vector<item<>>()) && it.pop_due_many(1u, 0)->empty());
     CHECK(it.combine() == why && it.take_or_listen(bell).error() == why && !it.unlisten() && it.place() == UINT32_MAX);
 }
 
@@ -106,6 +119,27 @@ static void they_end_in_any_order() {
     calls_are_refused(queue, code::closed);
 }
 
+// A temporary result gives its value to the loop.
+static void loops_go_through_results() {
+    auto queue = opened_for(1);
+    item<> items[] = {{1, 2}, {3, 4}, {5, 6}};
+    CHECK(queue.push_many(items));
+    std::uint64_t sum = 0;
+    for (const auto &entry : queue.archive(0).value()) {
+        sum += entry.number;
+    }
+    for (auto &it : queue.pop_due_many(3u, 64).value()) {
+        sum += it.value;
+    }
+    for (auto &it : *queue.pop_due_many(5u, 64)) {
+        sum += it.value;
+    }
+    for (const auto &entry : *queue.close()) {
+        sum += entry.number;
+    }
+    CHECK(sum == 6 + 6 + 6 + 21);
+}
+
 static void requests_are_posted() {
     auto queue = opened_for(2);
     auto member = *queue.join();
@@ -145,6 +179,7 @@ int main() {
     what_was_moved_from_refuses();
     an_assignment_across_two_queues();
     they_end_in_any_order();
+    loops_go_through_results();
     requests_are_posted();
     a_joining_waits();
     return 0;

@@ -3,9 +3,12 @@
 #include "flatpq_tasks.hpp"
 
 #include <array>
+#include <cstring>
 #include <functional>
+#include <iterator>
 #include <memory>
 #include <new>
+#include <sstream>
 #include <string>
 #include <thread>
 #include <vector>
@@ -107,6 +110,19 @@ static void a_refused_one_is_where_it_was() {
     is_refused(queue, code::closed);
     CHECK(journal.take()->payload.number() == 0);
     CHECK(live == 2);
+}
+
+/// One from which another is made.
+struct base {
+    virtual ~base() = default;
+};
+struct derived : base {};
+
+// One that is made for the push from an argument of another type is dropped.
+static void a_refused_one_of_another_type_is_dropped() {
+    auto queue = *flatpq::task_queue<std::unique_ptr<base>>::open();
+    auto payload = std::make_unique<derived>();
+    CHECK(queue.shut() == code::ok && queue.push(1u, std::move(payload)).error() == code::shut && payload == nullptr);
 }
 
 /// A payload that is not copied while it refuses to.
@@ -247,6 +263,26 @@ static void a_loop_takes_no_item_that_it_does_not_read() {
     CHECK(live == 1 && journal.take()->priority == 1);
 }
 
+// An item that came, and that nobody read, is the next one.
+static void an_item_that_is_not_read_stays() {
+    auto queue = opened_for(1);
+    push_keys(queue, 0, 7);
+    auto all = queue.drain();
+    CHECK(all.begin() != all.end() && all.begin() != all.end() && *queue.size() == 6 && live == 7);
+    for (auto &it : all) {
+        CHECK(it.priority == 0);
+        break;
+    }
+    CHECK(all.begin() != all.end() && *queue.size() == 5 && live == 6);
+    auto at = all.begin();
+    const task second = *at++;
+    CHECK(second.priority == 1 && second.payload.number() == 1 && at->priority == 2 && live == 6);
+    CHECK((*at++).payload.number() == 2 && (*std::next(at)).payload.number() == 4);
+    CHECK(live == 4 && std::distance(all.begin(), all.end()) == 2 && all.error() == code::empty);
+    push_keys(queue, 0, 1);
+    CHECK(all.begin() != all.end() && all.begin()->priority == 0);
+}
+
 /// Calls a queue when it is dropped.
 struct caller {
     struct pushes {
@@ -377,19 +413,50 @@ static void kinds() {
     CHECK(shared.use_count() == 2 && *queue.clear() == 1 && shared.use_count() == 1);
 }
 
+#if __has_builtin(__builtin_clear_padding)
+/// With three bytes between its members.
+struct padded {
+    std::uint8_t first;
+    std::uint32_t second;
+};
+
+// Whatever stood in the padding of a payload, its text in a journal is the same.
+static void padding_is_cleared() {
+    auto queue = *flatpq::task_queue<padded>::open();
+    for (const int filler : {0, 0xFF}) {
+        padded it;
+        std::memset(&it, filler, sizeof it);
+        it.first = 1;
+        it.second = 2;
+        CHECK(queue.push(5u, it) && queue.push(5u, std::move(it)));
+    }
+    std::ostringstream text;
+    CHECK(queue.archive(0)->write(text) == code::ok && queue.pop()->payload.second == 2);
+    std::istringstream lines(text.str());
+    for (std::string line; std::getline(lines, line);) {
+        CHECK(line.find(" push 5 8589934593 pushed") != std::string::npos);
+    }
+}
+#else
+static void padding_is_cleared() {}
+#endif
+
 int main() {
     each_is_moved_once_in_and_once_out();
     a_batch_moves_each_once_in_and_once_out();
     a_refused_one_is_where_it_was();
+    a_refused_one_of_another_type_is_dropped();
     a_copy_is_pushed_or_nothing();
     what_is_left_is_dropped();
     batches_keep_what_is_refused();
     batches_come_out_in_order();
     a_loop_takes_no_item_that_it_does_not_read();
+    an_item_that_is_not_read_stays();
     what_is_dropped_may_call();
     what_is_dropped_may_call_its_ending_queue();
     CHECK(own_caller::dropped == 4);
     kinds();
+    padding_is_cleared();
     CHECK(live == 0);
     return 0;
 }

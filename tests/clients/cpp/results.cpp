@@ -4,6 +4,7 @@
 #include "flatpq_tasks.hpp"
 
 #include <algorithm>
+#include <cmath>
 #include <cstring>
 #include <string>
 #include <sys/wait.h>
@@ -45,6 +46,7 @@ static void results_are_checked() {
     of none(code::journal_full), some(item<>{1, 2});
     CHECK(some && some.has_value() && some.error() == code::ok && !none && none.error() == code::journal_full);
     CHECK(some.value() == (item<>{1, 2}) && *some == some.value() && some->value == 2 && *of(item<>{5, 6}) == (item<>{5, 6}));
+    CHECK(std::as_const(none).value_or(item<>{3, 4}) == (item<>{3, 4}) && std::as_const(some).value_or(item<>{3, 4}) == (item<>{1, 2}));
     CHECK(std::move(none).value_or(item<>{3, 4}) == (item<>{3, 4}) && std::move(some).value_or(item<>{3, 4}) == (item<>{1, 2}));
     CHECK(ends_program([] { (void)*of(code::pending); }) && ends_program([] { (void)of(code::pending)->value; }));
 #if defined(__cpp_exceptions)
@@ -58,6 +60,27 @@ static void results_are_checked() {
     CHECK(ends_program([] { of(code::pending).value(); }));
 #endif
 }
+
+#if defined(__cpp_exceptions)
+// In without_exceptions.cpp, which is compiled with -fno-exceptions.
+void takes_value_without_exceptions();
+
+// Each file has the value() of its kind. This one calls it by its address, as inlined it would be its own.
+static void files_of_both_kinds_are_one_program() {
+    using of = flatpq::result<item<>>;
+    item<> &(of::*volatile value)() & = &of::value;
+    of none(code::pending);
+    try {
+        (none.*value)();
+        CHECK(false);
+    } catch (const flatpq::error &why) {
+        CHECK(why.code() == code::pending);
+    }
+    CHECK(ends_program(takes_value_without_exceptions));
+}
+#else
+static void files_of_both_kinds_are_one_program() {}
+#endif
 
 static void codes_are_those_of_the_header() {
     CHECK(std::strcmp(flatpq::text(code::closed), pq_code_text(PQ_CLOSED)) == 0 && *flatpq::text(code::closed) != 0);
@@ -89,6 +112,25 @@ static void openings_are_refused() {
 #endif
 }
 
+/// Has a queue as a member, and as its base.
+struct service {
+    flatpq::queue<> queue;
+    int number;
+};
+struct named : flatpq::queue<> {
+    using flatpq::queue<>::basic_queue;
+    int number = 7;
+};
+static_assert(!std::is_convertible_v<flatpq::options, flatpq::queue<>> && std::is_constructible_v<flatpq::queue<>, flatpq::options>);
+
+static void queues_are_opened_in_others() {
+    service one = {};
+    flatpq::queue<> two[2] = {}, none = {};
+    named by_name, of_one(flatpq::options{1});
+    CHECK(one.queue.push(1u, 2) && one.number == 0 && two[1].push(1u, 2) && none.pop().error() == code::empty);
+    CHECK(by_name.push(1u, 2) && by_name.number == 7 && of_one.push(3u, 4) && of_one.pop()->value == 4 && of_one.number == 7);
+}
+
 static_assert(!std::is_convertible_v<std::chrono::system_clock::time_point, flatpq::deadline> && !std::is_convertible_v<int, flatpq::deadline>);
 
 static void deadlines_are_rounded_up() {
@@ -101,10 +143,26 @@ static void deadlines_are_rounded_up() {
     CHECK(at(duration<double, std::nano>(1500.25)) == 1501 && at(duration<std::int64_t, std::pico>(1)) == 1 && at(1h) == 3600000000000);
     CHECK(at(0ns) == PQ_NOW && at(-1h) == PQ_NOW && at(nanoseconds::min()) == PQ_NOW && at(hours::min()) == PQ_NOW);
     CHECK(at(hours::max()) == PQ_FOREVER && at(duration<double>(1e300)) == PQ_FOREVER);
+    CHECK(at(duration<double>(NAN)) == PQ_NOW && at(duration<double>(-1e300)) == PQ_NOW && at(duration<float>(0.5f)) == 500000000);
     CHECK(deadline().at() == PQ_FOREVER && deadline(flatpq::now).at() == PQ_NOW);
     CHECK(deadline(0s).at() == PQ_NOW && deadline(-1h).at() == PQ_NOW && deadline(hours::max()).at() == PQ_FOREVER);
     const std::uint64_t before = pq_now(), soon = deadline(1h).at();
     CHECK(soon >= before + 3600000000000 && soon <= pq_now() + 3600000000000 && deadline(duration<unsigned char>(1)).at() > before);
+}
+
+// Durations whose unit is no whole number of nanoseconds, nor a nanosecond one of units.
+static void odd_units_are_rounded_up() {
+    using namespace std::chrono;
+    using odd = duration<std::int64_t, std::ratio<1, 2893202000>>;
+    using smallest = duration<std::int64_t, std::ratio<1, INT64_MAX>>;
+    const auto at = [](auto since) { return flatpq::deadline(time_point<clock_of, decltype(since)>(since)).at(); };
+    CHECK(at(odd(7200 * 2893202000)) == 7200000000000 && at(odd(7200 * 2893202000 + 1)) == 7200000000001);
+    CHECK(at(odd(1)) == 1 && at(odd(3)) == 2 && at(odd::max()) == 3187946101535522168 && at(odd::min()) == PQ_NOW && at(odd(0)) == PQ_NOW);
+    CHECK(at(smallest(1)) == 1 && at(smallest::max()) == 1000000000 && at(smallest::min()) == PQ_NOW);
+    CHECK(at(duration<std::uint64_t, std::pico>(UINT64_MAX)) == 18446744073709552);
+    CHECK(at(duration<std::uint64_t, std::nano>(UINT64_MAX)) == PQ_FOREVER);
+    CHECK(at(duration<std::int64_t, std::ratio<1, 3>>(1)) == 333333334);
+    CHECK(at(duration<std::int64_t, std::ratio<1000000007>>(9)) == 9000000063000000000);
 }
 
 // None of these waits longer than it may, nor shorter.
@@ -137,9 +195,12 @@ static void items_have_an_order() {
 
 int main() {
     results_are_checked();
+    files_of_both_kinds_are_one_program();
     codes_are_those_of_the_header();
     openings_are_refused();
+    queues_are_opened_in_others();
     deadlines_are_rounded_up();
+    odd_units_are_rounded_up();
     waits_end_with_their_deadlines();
     items_have_an_order();
     return 0;

@@ -104,7 +104,7 @@ impl Jobs {
             .append(true)
             .create(true)
             .open(name)?;
-        let mut read = TaskJournal::read_from(&old).map_err(Error::from)?;
+        let mut read = TaskJournal::read_from(&old)?;
         let lines = if read.is_torn {
             "torn after line"
         } else {

@@ -2,12 +2,12 @@
 //! runs once that call has returned.
 use std::cell::Cell;
 use std::panic::{catch_unwind, AssertUnwindSafe};
-use std::ptr;
-use std::sync::mpsc::{channel, SendError, Sender};
-use std::sync::{Mutex, PoisonError};
+use std::sync::atomic::{AtomicBool, Ordering};
+use std::sync::mpsc::{channel, Sender};
+use std::sync::{Mutex, MutexGuard, PoisonError};
 use std::task::Waker;
-use std::thread;
 use std::vec::IntoIter;
+use std::{io, mem, ptr, thread};
 
 /// What is run after a call.
 #[derive(Default)]
@@ -80,30 +80,56 @@ fn wake_all(wakers: Vec<Waker>) {
     (&mut rest.0).for_each(Waker::wake);
 }
 
-// A thread that waits in the library for an item, or one of C or C++, can't run a waker, as that may call the library. The thread for
-// that starts with the first of these.
-#[cold]
-fn hand_over(waker: Waker) {
-    static THREAD: Mutex<Option<Sender<Waker>>> = Mutex::new(None);
-    let mut thread = THREAD.lock().unwrap_or_else(PoisonError::into_inner);
-    let sent = thread.get_or_insert_with(start_waking).send(waker);
-    drop(thread);
-    if let Err(SendError(waker)) = sent {
-        // There is no such thread.
-        waker.wake();
+/// Runs code of the user's. A panic does not go through the library, nor does one of its own payload's drop.
+fn run_caught(code: impl FnOnce()) {
+    if let Err(panic) = catch_unwind(AssertUnwindSafe(code)) {
+        mem::forget(panic);
     }
 }
 
-fn start_waking() -> Sender<Waker> {
+/// Where wakers go that can't run in their own thread: one that waits in the library for an item, or one of C or C++. They may call the
+/// library, so a thread of this crate runs them.
+static WAKERS: Mutex<Option<Sender<Waker>>> = Mutex::new(None);
+
+/// Whether that thread has started.
+static IS_STARTED: AtomicBool = AtomicBool::new(false);
+
+fn wakers() -> MutexGuard<'static, Option<Sender<Waker>>> {
+    WAKERS.lock().unwrap_or_else(PoisonError::into_inner)
+}
+
+/// Starts the thread that runs such wakers, before the first member listens: whether there is one.
+pub fn has_thread() -> bool {
+    IS_STARTED.load(Ordering::Acquire) || start()
+}
+
+#[cold]
+fn start() -> bool {
+    let mut sender = wakers();
+    if sender.is_none() {
+        *sender = start_waking().ok();
+        IS_STARTED.store(sender.is_some(), Ordering::Release);
+    }
+    sender.is_some()
+}
+
+fn start_waking() -> io::Result<Sender<Waker>> {
     let (sender, wakers) = channel::<Waker>();
     let wake_each = move || {
-        for waker in wakers {
-            let _ = catch_unwind(AssertUnwindSafe(|| waker.wake()));
-        }
+        wakers
+            .into_iter()
+            .for_each(|waker| run_caught(|| waker.wake()))
     };
     let thread = thread::Builder::new().name("flatpq wakers".to_string());
-    let _ = thread.spawn(wake_each);
-    sender
+    thread.spawn(wake_each).map(|_| sender)
+}
+
+#[cold]
+fn hand_over(waker: Waker) {
+    // The thread is there since a member listens, and never ends.
+    if let Some(sender) = &*wakers() {
+        let _ = sender.send(waker);
+    }
 }
 
 /// A payload that is dropped with this. Where one of many panics, the others are dropped all the same.
@@ -126,8 +152,7 @@ impl Dropped {
     pub fn drop_after(self) {
         let after = AFTER.with(Cell::get);
         if after.is_null() {
-            // A panic does not go through the library.
-            let _ = catch_unwind(AssertUnwindSafe(|| drop(self)));
+            run_caught(|| drop(self));
         } else {
             // SAFETY: as above.
             let after = unsafe { &mut *after };

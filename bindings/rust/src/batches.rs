@@ -112,26 +112,52 @@ impl<T: Send, K: Key> Call<'_, T, K> {
 
     pub fn pop_due_many(&self, key: K, most: usize) -> Result<Vec<(K, T)>, Error> {
         let priority = self.shared.times.priority_of(key);
+        let mut taken = Vec::new();
+        loop {
+            // There may be no memory for as many as the program would take.
+            let (before, room) = (taken.len(), (most - taken.len()).min(1024));
+            match self.takes_many(&mut taken, room, priority) {
+                Err(error) if before == 0 => return Err(error),
+                Ok(()) if room > 0 && taken.len() == before + room => (),
+                _ => break,
+            }
+        }
+        let keyed = |(priority, payload)| (self.shared.times.key_of(priority), payload);
+        Ok(taken.into_iter().map(keyed).collect())
+    }
+
+    // Takes so many of the first payloads out at most.
+    fn takes_many(
+        &self,
+        taken: &mut Vec<(u64, T)>,
+        room: usize,
+        priority: u64,
+    ) -> Result<(), Error> {
         let mut items: Vec<Item> = Vec::new();
-        items.try_reserve_exact(most).map_err(|_| Error::NoMemory)?;
+        let reserved = items.try_reserve_exact(room).and(taken.try_reserve(room));
+        reserved.map_err(|_| Error::NoMemory)?;
         let (member, at, until) = (self.member, items.as_mut_ptr(), self.until);
         let (mut done, mut number) = (0, 0);
-        let taken: Vec<(u64, T)> = after::calling(|| {
+        after::calling(|| {
             // SAFETY: the member is there, and in this call alone; the items have the room.
             let code = unsafe {
-                raw::pq_pop_due_many(member, priority, at, most, until, &mut done, &mut number)
+                raw::pq_pop_due_many(member, priority, at, room, until, &mut done, &mut number)
             };
-            self.has_number(number);
+            if taken.is_empty() {
+                self.has_number(number);
+            }
             // SAFETY: the call has written so many.
             unsafe { items.set_len(done) };
             // SAFETY: the call took them out of a queue of such payloads.
-            let payload = |it: &Item| (it.priority, unsafe { payload_of(it.value) });
+            taken.extend(
+                items
+                    .iter()
+                    .map(|it| (it.priority, unsafe { payload_of(it.value) })),
+            );
             match code {
-                raw::OK | raw::EMPTY | raw::NOT_DUE => Ok(items.iter().map(payload).collect()),
+                raw::OK | raw::EMPTY | raw::NOT_DUE => Ok(()),
                 code => Err(Error::of(code)),
             }
-        })?;
-        let keyed = |(priority, payload)| (self.shared.times.key_of(priority), payload);
-        Ok(taken.into_iter().map(keyed).collect())
+        })
     }
 }

@@ -419,7 +419,7 @@ macro_rules! calls {
             ///
             /// # Errors
             ///
-            /// [`Error::Forgotten`], [`Error::NoMemory`], [`Error::Forked`].
+            /// [`Error::Forgotten`], [`Error::NoMemory`], [`Error::Forked`], with a deadline [`Error::TimedOut`].
             pub fn archive(&$($mutable)? self, archived: u64) -> Result<Journal, Error> {
                 self.call().archive(archived)
             }

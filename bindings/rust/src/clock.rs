@@ -130,9 +130,12 @@ impl Times {
         key.number().saturating_add(self.above)
     }
 
-    /// The key of a priority.
+    /// The key of a priority. The last keys come out as the last of them.
     pub fn key_of<K: Key>(&self, priority: u64) -> K {
-        K::of_number(priority.saturating_sub(self.above))
+        K::of_number(match priority {
+            u64::MAX => u64::MAX,
+            _ => priority.saturating_sub(self.above),
+        })
     }
 
     /// The moment at which items of this priority are due.

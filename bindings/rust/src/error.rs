@@ -95,7 +95,7 @@ impl From<Error> for io::Error {
     }
 }
 
-/// Why a payload was not pushed, and the payload. `?` turns it into its [`Error`].
+/// Why a payload was not pushed, and the payload. `?` turns it into its [`Error`], or an [`io::Error`].
 pub struct NotPushed<T> {
     /// The payload.
     pub payload: T,
@@ -123,14 +123,7 @@ impl<T> std::error::Error for NotPushed<T> {
     }
 }
 
-/// Drops the payload.
-impl<T> From<NotPushed<T>> for Error {
-    fn from(refused: NotPushed<T>) -> Error {
-        refused.error
-    }
-}
-
-/// Why a batch ended before all of it was pushed, and what was not. `?` turns it into its [`Error`].
+/// Why a batch ended before all of it was pushed, and what was not. `?` turns it into its [`Error`], or an [`io::Error`].
 pub struct NotAllPushed<K, T> {
     /// All keys and payloads that were not pushed.
     pub payload: Vec<(K, T)>,
@@ -165,14 +158,7 @@ impl<K, T> std::error::Error for NotAllPushed<K, T> {
     }
 }
 
-/// Drops the payloads.
-impl<K, T> From<NotAllPushed<K, T>> for Error {
-    fn from(refused: NotAllPushed<K, T>) -> Error {
-        refused.error
-    }
-}
-
-/// Why a queue was not closed, and the queue, which stays open. `?` turns it into its [`Error`].
+/// Why a queue was not closed, and the queue, which stays open. `?` turns it into its [`Error`], or an [`io::Error`].
 pub struct NotClosed<T, K = u64> {
     /// The queue.
     pub queue: TaskQueue<T, K>,
@@ -200,14 +186,7 @@ impl<T, K> std::error::Error for NotClosed<T, K> {
     }
 }
 
-/// Drops the queue.
-impl<T, K> From<NotClosed<T, K>> for Error {
-    fn from(refused: NotClosed<T, K>) -> Error {
-        refused.error
-    }
-}
-
-/// Why a journal was not read back from its text. `?` turns it into its [`Error`].
+/// Why a journal was not read back from its text. `?` turns it into its [`Error`], or an [`io::Error`].
 #[derive(Clone, Copy, Debug, PartialEq, Eq)]
 pub struct NotReadBack {
     /// Of [`Error::NotLawful`] the number of the line that is refused, from 1; else how many lines were read.
@@ -228,11 +207,25 @@ impl std::error::Error for NotReadBack {
     }
 }
 
-impl From<NotReadBack> for Error {
-    fn from(refused: NotReadBack) -> Error {
-        refused.error
-    }
+macro_rules! into_errors {
+    ($($Refused:ident<$($Part:ident),*>),*) => {$(
+        /// Drops what came back with the error.
+        impl<$($Part),*> From<$Refused<$($Part),*>> for Error {
+            fn from(refused: $Refused<$($Part),*>) -> Error {
+                refused.error
+            }
+        }
+
+        /// Drops what came back with the error.
+        impl<$($Part),*> From<$Refused<$($Part),*>> for io::Error {
+            fn from(refused: $Refused<$($Part),*>) -> io::Error {
+                refused.error.into()
+            }
+        }
+    )*};
 }
+
+into_errors!(NotPushed<T>, NotAllPushed<K, T>, NotClosed<T, K>, NotReadBack<>);
 
 /// What a pop of what is due found.
 #[derive(Clone, Copy, Debug, PartialEq, Eq)]

@@ -21,7 +21,8 @@ impl Slot {
         self.0.lock().unwrap_or_else(PoisonError::into_inner)
     }
 
-    fn take(&self) -> Option<Waker> {
+    /// Takes the waker out, if one is left.
+    pub fn take(&self) -> Option<Waker> {
         self.lock().take()
     }
 
@@ -59,12 +60,12 @@ impl<T: Send, K: Key> TaskMember<T, K> {
     ///
     /// A push wakes one of those who wait, a thread or a future. A future that is dropped when it was woken wakes another, and no payload
     /// is lost with it. A poll that finds none leaves no journal entry. Wakers run after the call of the library that wakes, in the thread
-    /// that pushes; where that thread waits in a call, or pushes by the library for C, in a thread of this crate. So they may call the
-    /// queue.
+    /// that pushes; where that thread waits in a call, or pushes by the library for C, in a thread of this crate, which the first poll
+    /// starts. So they may call the queue.
     ///
     /// # Errors
     ///
-    /// Those of [`TaskMember::take`].
+    /// Those of [`TaskMember::take`], and [`Error::NoMemory`] where that thread can't start.
     ///
     /// ```
     /// use std::future::Future;
@@ -96,7 +97,7 @@ impl<T: Send, K: Key> TaskMember<T, K> {
     ///
     /// # Errors
     ///
-    /// Those of [`TaskMember::take_due`].
+    /// Those of [`TaskMember::take_async`].
     pub fn take_due_async<S, F>(&mut self, sleep: S) -> TakeDue<'_, T, K, S, F>
     where
         S: FnMut(Instant) -> F,
@@ -110,7 +111,7 @@ impl<T: Send, K: Key> TaskMember<T, K> {
     ///
     /// # Errors
     ///
-    /// Those of [`TaskMember::take`].
+    /// Those of [`TaskMember::take_async`].
     pub fn poll_take(&mut self, cx: &mut Context<'_>) -> Poll<Result<(K, T), Error>> {
         match self.found_or_listens(u64::MAX, cx)? {
             Due::Got(priority, payload) => {
@@ -126,7 +127,7 @@ impl<T: Send, K: Key> TaskMember<T, K> {
     ///
     /// # Errors
     ///
-    /// Those of [`TaskMember::take`].
+    /// Those of [`TaskMember::take_async`].
     pub fn take_or_listen(&mut self, key: K, cx: &mut Context<'_>) -> Result<Due<T, K>, Error> {
         let priority = self.shared.times.priority_of(key);
         let found = self.found_or_listens(priority, cx)?;
@@ -134,6 +135,10 @@ impl<T: Send, K: Key> TaskMember<T, K> {
     }
 
     fn found_or_listens(&mut self, priority: u64, cx: &mut Context<'_>) -> Result<Due<T>, Error> {
+        self.unless_forked()?;
+        if !after::has_thread() {
+            return Err(Error::NoMemory);
+        }
         self.slot.set(cx.waker());
         let notify = self.slot.notify();
         // SAFETY: the member has the slot until it was given back.
@@ -235,7 +240,6 @@ impl<T, K> Drop for Taker<'_, T, K> {
     fn drop(&mut self) {
         if let Taker::Member(member) = self {
             member.unlisten();
-            drop(member.slot.take());
         }
     }
 }

@@ -338,6 +338,15 @@ impl<T, K> Deref for TaskJournal<T, K> {
     }
 }
 
+impl<'a, T, K> IntoIterator for &'a TaskJournal<T, K> {
+    type Item = Entry;
+    type IntoIter = Entries<'a>;
+
+    fn into_iter(self) -> Entries<'a> {
+        self.iter()
+    }
+}
+
 impl<T, K> Drop for TaskJournal<T, K> {
     fn drop(&mut self) {
         if payload::is_dropped::<T>() {

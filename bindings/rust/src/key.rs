@@ -1,12 +1,13 @@
 //! Keys: by what payloads are ordered.
 use crate::clock;
+use std::cmp::Reverse;
 use std::time::{Duration, Instant};
 
 /// By what a [`TaskQueue`](crate::TaskQueue) orders its payloads: the smallest key comes out first. The queue orders the numbers of keys,
 /// and gives back the key of a number.
 ///
-/// Integers of at most 64 bits are keys, `f32` and `f64`, [`Duration`] and [`Instant`]. A type of the program's own is one by two functions
-/// that undo each other:
+/// Integers of at most 64 bits are keys, `f32` and `f64`, [`Duration`] and [`Instant`], and [`Reverse`] of each, whose largest comes out
+/// first. A type of the program's own is one by two functions that undo each other:
 ///
 /// ```
 /// use flatpq::{Key, TaskQueue};
@@ -115,6 +116,17 @@ impl Key for f32 {
         const TOP: u32 = 1 << 31;
         let bits = number as u32;
         f32::from_bits(if bits & TOP == 0 { !bits } else { bits ^ TOP })
+    }
+}
+
+/// The largest comes out first.
+impl<K: Key> Key for Reverse<K> {
+    fn number(self) -> u64 {
+        !self.0.number()
+    }
+
+    fn of_number(number: u64) -> Reverse<K> {
+        Reverse(K::of_number(!number))
     }
 }
 

@@ -101,6 +101,8 @@ impl<T: Send, K: Key> Listener<T, K> {
     }
 
     fn found(&mut self, priority: u64) -> Result<Due<T>, Error> {
+        // The parent has the event too.
+        self.member.unless_forked()?;
         // It is nonblocking, and may have nothing to read.
         let _ = (&self.event).read(&mut [0; 8]);
         let context = self.event.as_raw_fd() as isize as *mut c_void;

@@ -65,7 +65,8 @@ impl Options {
     }
 
     /// Keys are times: the key 0 is due at `start`, and each later key by a unit later, of 1 to 2^64 - 1 nanoseconds. The clock counts whole
-    /// units, so items are due less than a unit later than that. Keys that are moments ([`Instant`]) need no such option.
+    /// units, so items are due less than a unit later than that. Keys that are moments ([`Instant`]) need no such option. Of unsigned keys
+    /// the last ones, as many as the clock had units at `start`, count as the very last one, and come out as that.
     ///
     /// ```
     /// use flatpq::Options;

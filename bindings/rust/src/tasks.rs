@@ -343,7 +343,7 @@ impl<T: Send, K: Key> TaskMember<T, K> {
 }
 
 impl<T, K> TaskMember<T, K> {
-    /// The place of the member, by which journal entries name it: 0 to 2079.
+    /// The place of the member, by which journal entries name it: 0 to 2079, or `u32::MAX` in a forked child.
     pub fn place(&self) -> u32 {
         // SAFETY: the member is there.
         unsafe { raw::pq_place(self.raw.inside()) }
@@ -358,10 +358,20 @@ impl<T, K> TaskMember<T, K> {
         Error::unless_ok(after::calling(|| self.shared.queue.shut()))
     }
 
-    /// Ends the listening, after which no waker is called: whether the member listened, and its task was not woken.
+    pub(crate) fn unless_forked(&self) -> Result<(), Error> {
+        match self.place() {
+            u32::MAX => Err(Error::Forked),
+            _ => Ok(()),
+        }
+    }
+
+    /// Ends the listening, and drops the waker: whether the member listened, and no call had begun to wake its task. If false, a wake may
+    /// still come.
     pub fn unlisten(&mut self) -> bool {
         // SAFETY: the member is there, and in this call alone.
-        after::calling(|| unsafe { raw::pq_unlisten(self.raw.inside()) } == 1)
+        let listened = after::calling(|| unsafe { raw::pq_unlisten(self.raw.inside()) } == 1);
+        drop(self.slot.take());
+        listened
     }
 
     /// Carries out the requests that members have posted. It never waits.
@@ -441,11 +451,14 @@ impl<T: Number, K: Key> TaskMember<T, K> {
         // SAFETY: as above; the others are borrowed for the call.
         let code =
             after::calling(|| unsafe { raw::pq_poll(self.raw.inside(), &mut item, &mut number) });
-        self.number.set(number);
+        let answered = Error::unless_ok(code);
+        if !matches!(answered, Err(Error::Pending | Error::NotPending)) {
+            self.number.set(number);
+        }
         if code == raw::EMPTY {
             return Ok(None);
         }
-        Error::unless_ok(code)?;
+        answered?;
         // SAFETY: the payload is a number.
         let payload = unsafe { payload_of(item.value) };
         Ok(Some((self.shared.times.key_of(item.priority), payload)))

@@ -26,7 +26,7 @@ macro_rules! calls {
         assert_eq!($caller.pop(), Ok(Some((2, 20))));
         assert_eq!($caller.pop_due_many(2, 9), Ok(vec![]));
         assert_eq!($caller.pop_due_many(9, 2), Ok(vec![(3, 30), (4, 40)]));
-        assert_eq!($caller.pop_due_many(9, 2), Ok(vec![]));
+        assert_eq!($caller.pop_due_many(9, usize::MAX), Ok(vec![]));
         assert_eq!(
             ($caller.pop(), $caller.pop_due(9)),
             (Ok(None), Ok(Due::Empty))
@@ -56,6 +56,31 @@ fn a_queue_and_a_member_have_the_same_calls() {
         (Ok(Some((5, 50))), Ok(Due::Got(6, 60)))
     );
     assert_eq!((soon.take(), soon.take_due()), (Ok(None), Ok(Due::Empty)));
+}
+
+#[test]
+fn a_batch_takes_as_many_as_there_are() {
+    let queue = Queue::new().unwrap();
+    let mut member = queue.join().unwrap();
+    let pairs: Vec<(u64, u64)> = (0..5000).map(|it| (it, it)).collect();
+    assert_eq!(queue.push_many(pairs.clone()).unwrap().count, 5000);
+    assert_eq!(
+        member.pop_due_many(9999, 3000).as_deref(),
+        Ok(&pairs[..3000])
+    );
+    assert_eq!(member.number(), 5001);
+    assert_eq!(
+        member.pop_due_many(3999, usize::MAX).as_deref(),
+        Ok(&pairs[3000..4000])
+    );
+    assert_eq!(
+        queue.pop_due_many(9999, 1000).as_deref(),
+        Ok(&pairs[4000..])
+    );
+    assert_eq!(
+        queue.until(Until::NOW).pop_due_many(9999, usize::MAX),
+        Ok(vec![])
+    );
 }
 
 #[test]

@@ -37,6 +37,16 @@ fn keys_count_from_a_moment() {
     come_in_time([20, 0, 10, 3_600_000].map(Duration::from_nanos));
 }
 
+/// So the last key may stand for never.
+#[test]
+fn the_last_keys_come_out_as_the_last_one() {
+    let queue = timed(Instant::now());
+    queue.push_many([(u64::MAX, 1), (u64::MAX - 1, 2)]).unwrap();
+    assert_eq!(queue.until(UNIT).take_due(), Ok(Due::Later(u64::MAX)));
+    assert_eq!(queue.pop(), Ok(Some((u64::MAX, 1))));
+    assert_eq!(queue.pop(), Ok(Some((u64::MAX, 2))));
+}
+
 /// Microseconds of the library's clock.
 #[derive(Clone, Copy, Debug, PartialEq)]
 struct Micros(u64);

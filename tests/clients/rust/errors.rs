@@ -98,7 +98,12 @@ fn a_member_that_has_posted_waits_for_its_answer() {
     assert_eq!(member.pop(), Err(Error::Pending));
     member.combine().unwrap();
     assert_eq!((member.poll(), member.number()), (Ok(Some((1, 2))), 1));
+    assert_eq!(
+        (member.poll(), member.number()),
+        (Err(Error::NotPending), 1)
+    );
     member.post_peek().unwrap();
+    assert_eq!((member.poll(), member.number()), (Err(Error::Pending), 1));
     member.combine().unwrap();
     assert_eq!((member.poll(), member.number()), (Ok(Some((1, 2))), 2));
     for popped in [Some((1, 2)), None] {
@@ -158,7 +163,7 @@ fn a_question_mark_passes_them_on() {
     assert!(text.contains("shut"), "{text}");
     let boxed = pushed_in_a_box(&queue).unwrap_err();
     assert_eq!(boxed.to_string(), refused.to_string());
-    assert_eq!(io::Error::from(Error::Shut).to_string(), text);
+    assert_eq!(io::Error::from(refused).to_string(), text);
     assert_eq!(closed(queue), Ok(2));
 }
 

@@ -1,5 +1,6 @@
 //! In children that are forked while threads are busy each call is refused, and queues and members end without waiting.
 use flatpq::{Error, TaskMember, TaskQueue, Until};
+use std::os::unix::io::AsRawFd;
 use std::ptr;
 use std::sync::atomic::{AtomicBool, AtomicU32, Ordering::Relaxed};
 use std::thread;
@@ -8,7 +9,15 @@ use std::time::Duration;
 const CHILDREN: usize = 40;
 const SECONDS: u32 = 20;
 
+#[repr(C)]
+struct Polled {
+    descriptor: i32,
+    events: i16,
+    has: i16,
+}
+
 extern "C" {
+    fn poll(all: *mut Polled, count: u64, milliseconds: i32) -> i32;
     fn fork() -> i32;
     fn alarm(seconds: u32) -> u32;
     fn waitpid(child: i32, status: *mut i32, options: i32) -> i32;
@@ -99,4 +108,23 @@ fn children_are_refused_and_none_hangs() {
     assert!(queue.pop().unwrap().is_some());
     drop((own, queue));
     assert_eq!(DROPS.load(Relaxed), 1);
+}
+
+/// The child has the parent's descriptor too.
+#[test]
+fn a_child_takes_no_event() {
+    let queue = TaskQueue::new().unwrap();
+    let mut listener = queue.listener().unwrap();
+    assert_eq!(listener.take(), Ok(None));
+    queue.push(5, 50).unwrap();
+    assert!(forked(|| listener.take() == Err(Error::Forked)));
+    let (descriptor, events) = (listener.as_raw_fd(), 1);
+    let mut polled = Polled {
+        descriptor,
+        events,
+        has: 0,
+    };
+    // SAFETY: it is one, and borrowed for the call.
+    assert_eq!(unsafe { poll(&mut polled, 1, 0) }, 1);
+    assert_eq!(listener.take(), Ok(Some((5, 50))));
 }

@@ -104,6 +104,20 @@ fn what_is_there_is_ready_and_what_comes_wakes() {
     assert_eq!(entries, 8);
 }
 
+#[test]
+fn a_member_that_listens_no_longer_has_no_waker() {
+    let queue: Queue = Queue::new().unwrap();
+    let [mut member] = members(&queue);
+    let counted = Counted::new();
+    let waker = Waker::from(Arc::clone(&counted));
+    assert!(member
+        .poll_take(&mut Context::from_waker(&waker))
+        .is_pending());
+    drop(waker);
+    assert!(Arc::strong_count(&counted) == 2 && member.unlisten());
+    assert!(Arc::strong_count(&counted) == 1 && !member.unlisten());
+}
+
 /// The sleep until the old time never ends.
 #[test]
 fn a_move_to_now_wakes() {

@@ -46,7 +46,7 @@ fn entries_come_by_iterators() {
         (entries.len(), entries.next(), journal.get(5)),
         (0, None, None)
     );
-    assert_eq!((&*journal).into_iter().count(), 5);
+    assert_eq!((&journal).into_iter().count(), 5);
     let empty: Queue = Queue::new().unwrap();
     assert!(empty.close().unwrap().is_empty());
 }

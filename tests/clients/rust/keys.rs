@@ -1,7 +1,7 @@
 //! Payloads come out in the order of their keys, and each key as it was pushed: of integers and floating-point numbers, durations and
 //! moments, and of types of a program's own.
 use flatpq::{Due, Key, TaskQueue};
-use std::cmp::Ordering;
+use std::cmp::{Ordering, Reverse};
 use std::fmt::Debug;
 use std::ops::Neg;
 use std::thread;
@@ -164,6 +164,18 @@ fn moments_are_in_order() {
     assert!(moment < last && moment > now + far / 2);
     let moment = Instant::of_number(first.number());
     assert!(moment > first && moment < now - far / 2);
+}
+
+#[test]
+fn of_reversed_keys_the_largest_comes_first() {
+    let keys = [i32::MAX, 1, 0, -1, i32::MIN].map(Reverse);
+    are_in_order(&keys);
+    come_back(&keys, |key| key);
+    let queue = TaskQueue::new().unwrap();
+    queue
+        .push_many([(Reverse(2.5), "slow"), (Reverse(7.5), "fast")])
+        .unwrap();
+    assert_eq!(queue.pop(), Ok(Some((Reverse(7.5), "fast"))));
 }
 
 /// Of two bytes, of which the second comes first.

@@ -2,7 +2,7 @@
 //! call is under way meanwhile, so that none of it panics or waits for ever.
 use flatpq::{Due, Error, Member, Options, Queue, TaskQueue};
 use std::future::Future;
-use std::panic::{catch_unwind, AssertUnwindSafe};
+use std::panic::{catch_unwind, panic_any, AssertUnwindSafe};
 use std::pin::Pin;
 use std::sync::{mpsc, Arc, Mutex};
 use std::task::{Context, Poll, Wake, Waker};
@@ -193,6 +193,36 @@ fn a_waker_drops_the_last_of_its_queue() {
         assert_eq!(pushing.push(1, 2).unwrap(), 1);
         assert!(slot.lock().unwrap().is_none());
         assert_eq!(pushing.pop(), Ok(Some((1, 2))));
+    });
+}
+
+/// Its panic's own drop panics, so it may not run in the thread that wakes all.
+#[test]
+fn a_waker_whose_panic_panics_stops_no_other() {
+    struct Bomb;
+    impl Drop for Bomb {
+        fn drop(&mut self) {
+            panic!("the drop of a panic panics");
+        }
+    }
+    in_time(|| {
+        let queue: Queue<Instant, u32> = Queue::new().unwrap();
+        let late = Instant::now() + Duration::from_secs(600);
+        let (wakes, woken) = mpsc::channel();
+        let wakes = Mutex::new(wakes);
+        let bomb = waker(|| panic_any(Bomb));
+        let good = waker(move || wakes.lock().unwrap().send(thread::current().id()).unwrap());
+        let (mut listening, mut posting) = (queue.join().unwrap(), queue.join().unwrap());
+        for waker in [bomb, good] {
+            let context = &mut Context::from_waker(&waker);
+            let found = listening.take_or_listen(Instant::now(), context);
+            assert_eq!(found.unwrap().got(), None);
+            posting.post_push(late, 1).unwrap();
+            let soon = queue.until(Duration::from_millis(50));
+            assert_eq!(soon.take_due(), Ok(Due::Later(late)));
+            assert_eq!(posting.poll(), Ok(Some((late, 1))));
+        }
+        assert_ne!(woken.recv().unwrap(), thread::current().id());
     });
 }
 

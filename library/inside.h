@@ -92,7 +92,7 @@ struct pq_queue {
     uint32_t is_ending; /* a thread frees its memory; the function `left` may call it meanwhile */
     uint32_t is_marked; /* the records of the queue are WANTED */
     uint32_t out;       /* members in use */
-    uint32_t staying;   /* threads for which its memory stays: they wait until an entry is archived, or shut it */
+    uint32_t staying;   /* threads for which its memory stays: they wait until an entry is archived, shut it, or wake others */
     pq_member *spare;   /* members in no use */
     own *owns;
     wanting *first, **end;

@@ -22,6 +22,18 @@ enum { LISTS = 64 };
 static own no_own;
 __thread thread flatpq_thread __attribute__((tls_model("initial-exec"))) = { &no_own, NULL };
 
+static own **list_of(const pq_member *shared) {
+    return &flatpq_thread.owns[((uint64_t)(uintptr_t)shared * 0x9e3779b97f4a7c15u) >> 58];
+}
+
+static own *find(const pq_member *shared) {
+    own *it = flatpq_thread.owns != NULL ? *list_of(shared) : NULL;
+    while (it != NULL && it->shared != shared) {
+        it = it->next;
+    }
+    return it;
+}
+
 /*
  * The records of a queue, under the lock.
  */
@@ -75,17 +87,16 @@ pq_code flatpq_take_over(pq_queue *queue, pq_member **member) {
     return PQ_ALL_JOINED;
 }
 
-/* Takes all idle members over, and gives them back: whether others that listen relied on one of them. */
+/* Takes all idle members over, and gives them back: whether others that listen relied on one of them. Without a barrier it is the thread's own. */
 int flatpq_take_back(pq_queue *queue) {
+    const own *mine = find(&queue->own);
     own *next;
-    int has_left = 0;
+    int has_barrier, has_left = 0;
     flatpq_mark(queue, WANTED);
-    if (!flatpq_barrier()) {
-        return 0;
-    }
+    has_barrier = flatpq_barrier();
     for (own *it = queue->owns; it != NULL; it = next) {
         next = it->next_of_queue;
-        if (is_idle(it)) {
+        if ((has_barrier || it == mine) && is_idle(it)) {
             pq_member *member = take_out(it);
             has_left |= (int)member->has_left;
             flatpq_release(queue, member);
@@ -97,18 +108,6 @@ int flatpq_take_back(pq_queue *queue) {
 /*
  * The records of a thread.
  */
-
-static own **list_of(const pq_member *shared) {
-    return &flatpq_thread.owns[((uint64_t)(uintptr_t)shared * 0x9e3779b97f4a7c15u) >> 58];
-}
-
-static own *find(const pq_member *shared) {
-    own *it = flatpq_thread.owns != NULL ? *list_of(shared) : NULL;
-    while (it != NULL && it->shared != shared) {
-        it = it->next;
-    }
-    return it;
-}
 
 /* Frees a record that is TAKEN. */
 static void forget(own *forgotten) {

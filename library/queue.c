@@ -345,9 +345,12 @@ pq_code pq_close(pq_queue *queue, pq_journal **journal) {
     }
     pthread_mutex_lock(&flatpq_members);
     code = close_proved(queue, &closed, &has_left);
+    has_left &= code == PQ_MEMBERS_LEFT;
+    __atomic_fetch_add(&queue->staying, (uint32_t)has_left, SEQ);
     flatpq_unlock(queue);
-    if (code == PQ_MEMBERS_LEFT && has_left) {
+    if (has_left) {
         flatpq_owe(queue, 1);
+        flatpq_count_staying(queue, UINT32_MAX);
     }
     if (code != PQ_OK) {
         free(made);

@@ -24,8 +24,11 @@ long __wrap_syscall(long number, ...) {
     }
     va_end(words);
     set(&sleeps, is_set(&sleeps) || (number == SYS_futex && (of[1] & FUTEX_CMD_MASK) == FUTEX_WAIT_BITSET));
+    if (number == SYS_membarrier && refuses_barriers) {
+        return -1;
+    }
     if (number == SYS_membarrier) {
-        has_barriers = !refuses_barriers && __real_syscall(number, of[0], of[1], of[2]) == 0;
+        has_barriers = __real_syscall(number, of[0], of[1], of[2]) == 0;
         return has_barriers ? 0 : -1;
     }
     return __real_syscall(number, of[0], of[1], of[2], of[3], of[4], of[5]);
@@ -410,7 +413,11 @@ static void without_a_barrier_no_member_is_taken_over(void) {
     does(&other, has_none);
     pq_give_back(member);
     ends(&other);
+    /* For the thread's own none is needed. */
+    pushes_one();
+    refuses_barriers = has_barriers;
     close_and_free(queue);
+    refuses_barriers = 0;
 }
 
 int main(void) {

@@ -328,6 +328,7 @@ typedef struct wait {
     int was_woken; /* it was woken, and settles that after its next look */
     int is_over;   /* the time had come after its last look */
     int has_slept;
+    int is_notified; /* the call began to listen, and was notified meanwhile */
     uint64_t owed; /* the wakes that were owed before it looks */
 } wait;
 
@@ -344,6 +345,7 @@ HIDDEN int flatpq_unlisten(pq_member *member);
  */
 #define KIND_FULL 6  /* the kind of an answer where a push found the queue full */
 #define KIND_MOVED 7 /* that of a move which found its item (removing.c) */
+#define KIND_GONE 8  /* that of a removal or a move which found none */
 HIDDEN pq_code flatpq_push_within(pq_member *member, pq_item item, uint64_t until, core_answer *answer);
 
 /*

@@ -68,19 +68,21 @@ static pq_code listen(wait *it, waiters *list, uint64_t priority, void (*notify)
     code = look(it, priority);
     member->looks = 0;
     if (code != PQ_EMPTY && code != PQ_NOT_DUE) {
-        it->was_woken = end_listening(member);
+        it->is_notified = it->was_woken = end_listening(member);
     }
     return code;
 }
 
 static pq_code take_or_listen(wait *it, uint64_t priority, void (*notify)(void *context), void *context) {
     pq_member *member = it->member;
-    int passes_on = end_listening(member);
+    int passes_on = end_listening(member), leaves_one = 0;
     pq_code code = flatpq_take_first_at_once(member, priority, it->answer);
     it->was_woken = passes_on;
     if (code == PQ_EMPTY || code == PQ_NOT_DUE) {
+        leaves_one = passes_on && code == PQ_NOT_DUE;
         code = listen(it, &member->queue->listeners, priority, notify, context);
     }
+    it->was_woken |= leaves_one && code != PQ_EMPTY && code != PQ_NOT_DUE;
     if (code == PQ_OK || code == PQ_NOT_DUE) {
         member->has_left = 1;
     } else if (code == PQ_EMPTY || code == PQ_SHUT) {
@@ -96,7 +98,7 @@ static pq_code take_or_listen(wait *it, uint64_t priority, void (*notify)(void *
 
 pq_code pq_take_or_listen(pq_member *member, uint64_t priority, pq_item *item, uint64_t *number, void (*notify)(void *context), void *context) {
     core_answer answer;
-    wait it = { NULL, PQ_NOW, &answer, 0, 0, 0, 0, 0, 0 };
+    wait it = { NULL, PQ_NOW, &answer, 0, 0, 0, 0, 0, 0, 0 };
     own *mine;
     pq_code code = flatpq_begin(&member, PQ_NOW, &mine);
     if (code != PQ_OK) {
@@ -107,7 +109,9 @@ pq_code pq_take_or_listen(pq_member *member, uint64_t priority, pq_item *item, u
     flatpq_end_keeping(mine, member);
     if (code == PQ_TIMED_OUT) {
         /* Another thread had the lock for long: this call is to be made again. */
-        notify(context);
+        if (!it.is_notified) {
+            notify(context);
+        }
         return PQ_EMPTY;
     }
     flatpq_return_first(code, &answer, item, number);
@@ -173,7 +177,7 @@ static pq_code take_due_or_listen(wait *it, int timer) {
 
 pq_code pq_take_due_or_listen(pq_member *member, int timer, pq_item *item, uint64_t *number) {
     core_answer answer;
-    wait it = { NULL, PQ_NOW, &answer, 0, 0, 0, 0, 0, 0 };
+    wait it = { NULL, PQ_NOW, &answer, 0, 0, 0, 0, 0, 0, 0 };
     own *mine;
     pq_code code = flatpq_begin(&member, PQ_NOW, &mine);
     if (code == PQ_OK) {

@@ -38,7 +38,7 @@ static pq_code result(const core_answer *answer) {
 static void carried_out(pq_member *it, const deed *asked, const core_answer *answer) {
     core_answer after = *answer;
     if (answer->kind == KIND_EMPTY) {
-        after.kind = KIND_FIRST;
+        after.kind = KIND_GONE;
     } else if (answer->kind == KIND_POPPED && asked->moves) {
         after.kind = KIND_MOVED;
     } else if (answer->kind == KIND_POPPED && IS_WATCHED) {

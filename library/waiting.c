@@ -39,7 +39,6 @@ static void settle(wait *it, pq_code code) {
     }
     it->was_woken = 0;
     flatpq_lock_lists(queue);
-    flatpq_add_incoming(queue);
     if (code == PQ_NOT_DUE && (queue->takers.first != NULL || queue->listeners.first != NULL)) {
         settled = 1;
     }
@@ -248,7 +247,7 @@ static pq_code take_due(wait *it) {
 
 INLINE pq_code wait_by(pq_code (*takes)(wait *), pq_member *member, pq_item *item, uint64_t until, uint64_t *number) {
     core_answer answer;
-    wait it = { NULL, until, &answer, 0, 0, 0, 0, 0, 0 };
+    wait it = { NULL, until, &answer, 0, 0, 0, 0, 0, 0, 0 };
     own *mine;
     pq_code code = flatpq_begin(&member, until, &mine);
     if (code != PQ_OK) {

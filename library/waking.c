@@ -195,7 +195,7 @@ static uint64_t first_time(pq_member *member, uint32_t *owes_wake) {
 /* Says when the first item is due, after pushes whose wakes were claimed: how many more it claimed. Where pushes go on it says 0. */
 static uint32_t say_first(pq_member *member) {
     const int looks = 4;
-    uint64_t *earliest = &member->queue->earliest, time = 0, before = __atomic_load_n(earliest, SEQ);
+    uint64_t *earliest = &member->queue->earliest, time = 0, before;
     uint32_t more = 0, last = 1;
     for (int looked = 0; last > 0 && looked < looks; looked++) {
         uint32_t owes_wake;
@@ -204,6 +204,7 @@ static uint32_t say_first(pq_member *member) {
         more += last;
     }
     time = last > 0 ? 0 : time;
+    before = __atomic_load_n(earliest, SEQ);
     while (time < before && !__atomic_compare_exchange_n(earliest, &before, time, 0, SEQ, SEQ)) {
     }
     return more;
@@ -213,6 +214,9 @@ COLD void flatpq_wake_owed(pq_member *member) {
     uint32_t count = claim(member);
     if (count > 0 && __atomic_load_n(&member->queue->alarm_count, SEQ) > 0) {
         count += say_first(member);
+        if (__atomic_load_n(&member->queue->concerned, SEQ) >= PRODUCER) {
+            say_room(member->queue); /* these looks may have carried out a pop */
+        }
     }
     flatpq_owe(member->queue, count);
 }
@@ -250,6 +254,9 @@ static int concerns_drain(pq_member *member, const core_answer *answer) {
     pq_code code;
     if (answer != NULL && (answer->kind == KIND_EMPTY || answer->kind == KIND_MOVED)) {
         return 1;
+    }
+    if (answer != NULL && answer->kind == KIND_FIRST) {
+        return 0; /* the item stood there after all that the call carried out */
     }
     code = LEAVE_OUT(pq_core_try_pop_or_look(&member->proved, 0, 0, &first));
     if (code == PQ_OK && first.owes_wake) {

@@ -111,19 +111,16 @@ inline void find_those_to_wake(State &s, Process &own) {
 }
 
 inline void settle(State &s, int count) {
-    add_incoming(s);
     s.owed = byte(s.owed > count ? s.owed - count : 0);
     s.on_way = 0;
 }
 
 inline void settle_after_look(State &s, Process &it) {
     const int all = 99;
-    if (it.result == NONE && fault == NOTHING) {
-        add_incoming(s);
-    } else if (it.result == NONE || it.result == ENDED) {
-        settle(s, fault == BEHIND ? all : it.count);
-    } else {
+    if (it.result != NONE && it.result != ENDED) {
         settle(s, it.result != GOT ? 0 : fault == TAKES_ALL ? all : 1);
+    } else if (it.result == ENDED || fault != NOTHING) {
+        settle(s, fault == BEHIND ? all : it.count);
     }
     it.was_woken = 0;
 }

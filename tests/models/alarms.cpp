@@ -14,7 +14,7 @@ const char *const names[] = {
     "as it is", "it looks before it is announced", "it is put into its list after its look", "it counts as set while it looks",
     "it sets its timer though it was rung", "who pushes looks before it claims the wakes", "who claims more wakes looks no more",
     "who pushes adds to incoming before it says when", "who has the lock reads incoming last", "who has the lock looks no more at incoming",
-    "who pushes says nothing where the lock is held"
+    "who pushes says nothing where the lock is held", "who pushes reads what was said before it looks"
 };
 
 State first_state(const char *all) {
@@ -28,6 +28,17 @@ State first_state(const char *all) {
         it.timer = NEVER;
         it.after = DONE;
         it.at = *all == 'a' ? byte(COUNT) : *all == 'x' ? byte(POST) : byte(ASK);
+        if (*all == 'A') {
+            it.kind = 'a';
+            it.at = LISTEN;
+            it.is_listed = s.announced = s.alarms = 1;
+            it.armed = NEVER;
+        } else if (*all == 's') {
+            it.kind = 'o';
+            it.at = ADD_INCOMING;
+            it.after = ASK;
+            s.items[1] = s.earliest = 1;
+        }
     }
     return s;
 }
@@ -42,7 +53,7 @@ bool is_lost(const State &s) {
     return is_so;
 }
 
-const char *const cases[] = { "a1", "a2", "a2o", "a2x", "a1x", "a3x", "aa1", "aa2", "aax", "a22", "a21", "a12", "a31" };
+const char *const cases[] = { "a1", "a2", "a2o", "a2x", "a1x", "a3x", "aa1", "aa2", "aax", "a22", "a21", "a12", "a31", "A3sx" };
 } // namespace
 
 int main() {

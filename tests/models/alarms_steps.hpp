@@ -15,12 +15,13 @@ using byte = std::uint8_t;
 // Where a process stands. Up to END it waits for the lists' lock; HEAR only tries it.
 enum Step : byte {
     LIST, ARM, END, HEAR, HEAR_INCOMING, HEAR_EARLIEST, UNLOCK, RING, AGAIN, COUNT, ANNOUNCE, LOOK, LISTEN, AWAIT_RING, UNANNOUNCE, POST, ASK,
-    COUNT_OWN, OWED, CLAIM, SEE_FIRST, SEE_OWED, CLAIM_MORE, SAY, ADD_INCOMING, DONE
+    COUNT_OWN, OWED, CLAIM, SEE_FIRST, SEE_OWED, CLAIM_MORE, READ, SAY, ADD_INCOMING, DONE
 };
 
-// Processes: 'a' an alarm; '1', '2' and '3' a push of an item that is due then; 'x' a post of a push that is due at 1; 'o' a pop.
+// Processes: 'a' an alarm, 'A' one that listens already; '1', '2' and '3' a push of an item that is due then; 'x' a post of a push that is due
+// at 1; 'o' a pop, 's' one by a thread that has just said that an item is due at 1.
 struct Process {
-    byte kind, at, next, after, found, time, looks, armed, timer, is_listed, is_ringing, to_ring;
+    byte kind, at, next, after, found, time, before, looks, armed, timer, is_listed, is_ringing, to_ring;
 };
 constexpr int MOST = 4;
 constexpr byte RUNG = 0, NEVER = 9, NOBODY = 255, MOST_LOOKS = 2;
@@ -31,7 +32,7 @@ struct State {
 
 enum Fault {
     DESIGN, LOOKS_UNANNOUNCED, LISTED_LATE, ARMED_WHILE_IT_LOOKS, ARMS_WHEN_RUNG, LOOKS_BEFORE_CLAIM, CLAIMS_UNSEEN, SAYS_LATE, HEARS_LATE, DEAF,
-    BLOCKED, FAULTS
+    BLOCKED, READS_EARLY, FAULTS
 };
 inline Fault fault;
 
@@ -146,12 +147,16 @@ inline void alarm_step(State &s, Process &it) {
     }
 }
 
+// What follows the last look of a process that says when the first item is due.
+inline byte has_looked() { return fault == READS_EARLY ? SAY : READ; }
+
 // The steps of a request, and of the wakes that are owed after it.
 inline void request_step(State &s, Process &it) {
     switch (it.at) {
     case POST: s.posted = 1; it.at = DONE; break;
     case ASK:
         carry_out(s);
+        it.after = DONE;
         if (it.kind == 'o') {
             const byte first = first_of(s);
             s.items[first == NEVER ? 0 : first] = byte(first == NEVER ? 0 : s.items[first] - 1);
@@ -163,7 +168,8 @@ inline void request_step(State &s, Process &it) {
     case COUNT_OWN: count_push(s); it.at = OWED; break;
     case OWED: it.looks = 0; it.at = s.owed == 0 ? it.after : fault == LOOKS_BEFORE_CLAIM ? byte(SEE_FIRST) : byte(CLAIM); break;
     case CLAIM:
-        it.at = s.owed == 0 ? it.after : s.alarms == 0 ? byte(ADD_INCOMING) : fault == LOOKS_BEFORE_CLAIM ? byte(SAY) : byte(SEE_FIRST);
+        it.at = s.owed == 0 ? it.after : s.alarms == 0 ? byte(ADD_INCOMING) : fault == LOOKS_BEFORE_CLAIM ? byte(READ) : byte(SEE_FIRST);
+        it.at = fault == READS_EARLY && it.at == SEE_FIRST ? byte(READ) : it.at;
         s.owed = 0;
         break;
     case SEE_FIRST:
@@ -171,15 +177,16 @@ inline void request_step(State &s, Process &it) {
         it.time = first_of(s) == NEVER ? RUNG : first_of(s);
         it.at = fault == LOOKS_BEFORE_CLAIM ? CLAIM : SEE_OWED;
         break;
-    case SEE_OWED: it.at = s.owed != 0 ? CLAIM_MORE : SAY; break;
+    case SEE_OWED: it.at = s.owed != 0 ? byte(CLAIM_MORE) : has_looked(); break;
     case CLAIM_MORE:
         it.looks++;
-        it.at = s.owed == 0 || it.looks == MOST_LOOKS || fault == CLAIMS_UNSEEN ? byte(SAY) : byte(SEE_FIRST);
+        it.at = s.owed == 0 || it.looks == MOST_LOOKS || fault == CLAIMS_UNSEEN ? has_looked() : byte(SEE_FIRST);
         it.time = s.owed != 0 && it.looks == MOST_LOOKS ? RUNG : it.time;
         s.owed = 0;
         break;
+    case READ: it.before = s.earliest; it.at = fault == READS_EARLY ? SEE_FIRST : SAY; break;
     case SAY:
-        s.earliest = it.time < s.earliest ? it.time : s.earliest;
+        s.earliest = it.time < it.before && it.time < s.earliest ? it.time : s.earliest;
         it.at = fault == SAYS_LATE ? HEAR : ADD_INCOMING;
         break;
     case ADD_INCOMING: s.incoming = fault == BLOCKED ? s.incoming : byte(1); it.at = HEAR; break;

@@ -148,11 +148,12 @@ impl Dropped {
         Dropped { value, drop }
     }
 
-    /// Drops it after the call in which the thread is.
+    /// Drops it after the call in which the thread is, or leaks it where there is none.
     pub fn drop_after(self) {
         let after = AFTER.with(Cell::get);
         if after.is_null() {
-            run_caught(|| drop(self));
+            // The call that freed the queue is over, and so may be what the payload borrows.
+            mem::forget(self);
         } else {
             // SAFETY: as above.
             let after = unsafe { &mut *after };

@@ -6,8 +6,8 @@ use crate::journal::Item;
 use crate::key::Key;
 use crate::payload::{self, payload_of, value_of};
 use crate::raw;
+use std::iter;
 use std::marker::PhantomData;
-use std::mem;
 
 /// What a batch of pushes put in.
 #[derive(Clone, Copy, Debug, Default, PartialEq, Eq)]
@@ -37,7 +37,8 @@ impl<T> Batch<T> {
     fn back(mut self) -> impl Iterator<Item = T> {
         // SAFETY: no queue has them, and each is taken out once.
         let payload = |it: Item| unsafe { payload_of(it.value) };
-        mem::take(&mut self.items).into_iter().map(payload)
+        self.items.reverse();
+        iter::from_fn(move || self.items.pop().map(payload))
     }
 }
 
@@ -76,12 +77,13 @@ impl<T: Send, K: Key> Call<'_, T, K> {
             }
         };
         self.has_number(pushed.number);
+        let rest = refused.is_some().then_some(payloads);
         result.map(|()| pushed).map_err(|error| NotAllPushed {
             payload: keys
                 .drain(pushed.count..)
                 .zip(batch.back())
                 .chain(refused)
-                .chain(payloads)
+                .chain(rest.into_iter().flatten())
                 .collect(),
             error,
             pushed,
@@ -118,7 +120,7 @@ impl<T: Send, K: Key> Call<'_, T, K> {
             let (before, room) = (taken.len(), (most - taken.len()).min(1024));
             match self.takes_many(&mut taken, room, priority) {
                 Err(error) if before == 0 => return Err(error),
-                Ok(()) if room > 0 && taken.len() == before + room => (),
+                Ok(()) if taken.len() == before + room && taken.len() < most => (),
                 _ => break,
             }
         }

@@ -43,7 +43,8 @@ pub trait Key: Copy {
     /// The number of the key: of a smaller key a smaller number.
     fn number(self) -> u64;
 
-    /// The key of a number that `number` returned.
+    /// The key of a number that `number` returned; also of `u64::MAX`, as which [`Options::times`](crate::Options::times) counts the last
+    /// keys.
     fn of_number(number: u64) -> Self;
 }
 

@@ -76,6 +76,23 @@ fn a_batch_has_the_number_of_its_first_entry() {
     );
 }
 
+/// An iterator that begins anew after its end is not asked again.
+#[test]
+fn a_refused_batch_ends_with_its_iterator() {
+    let queue = Queue::new().unwrap();
+    queue.shut().unwrap();
+    let mut next = 0;
+    let payloads = std::iter::from_fn(|| {
+        next += 1;
+        (next != 3).then_some((next, next))
+    });
+    let refused = queue.push_many(payloads).unwrap_err();
+    assert_eq!(
+        (refused.error, refused.payload),
+        (Error::Shut, vec![(1, 1), (2, 2)])
+    );
+}
+
 #[test]
 fn what_is_not_archived_is_not_forgotten() {
     let queue = opened(Options::new().keeping(Keeping::Refuses(65_536))).unwrap();

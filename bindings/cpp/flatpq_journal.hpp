@@ -121,6 +121,8 @@ public:
     };
 
     explicit drained(Next next) noexcept : next_(std::move(next)) {}
+    drained(const drained &) = delete;
+    drained &operator=(const drained &) = delete;
     [[nodiscard]] iterator begin() noexcept { return is_read_ || error() != code::ok ? ++iterator(this) : iterator(this); }
     [[nodiscard]] iterator end() noexcept { return iterator(nullptr); }
     /// Why the loop ended: code::empty, code::not_due, or a refusal; code::ok where it left off before that.

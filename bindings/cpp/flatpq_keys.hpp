@@ -89,8 +89,10 @@ template <class Key>
 inline constexpr bool are_times<Key, std::void_t<decltype(key_order<Key>::time_zero), decltype(key_order<Key>::time_unit)>> = true;
 
 /// Whether an argument is a signed number and the keys are unsigned: a negative one would come out last.
-template <class Key, class Number>
-inline constexpr bool is_signed_for = std::is_unsigned_v<Key> && std::is_arithmetic_v<Number> && std::is_signed_v<Number>;
+template <class Number, bool = std::is_enum_v<Number> && std::is_convertible_v<Number, long long>>
+inline constexpr bool is_signed_number = std::is_arithmetic_v<Number> && std::is_signed_v<Number>;
+template <class Number> inline constexpr bool is_signed_number<Number, true> = std::is_signed_v<std::underlying_type_t<Number>>;
+template <class Key, class Number> inline constexpr bool is_signed_for = std::is_unsigned_v<Key> && is_signed_number<Number>;
 template <class Key, class Number> using if_signed_for = std::enable_if_t<is_signed_for<Key, Number>, int>;
 
 } // namespace detail

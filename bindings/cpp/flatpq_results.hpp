@@ -110,7 +110,8 @@ public:
     /// and so has a removal that comes to code::gone.
     [[nodiscard]] std::uint64_t number() const noexcept { return number_; }
     /// Of code::not_due the first item, which stays; of payloads its key.
-    [[nodiscard]] const std::optional<First> &first() const noexcept { return first_; }
+    [[nodiscard]] const std::optional<First> &first() const & noexcept { return first_; }
+    [[nodiscard]] std::optional<First> first() && noexcept { return std::move(first_); }
 
 private:
     std::uint64_t number_;

@@ -175,7 +175,23 @@ static void a_joining_waits() {
     CHECK(queue.place() == UINT32_MAX);
 }
 
+// A temporary result gives its first item away. A negative number of an enumeration is no unsigned key, nor is one beside a braced payload.
+enum urgency { urgent = -1, calm = 0 };
+enum class level : unsigned { low, high };
+using braced = std::pair<int, int>;
+static_assert(!std::is_constructible_v<flatpq::task<braced>, int, braced> && std::is_constructible_v<flatpq::task<braced>, unsigned, braced>);
+static_assert(flatpq::detail::is_signed_for<unsigned, urgency> && !flatpq::detail::is_signed_for<unsigned, level>);
+
+void first_of_a_temporary_is_a_value() {
+    flatpq::queue<> queue;
+    CHECK(queue.push(9u, 1));
+    const auto &first = queue.pop_due(5u).first();
+    CHECK(first && first->priority == 9);
+    static_assert(!std::is_copy_constructible_v<decltype(queue.drain())>);
+}
+
 int main() {
+    first_of_a_temporary_is_a_value();
     what_was_moved_from_refuses();
     an_assignment_across_two_queues();
     they_end_in_any_order();

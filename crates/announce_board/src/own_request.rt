@@ -29,6 +29,7 @@ use pq_types::{Answer, Item, Part, Request};
 
 /// Has the Book carry out a request of the pen's own, puts it into its slot, and frees the lock
 /// then.
+#[inline(always)]
 fn put_home_with<S: Store<Entry<P>>, P: Part>(
     board: &Board<S, P>,
     seat: &mut BoardSeat<S, P>,

@@ -42,6 +42,7 @@ impl<T: HasTicket> Store<T> for AnyHeap<T> {
 
     ghost room = { λ h. h.room };
 
+    #[inline(always)]
     fn push(&mut self, item: T) -> Result<(), T> {
         match &mut self.kind {
             Kind::Plain(heap) => heap.push(item),
@@ -49,6 +50,7 @@ impl<T: HasTicket> Store<T> for AnyHeap<T> {
         }
     }
 
+    #[inline(always)]
     fn pop(&mut self) -> Option<T> {
         match &mut self.kind {
             Kind::Plain(heap) => heap.pop(),

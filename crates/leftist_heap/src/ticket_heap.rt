@@ -109,6 +109,7 @@ fn opens<T: HasTicket, P: Places>(items: &[T], places: &mut P, is_placed: bool, 
 }
 
 // Puts the item behind all others and lets it rise.
+#[inline(always)]
 fn put_in<T: HasTicket, P: Places, A: Allocator>(
     heap: &mut Vec<T, A>,
     places: &mut P,
@@ -134,6 +135,7 @@ fn put_in<T: HasTicket, P: Places, A: Allocator>(
 }
 
 // Takes the item at this place out. The last item takes its place, and settles.
+#[inline(always)]
 fn take_out<T: HasTicket, P: Places, A: Allocator>(
     heap: &mut Vec<T, A>,
     places: &mut P,
@@ -187,6 +189,7 @@ impl<T: HasTicket, P: Places, A: Allocator> Store<T> for TicketHeap<T, P, A> {
 
     ghost room = { λ h. h.room };
 
+    #[inline(always)]
     fn push(&mut self, item: T) -> Result<(), T> {
         let is_kept = opens(&self.heap, &mut self.places, self.is_placed, item.ticket());
         if let Err(refused) = put_in(&mut self.heap, &mut self.places, item) {
@@ -196,6 +199,7 @@ impl<T: HasTicket, P: Places, A: Allocator> Store<T> for TicketHeap<T, P, A> {
         Ok(())
     }
 
+    #[inline(always)]
     fn pop(&mut self) -> Option<T> {
         if self.heap.is_empty() {
             return None;

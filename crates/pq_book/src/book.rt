@@ -123,6 +123,7 @@ impl<S: Store<Entry<P>>, A: Allocator, P: Part> Book<S, A, P> {
     /// journal has lines, as `ReservedHeap`, it never answers NoMemory; nor, in a lasting journal too,
     /// while they all have room for one item more than the journal leaves. It takes no memory but the
     /// store's. The serial is above each one that the place has in the journal.
+    #[inline(always)]
     pub fn apply(&mut self, place: u16, serial: u64, request: Request<Item<P>>) -> Answer<Item<P>>
         requires { last_serial place self.old.journal < serial }
         ensures answer { MayAnswer self.old.room self.old.journal request result }
@@ -302,6 +303,7 @@ fn peak_with(before: u64, items: u64) -> u64
 }
 
 // The reply of the store to a request, as `carried_out`; a store that is full refuses a push.
+#[inline(always)]
 fn carried_out_within<S: Store<Entry<P>>, P: Part>(
     store: &mut S,
     line: u64,
@@ -321,6 +323,7 @@ fn carried_out_within<S: Store<Entry<P>>, P: Part>(
 
 // The reply of the store to a request, whose journal line has this number, and None where memory
 // for a push was refused.
+#[inline(always)]
 fn carried_out<S: Store<Entry<P>>, P: Part>(
     store: &mut S,
     line: u64,

@@ -74,12 +74,12 @@ def join_core(parts, to):
     join(parts, [CORE], to)
 
 
-def compiled(room):
-    """Compiles the C sources: the objects."""
+def compiled(room, compiles):
+    """Compiles the C sources by these words: the objects."""
     objects = []
     for source in sorted(glob.glob(f"{TOP}/library/*.c")):
         objects.append(f"{room}/{os.path.basename(source)[:-2]}.o")
-        run([*COMPILES, f"-I{TOP}/include", "-c", source, "-o", objects[-1]])
+        run([*compiles, f"-I{TOP}/include", "-c", source, "-o", objects[-1]])
     return objects
 
 
@@ -97,11 +97,18 @@ def share(archive, folder):
     os.symlink(soname(), f"{folder}/{SHARED}")
 
 
+def make_archive(core, more, folder, compiles=None):
+    """Makes the archive of a core, and of further objects, in this folder, the C sources compiled by these words or as always."""
+    with tempfile.TemporaryDirectory() as room:
+        join([core, *more, *compiled(room, compiles or COMPILES)], exports(), f"{room}/flatpq.o")
+        run(["ar", "rcD", f"{folder}/{ARCHIVE}", f"{room}/flatpq.o"])
+    return f"{folder}/{ARCHIVE}"
+
+
 def make(core, more, folder):
     """Makes the library of a core, and of further objects, in this folder: the archive, which is there last."""
     with tempfile.TemporaryDirectory() as room:
-        join([core, *more, *compiled(room)], exports(), f"{room}/flatpq.o")
-        run(["ar", "rcD", f"{room}/{ARCHIVE}", f"{room}/flatpq.o"])
+        make_archive(core, more, room)
         os.makedirs(folder, exist_ok=True)
         share(f"{room}/{ARCHIVE}", folder)
         with open(f"{room}/{ARCHIVE}", "rb") as made, open(f"{folder}/{ARCHIVE}.new", "wb") as it:

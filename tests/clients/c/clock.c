@@ -2,15 +2,12 @@
    wait ends before its deadline or goes on after it; a nap is as long as it should be; and calls spin at first, where time passes with each look
    at the clock. The linker puts the functions __wrap_.. in place of the system's. Another thread has the lock where one is to have it. */
 #include "../wrapped.h"
+#include "system_calls.h"
 
-#include <linux/futex.h>
 #include <sched.h>
-#include <stdarg.h>
 
 int __wrap_clock_gettime(clockid_t clock, struct timespec *time);
 int __wrap_sched_getaffinity(pid_t process, size_t size, cpu_set_t *set);
-long __real_syscall(long number, ...);
-long __wrap_syscall(long number, ...);
 
 enum { MOST_NAPS = 1000 };
 static const uint64_t SECOND = 1000000000, US = 1000;
@@ -72,9 +69,7 @@ long __wrap_syscall(long number, ...) {
     long words[6], operation;
     va_list rest;
     va_start(rest, number);
-    for (int i = 0; i < 6; i++) {
-        words[i] = va_arg(rest, long);
-    }
+    read_words(rest, words);
     va_end(rest);
     operation = words[1] & FUTEX_CMD_MASK;
     if (is_here && number == SYS_futex && operation != FUTEX_WAKE) {

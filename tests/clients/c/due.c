@@ -2,16 +2,11 @@
    a deadline ends the wait, and a thread that goes wakes another for what is left; one thread of many watches. The queue's time_zero and time_unit
    say when a priority is due, to both ends of 64 bits. The linker counts the sleeps, by __wrap_syscall. */
 #include "../check.h"
+#include "system_calls.h"
 
-#include <linux/futex.h>
-#include <stdarg.h>
-#include <sys/syscall.h>
 #include <unistd.h>
 
 static const uint64_t MS = 1000000, UPPER = (uint64_t)1 << 32;
-
-long __real_syscall(long number, ...);
-long __wrap_syscall(long number, ...);
 
 static int sleeps;
 
@@ -19,9 +14,7 @@ long __wrap_syscall(long number, ...) {
     long words[6];
     va_list rest;
     va_start(rest, number);
-    for (int i = 0; i < 6; i++) {
-        words[i] = va_arg(rest, long);
-    }
+    read_words(rest, words);
     va_end(rest);
     __atomic_fetch_add(&sleeps, number == SYS_futex && (words[1] & FUTEX_CMD_MASK) == FUTEX_WAIT_BITSET, __ATOMIC_RELAXED);
     return __real_syscall(number, words[0], words[1], words[2], words[3], words[4], words[5]);

@@ -3,15 +3,10 @@
    No wake is lost of one that waits for an item, for room or for the end, or listens. A handler is called before each instruction, by the
    processor's trap flag. The linker puts __wrap_syscall in place of the system's. */
 #include "../trapped.h"
+#include "system_calls.h"
 
 #include <errno.h>
-#include <linux/futex.h>
 #include <sched.h>
-#include <stdarg.h>
-#include <sys/syscall.h>
-
-long __real_syscall(long number, ...);
-long __wrap_syscall(long number, ...);
 
 enum { MEANWHILE_MS = 20 };
 
@@ -50,9 +45,7 @@ long __wrap_syscall(long number, ...) {
     long words[6];
     va_list rest;
     va_start(rest, number);
-    for (int i = 0; i < 6; i++) {
-        words[i] = va_arg(rest, long);
-    }
+    read_words(rest, words);
     va_end(rest);
     if (is_watched && number == SYS_futex && (words[1] & FUTEX_CMD_MASK) == FUTEX_WAIT_BITSET) {
         set(&begins, 1);

@@ -1,13 +1,9 @@
 /* A process that has one processor when it opens its first queue: a call that finds the lock held does not spin, and naps at once. The linker puts
    __wrap_syscall in place of the system's call, by which the library naps. clock.c tries where there are more. */
 #include "../wrapped.h"
+#include "system_calls.h"
 
-#include <linux/futex.h>
 #include <sched.h>
-#include <stdarg.h>
-
-long __real_syscall(long number, ...);
-long __wrap_syscall(long number, ...);
 
 static __thread int is_here;
 static long naps;
@@ -16,9 +12,7 @@ long __wrap_syscall(long number, ...) {
     long words[6];
     va_list rest;
     va_start(rest, number);
-    for (int i = 0; i < 6; i++) {
-        words[i] = va_arg(rest, long);
-    }
+    read_words(rest, words);
     va_end(rest);
     naps += is_here && number == SYS_futex && (words[1] & FUTEX_CMD_MASK) == FUTEX_WAIT;
     return __real_syscall(number, words[0], words[1], words[2], words[3], words[4], words[5]);

@@ -1,17 +1,12 @@
 /* Own members: more threads than members call by pq_own. A thread's member goes to others while the thread doesn't use it, when the thread
    ends or leaves, and when the queue is closed; not while it is in a call, or has posted a request, or listens. */
 #include "refused.h"
-
-#include <linux/futex.h>
-#include <stdarg.h>
-#include <sys/syscall.h>
+#include "system_calls.h"
 
 enum { MEMBERS = 2, THREADS = 200, EACH = 50, COMING = 10000, PLACES = 2080 };
 
 static pq_queue *queue;
 
-long __real_syscall(long number, ...);
-long __wrap_syscall(long number, ...);
 static int sleeps, has_barriers, refuses_barriers;
 
 /* The library's sleeps come here, and its barriers in all threads. */
@@ -19,9 +14,7 @@ long __wrap_syscall(long number, ...) {
     va_list words;
     long of[6];
     va_start(words, number);
-    for (int i = 0; i < 6; i++) {
-        of[i] = va_arg(words, long);
-    }
+    read_words(words, of);
     va_end(words);
     set(&sleeps, is_set(&sleeps) || (number == SYS_futex && (of[1] & FUTEX_CMD_MASK) == FUTEX_WAIT_BITSET));
     if (number == SYS_membarrier && refuses_barriers) {

@@ -3,13 +3,11 @@
    system's. An item, or the end of the queue, ends the call that sleeps or has an event loop notified; a thread that goes without an item
    hands its wake on; one wake of a thread is on its way at a time; and a batch wakes as many as wait at most. */
 #include "../check.h"
+#include "system_calls.h"
 
 #include <limits.h>
-#include <linux/futex.h>
 #include <sched.h>
-#include <stdarg.h>
 #include <string.h>
-#include <sys/syscall.h>
 #include <sys/timerfd.h>
 #include <unistd.h>
 
@@ -23,8 +21,6 @@ int __real_pthread_mutex_trylock(pthread_mutex_t *lock);
 int __wrap_pthread_mutex_trylock(pthread_mutex_t *lock);
 int __real_pthread_mutex_unlock(pthread_mutex_t *lock);
 int __wrap_pthread_mutex_unlock(pthread_mutex_t *lock);
-long __real_syscall(long number, ...);
-long __wrap_syscall(long number, ...);
 
 /* Whether the thread's moments count, in one thread; which moment it is, and at which something comes or the deadline is over; what
    comes, whether it has come, and whether it may while the thread has a lock; how many locks the thread has, and whether it is late. */
@@ -117,12 +113,10 @@ static long sleep_watched(const uint32_t *word, uint32_t seen) {
 }
 
 long __wrap_syscall(long number, ...) {
-    long word[5], operation, code;
+    long word[6], operation, code;
     va_list rest;
     va_start(rest, number);
-    for (int i = 0; i < 5; i++) {
-        word[i] = va_arg(rest, long);
-    }
+    read_words(rest, word);
     va_end(rest);
     operation = word[1] & FUTEX_CMD_MASK;
     if (number != SYS_futex) {

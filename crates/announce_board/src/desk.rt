@@ -105,7 +105,8 @@ impl<S: Store<Entry<P>>, P: Part> Desk<S, P> {
         answer
     }
 
-    /// The pen tries the lock, in one step. `None` where another pen leads.
+    /// The pen tries the lock, in one step of the machine: a load that reads it held, or else a compare_exchange behind the load.
+    /// `None` where another pen leads.
     pub fn try_lead(&self, pen: &mut Pen<S, P>) -> Option<Lead<S, P>>
         requires table { pen.old.table ≡ self.now.table }
         ensures table { pen.new.table ≡ pen.old.table }

@@ -1,10 +1,10 @@
 -- The calls of a place are lines of the journal, in their order.
 use Rattle.std.proofs.Common.{◌≡◌, ℕ, zero, suc, ◌+◌, ◌-◌, ◌<◌, ◌≤◌, ◌==◌, if◌then◌else◌, Bool, true, false, List, [], ◌∷◌, length, slice_get, Some, refl, sym, ◌∙◌, ap, subst, arith}
-use Rattle.std.proofs.lemmas.Bool.{eqb-true}
+use Rattle.std.proofs.lemmas.Bool.{eqb-true, eqb-false}
 use Rattle.pq_types.specs.Asked.{Line}
 use Rattle.pq_types.specs.History.{line_of}
-use Rattle.desk_core.specs.Calls.{call_of, calls_from}
-use Rattle.desk_core.specs.CallLines.{CallsAreLines, NumbersRise}
+use Rattle.desk_core.specs.Calls.{call_of, calls_from, calls_of}
+use Rattle.desk_core.specs.CallLines.{IsLineOf, CallsAreLines, NumbersRise}
 use Rattle.desk_core.specs.declared.model.Call.{Call}
 
 -- a call among those of the lines that are counted from this number on
@@ -55,6 +55,39 @@ rises (l ∷ ls) place first i j b c lt h k = which (λ m n less t u. rises ls p
         let behind = (among ls place (first + 1) n c u).from in omega (arith, number, behind)
     which deeper true (suc m) (suc n) lt t u = deeper m n (omega (arith, lt)) t u
     which deeper false m n lt t u = deeper m n lt t u
+
+-- each line of the place is a call
+call_among : (journal : List Line) (place first : ℕ) (c : Call) → IsAmong journal place first c → (k : ℕ) × (slice_get (calls_from first place journal) k ≡ Some c)
+call_among [] place first c h = let from = h.from in let within = h.within in absurd (omega (arith, from, within))
+call_among (l ∷ ls) place first c h = which (λ g. call_among ls place (first + 1) c g) (c.number - first) refl (l.place == place) refl
+  where
+    behind : (n : ℕ) → c.number - first ≡ suc n → IsAmong ls place (first + 1) c
+    behind n e =
+        let from = h.from in let within = h.within in
+        let less : c.number - (first + 1) ≡ n = omega (arith, e, from) in
+        record {
+          from = omega (arith, e, from);
+          within = omega (arith, within);
+          there = ap (slice_get ls) less ∙ (sym (ap (slice_get (l ∷ ls)) e) ∙ h.there);
+        }
+    same : c.number - first ≡ 0 → ◌≡◌ {A = Line} l (line_of place c.serial c.operation c.reply)
+    same e = let t : Some l ≡ Some (line_of place c.serial c.operation c.reply) = sym (ap (slice_get (l ∷ ls)) e) ∙ h.there in cc
+    is_first : c.number - first ≡ 0 → call_of first l.serial l.operation l.reply ≡ c
+    is_first e =
+        let from = h.from in
+        let number : first ≡ c.number = omega (arith, e, from) in
+        ap (λ n. call_of n l.serial l.operation l.reply) number ∙ ap (λ (x : Line). call_of c.number x.serial x.operation x.reply) (same e)
+    which : (IsAmong ls place (first + 1) c → (k : ℕ) × (slice_get (calls_from (first + 1) place ls) k ≡ Some c)) → (n : ℕ) → c.number - first ≡ n → (b : Bool) → (l.place == place) ≡ b
+        → (k : ℕ) × (slice_get (if b then call_of first l.serial l.operation l.reply ∷ calls_from (first + 1) place ls else calls_from (first + 1) place ls) k ≡ Some c)
+    which deeper zero e true at = (0, ap Some (is_first e))
+    which deeper zero e false at = absurd (eqb-false l.place place at (ap (λ (x : Line). x.place) (same e)))
+    which deeper (suc n) e true at = let d = deeper (behind n e) in (suc d.0, d.1)
+    which deeper (suc n) e false at = deeper (behind n e)
+
+pub line_is_call : (journal : List Line) (place : ℕ) (c : Call) → IsLineOf journal place c → (k : ℕ) × (slice_get (calls_of place journal) k ≡ Some c)
+line_is_call journal place c h =
+    let some = h.some in let within = h.within in
+    call_among journal place 1 c record { from = omega (arith, some); within = omega (arith, within); there = h.there }
 
 pub calls_are_lines : CallsAreLines
 calls_are_lines place journal calls e i c at =

@@ -1,27 +1,36 @@
 -- Testimonies are true: what a pen kept when it gave one, the history and the journal have from then on.
-use Rattle.std.proofs.Common.{◌≡◌, ℕ, zero, suc, ◌+◌, ◌⊎◌, inl, inr, ⊎_elim, List, [], ◌∷◌, ◌++◌, set, slice_get, refl, sym, ◌∙◌, subst, append_assoc, append-nil, arith}
+use Rattle.std.proofs.Common.{◌≡◌, ℕ, zero, suc, ◌+◌, ◌<◌, ◌≤◌, ◌⊎◌, inl, inr, ⊎_elim, List, [], ◌∷◌, ◌++◌, length, set, slice_get, refl, ap, sym, ◌∙◌, subst, append_assoc, append-nil, arith}
 use Rattle.std.specs.Prelude.{Some, None}
 use mathlib.Core.Option.{some, some-injective, some-ne-none}
 use lib.ListN.{get_elem?}
 use Rattle.atomic_table.proofs.Lists.{at_set, at_snoc}
 use Rattle.pq_types.specs.Asked.{Line}
+use Rattle.pq_types.specs.Asked.{Request, Reply, Answer}
+use Rattle.pq_types.specs.Operation.{Asked}
+use Rattle.pq_types.specs.declared.answer.Answer.TheVariants.{Entered, BookFull, NoMemory}
 use Rattle.desk_core.specs.CallLines.{IsLineOf}
-use Rattle.desk_core.specs.Pen.{new_pen}
+use Rattle.desk_core.specs.Calls.{call, call_of}
+use Rattle.desk_core.specs.Clauses.{HasNo}
+use Rattle.desk_core.specs.Pen.{new_pen, IsIdle}
 use Rattle.desk_core.specs.Desk.{Desk, Has, acts_number, dealer_opening}
 use Rattle.desk_core.specs.Steps.{actor}
 use Rattle.desk_core.specs.Notes.{after_catch_up, after_writing, after_hearing}
-use Rattle.desk_core.specs.Linearizable.{Act, Linearizes}
+use Rattle.desk_core.specs.Linearizable.{Act, Begins, Ends, IsIn, Linearizes}
 use Rattle.desk_core.specs.Dealing.{Move, Deals, Takes, CatchesUp, Writes, Hears, Copies, Testifies, Retires, Sleeps, Wakes, Gathers, Happens, DealtRun, acts_of, dealt_history}
 use Rattle.desk_core.specs.Testimonies.{after_retiring, after_sleeping, after_waking}
 use Rattle.desk_core.specs.Times.{AreTimed}
-use Rattle.desk_core.specs.Witnessed.{IsWitnessed, TestimoniesAreTrue, LinearizedFollowTime}
+use Rattle.desk_core.specs.Witnessed.{HasRead, IsWitnessed, TestimoniesAreTrue, LinearizedFollowTime, RefusedStandNowhere}
 use Rattle.desk_core.specs.declared.model.Duty.{Duty}
 use Rattle.desk_core.specs.declared.model.Duty.TheVariants.{Retired}
+use Rattle.desk_core.specs.declared.model.Standing.TheVariants.{Waiting}
+use Rattle.desk_core.specs.declared.model.Call.{Call}
 use Rattle.desk_core.specs.declared.model.PenState.{PenState}
 use Rattle.desk_core.specs.declared.model.View.{View}
 use Rattle.desk_core.specs.declared.model.View.TheVariants.{Dealer, Holder, Note, Testimony}
 use Rattle.desk_core.proofs.Journals.{QueueLaws}
-use Rattle.desk_core.proofs.Histories.{get_cases, one_alone, line_stays}
+use Rattle.desk_core.proofs.CallLines.{line_is_call}
+use Rattle.desk_core.proofs.Histories.{get_cases, one_alone, in_left, line_stays}
+use Rattle.desk_core.proofs.Views.{same_pen}
 use Rattle.desk_core.proofs.Runs.{openings_meet}
 use Rattle.desk_core.proofs.Moves.{moves}
 use Rattle.desk_core.proofs.Notes.{one_journal}
@@ -48,7 +57,43 @@ still_witnessed room history journal p duty w =
       timed = record { begun = w.timed.begun; ended = w.timed.ended };
       whole = λ n k. (let v = w.whole n k in record { begun = v.begun; ended = v.ended });
       calls = w.calls;
+      read = w.read;
+      asked = w.asked;
     }
+
+-- an act before the new ones is one of the old
+earlier_act : (old new : List Act) (n : ℕ) (x : Act) → n < length old → slice_get (old ++ new) n ≡ Some x → slice_get old n ≡ Some x
+earlier_act old new n x lt e =
+    ⊎_elim (λ u. u.1) (λ u. (let behind = u.1 in absurd (omega (arith, lt, behind)))) (get_cases old new n x e)
+
+-- no call of a pen that waits is over with its last serial
+not_over : (q : PenState) (request : Request) → q.standing ≡ Waiting request → (serial : ℕ) → (serial < q.posts) ⊎ ((serial ≤ q.posts) × IsIdle q.standing) → serial ≡ q.posts → ⊥
+not_over q request waits serial over same =
+    ⊎_elim (λ less. absurd (omega (arith, less, same))) (λ u. (let idle : IsIdle (Waiting request) = subst IsIdle waits u.1 in let e = idle.1 in absurd cc)) over
+
+-- a call that ended entered, of a pen that stands at a seat, is one that the pen has read
+read_whole : (d : Desk) (old : List Act) (journal : List Line) → At d old journal → (i : ℕ) (q : PenState) → Has d.views i q → (serial number : ℕ) (reply : Reply)
+    → IsIn old (Ends q.place serial (Entered number reply)) → HasRead q serial
+read_whole d old journal at i q a serial number reply is_in =
+    let true_of = at.kept.ended q.place serial (Entered number reply) is_in in
+    let (j, p, b, same_place, over) = at.kept.over q.place serial (Entered number reply) is_in in
+    let (k, stands) = line_is_call journal q.place (call_of number serial true_of.0 reply) true_of.1 in
+    let is_pen : p ≡ q = same_pen d.views i p q (subst (λ m. Has d.views m p) (at.rule.seated.apart j i p q b a same_place) b) a in
+    let knows_it = knows d journal at.chief at.rule i q a in
+    let c = call_of number serial true_of.0 reply in
+    ⊎_elim
+    (λ mine. (k, c, subst (λ l. slice_get l k ≡ Some c) mine stands, refl))
+    (λ u.
+    (let (request, line, r, waits, more) = u in
+    ⊎_elim
+    (λ v. (k, c, v.1, refl))
+    (λ v.
+    (let last = (one_alone (call line q.posts request r) c v.0 v.2).1 in
+    absurd
+    (not_over q request waits serial (subst (λ (z : PenState). (serial < z.posts) ⊎ ((serial ≤ z.posts) × IsIdle z.standing)) is_pen over)
+    (sym (ap (λ (z : Call). z.serial) last)))))
+    (get_cases q.mine (call line q.posts request r ∷ []) k c (subst (λ l. slice_get l k ≡ Some c) more stands))))
+    knows_it.lines
 
 -- where a pen has come to a seat, or a view that is no testimony
 gave_set : (views : List View) (i : ℕ) (w : View) (p : PenState) → ((pens : List PenState) (n k : ℕ) → w ≡ Testimony pens n → slice_get pens k ≡ Some p → ⊥) → Gave (set views i w) p → Gave views p
@@ -153,6 +198,10 @@ module _ (laws : QueueLaws) (d : Desk) (old : List Act) (journal : List Line) (a
         timed = later old (acts_of d x e step) p w.timed;
         whole = λ n k. whole_later old (acts_of d x e step) p n (kept_within old p n w.timed k) (w.whole n k);
         calls = λ k b c. subst (λ (js : List Line). IsLineOf js p.place b) (sym longer.1) (line_stays journal longer.0 p.place b (w.calls k b c));
+        read = λ s n number reply ended at_n.
+            w.read s n number reply ended
+            (let before = kept_within old p n w.timed (inr (s, ended)) in earlier_act old (acts_of d x e step) n (Ends p.place s (Entered number reply)) before at_n);
+        asked = λ q waits. in_left old (acts_of d x e step) (Begins p.place p.posts (Asked q)) (w.asked q waits);
       }
 
 -- where a run stands, with all that was testified
@@ -191,6 +240,8 @@ run_stood laws room (x ∷ xs) d e old journal s run =
                 let long = s.timed.counted in
                 whole_before old q n (acts_number d.views) (omega (arith, lt, long)) (whole d.views old s.timed s.at.rule.seated.apart i q a));
             calls = λ k b c. read_line journal q d.room k b (knows d journal s.at.chief s.at.rule i q a) c;
+            read = λ serial n number reply ended at_n. read_whole d old journal s.at i q a serial number reply (n, at_n);
+            asked = λ request waits. s.at.waits i q a request waits;
           }))
           (gave laws d old journal s.at x m run.1 p given));
     } in
@@ -226,3 +277,14 @@ linearized_follow_time room pens h i j k l p q b c end begin at at' read read' e
     let f = w'.timed.begun c.serial begin begins in
     h.linearizes.order p.place q.place b c (w.calls k b read) (w'.calls l c read')
     record { end = end; begin = begin; answer = e.0; operation = f.0; before = before; ends = e.1; begins = f.1 }
+
+pub refused_stand_nowhere : RefusedStandNowhere
+refused_stand_nowhere room pens h i p at serial n ended unread =
+    let w = h.witnessed i p at in
+    let e = w.timed.ended serial n ended in
+    of e.0 e.1
+  where
+    of : (answer : Answer) → slice_get h.history n ≡ Some (Ends p.place serial answer) → HasNo h.journal p.place serial
+    of (Entered number reply) there = absurd (unread ((h.witnessed i p at).read serial n number reply ended there))
+    of BookFull there = (h.linearizes.ended p.place serial BookFull (n, there)).1
+    of NoMemory there = h.linearizes.ended p.place serial NoMemory (n, there)

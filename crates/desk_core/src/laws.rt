@@ -26,7 +26,7 @@ ghost use Rattle.desk_core.specs.Tells.{DraftTells, PostTells, TryTells, ReadTel
 ghost use Rattle.desk_core.specs.Tells.{ReleaseTells, ReleaseByTells, LookTells, SeeItemTells, TakeItemTells, ApplyTells};
 ghost use Rattle.desk_core.specs.Positions.{PositionsAreForced};
 ghost use Rattle.desk_core.specs.Times.{EveryDealtRunIsTimed, EveryDealtRunIsWhole, TimesOrderCalls};
-ghost use Rattle.desk_core.specs.Witnessed.{TestimoniesAreTrue, LinearizedFollowTime};
+ghost use Rattle.desk_core.specs.Witnessed.{TestimoniesAreTrue, LinearizedFollowTime, RefusedStandNowhere};
 ghost use Rattle.desk_core.specs.WorkedHistories.{ComingOut, Overtaking, Together, StaleIsRefused};
 ghost use Rattle.desk_core.specs.WorkedLooks.{LooksBetween};
 ghost use Rattle.desk_core.specs.Worked.{ThreePens, HalfWritten, FullJournal, OwnRequests};
@@ -181,10 +181,11 @@ pub fn law_positions_are_forced()
 }
 
 /// The pens of each testimony fit one history, with their acts at the positions that they keep, and one journal, which
-/// linearizes it and has all calls that they have read.
+/// linearizes it and has all calls that they have read. It has no line of a call that was refused.
 pub fn law_testimonies()
     ensures witnessed { TestimoniesAreTrue }
     ensures follow { LinearizedFollowTime }
+    ensures refused { RefusedStandNowhere }
 {
     law_one_more_line();
     law_items_stay_in_range();

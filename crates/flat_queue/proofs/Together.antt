@@ -2,6 +2,7 @@
 use Rattle.std.proofs.Common.{◌≡◌, ◌∙◌, ℕ, ◌+◌, ◌<◌, ◌≤◌, ◌++◌, sym, ap, subst, refl, arith, true, false, List, [], ◌∷◌, length, length-append}
 use Rattle.std.specs.Prelude.{Option, Some, None, nat_le, map, take, get_or, slice_set}
 use Rattle.std.proofs.lemmas.Bool.Decides.{nat_tests}
+use Rattle.std.proofs.lemmas.Option.{slice_get_read}
 use Rattle.leftist_heap.specs.Store.{first_of}
 use Rattle.pq_types.specs.Queue.{reply_to}
 use Rattle.std.proofs.lemmas.List.{append-nil, append_assoc, take_more, take_more_set, map-append, length-map}
@@ -21,7 +22,7 @@ use Rattle.desk_core.specs.declared.model.PenState.{PenState}
 use Rattle.announce_board.specs.Tokens.{is_idle}
 use Rattle.flat_queue.specs.Members.{Joined}
 use Rattle.flat_queue.specs.Limits.{most_posts}
-use Rattle.flat_queue.specs.Batches.{Told, pushes_of, pops_of, is_first_due, AppliesEach, EndsBatch, AppliesBatch, CarriesOutBatchBy, EntersTogether, batch_calls, batch_lines, refusals, with_serials, KeepsBatchTimes}
+use Rattle.flat_queue.specs.Batches.{Told, pushes_of, pops_of, is_first_due, IsPushAt, AppliesEach, EndsBatch, AppliesBatch, CarriesOutBatchBy, EntersTogether, batch_calls, batch_lines, refusals, with_serials, KeepsBatchTimes}
 use Rattle.flat_queue.specs.declared.batches.Batch.{Batch}
 use Rattle.flat_queue.specs.declared.error.CallError.{CallError}
 use Rattle.flat_queue.specs.declared.error.CallError.TheVariants.{NoMemory, BookFull, Spent, GaveUp}
@@ -56,16 +57,20 @@ pushed_on p q q' xs k x a n r now lt read h may next is =
     subst (AppliesEach p (pushes_of (take (k + 1) xs))) (sym (next ∙ ap (λ y. after_apply q (Push x) y now) is))
     (pushes_more p q xs k x n r now lt read h (subst (MayAnswer q.room q.hand (Push x)) is may))
 
--- the next request was refused
-pub out_of_memory : (most : ℕ) (p q q' : PenState) (told : List Told) (request : Request) (a : Answer) (now : ℕ) → AppliesEach p told q → MayAnswer q.room q.hand request a
-    → q' ≡ after_apply q request a now → a ≡ answer.NoMemory → AppliesBatch most p told (Some NoMemory) q'
-out_of_memory most p q q' told request a now h may next is =
-    (q, h, (request, now, subst (MayAnswer q.room q.hand request) is may, next ∙ ap (λ y. after_apply q request y now) is))
+-- the item that follows so many is the next one to be pushed
+pub next_push : (xs : List Item) (k : ℕ) (x : Item) → k < length xs → x ≡ get_or xs k x → IsPushAt xs k (Push x)
+next_push xs k x lt read = (x, slice_get_read xs (length xs) k x refl lt read, refl)
 
-pub out_of_lines : (most : ℕ) (p q q' : PenState) (told : List Told) (request : Request) (a : Answer) (now : ℕ) → AppliesEach p told q → MayAnswer q.room q.hand request a
-    → q' ≡ after_apply q request a now → a ≡ answer.BookFull → AppliesBatch most p told (Some BookFull) q'
-out_of_lines most p q q' told request a now h may next is =
-    (q, h, (request, now, subst (MayAnswer q.room q.hand request) is may, next ∙ ap (λ y. after_apply q request y now) is))
+-- the next request was refused
+pub out_of_memory : (most : ℕ) (is_next : Request → Type 0) (p q q' : PenState) (told : List Told) (request : Request) (a : Answer) (now : ℕ) → is_next request
+    → AppliesEach p told q → MayAnswer q.room q.hand request a → q' ≡ after_apply q request a now → a ≡ answer.NoMemory → AppliesBatch most is_next p told (Some NoMemory) q'
+out_of_memory most is_next p q q' told request a now follows h may next is =
+    (q, h, (request, follows, now, subst (MayAnswer q.room q.hand request) is may, next ∙ ap (λ y. after_apply q request y now) is))
+
+pub out_of_lines : (most : ℕ) (is_next : Request → Type 0) (p q q' : PenState) (told : List Told) (request : Request) (a : Answer) (now : ℕ) → is_next request
+    → AppliesEach p told q → MayAnswer q.room q.hand request a → q' ≡ after_apply q request a now → a ≡ answer.BookFull → AppliesBatch most is_next p told (Some BookFull) q'
+out_of_lines most is_next p q q' told request a now follows h may next is =
+    (q, h, (request, follows, now, subst (MayAnswer q.room q.hand request) is may, next ∙ ap (λ y. after_apply q request y now) is))
 
 -- the next pop, whose item was written behind those before
 pops_more : (p q : PenState) (xs : List Item) (k : ℕ) (x : Item) (n now : ℕ) → k < length xs → AppliesEach p (pops_of (take k xs)) q
@@ -161,22 +166,22 @@ applied p q (t ∷ ts) h =
       };
     }
 
-refused : (most : ℕ) (p q : PenState) (r : Option CallError) → EndsBatch most p r q → Gains p q (refusals r) []
-refused most p q None h = subst (λ z. Gains p z 0 []) (sym h) (gains_none p)
-refused most p q (Some NoMemory) (request, now, may, same) =
+refused : (most : ℕ) (is_next : Request → Type 0) (p q : PenState) (r : Option CallError) → EndsBatch most is_next p r q → Gains p q (refusals r) []
+refused most is_next p q None h = subst (λ z. Gains p z 0 []) (sym h) (gains_none p)
+refused most is_next p q (Some NoMemory) (request, follows, now, may, same) =
     subst (λ z. Gains p z 1 []) (sym same)
     record { place = refl; room = refl; posts = refl; idle = λ i. refl; mine = refl; hand = sym (append-nil p.hand); times = record { began = now ∷ []; number = refl; begins = refl; ends = refl } }
-refused most p q (Some BookFull) (request, now, may, same) =
+refused most is_next p q (Some BookFull) (request, follows, now, may, same) =
     subst (λ z. Gains p z 1 []) (sym same)
     record { place = refl; room = refl; posts = refl; idle = λ i. refl; mine = refl; hand = sym (append-nil p.hand); times = record { began = now ∷ []; number = refl; begins = refl; ends = refl } }
-refused most p q (Some Spent) h = subst (λ z. Gains p z 0 []) (sym h.1) (gains_none p)
-refused most p q (Some GaveUp) h = absurd h
+refused most is_next p q (Some Spent) h = subst (λ z. Gains p z 0 []) (sym h.1) (gains_none p)
+refused most is_next p q (Some GaveUp) h = absurd h
 
 -- both, one after another
-pub batch_gains : (most : ℕ) (p q : PenState) (ts : List Told) (r : Option CallError) → AppliesBatch most p ts r q → Gains p q (length ts + refusals r) ts
-batch_gains most p q ts r (m, each, ends) =
+pub batch_gains : (most : ℕ) (is_next : Request → Type 0) (p q : PenState) (ts : List Told) (r : Option CallError) → AppliesBatch most is_next p ts r q → Gains p q (length ts + refusals r) ts
+batch_gains most is_next p q ts r (m, each, ends) =
     let a = applied p m ts each in
-    let b = refused most m q r ends in
+    let b = refused most is_next m q r ends in
     let first = a.posts in
     let then = b.posts in
     record {
@@ -190,19 +195,19 @@ batch_gains most p q ts r (m, each, ends) =
     }
 
 -- and whoever was told that the journal is full knows it
-batch_full : (most : ℕ) (p q : PenState) (ts : List Told) (r : Option CallError) → AppliesBatch most p ts r q → r ≡ Some BookFull → q.told_full ≡ true
-batch_full most p q ts r (m, each, ends) e =
-    let t : EndsBatch most m (Some BookFull) q = subst (λ x. EndsBatch most m x q) e ends in
-    ap (λ (z : PenState). z.told_full) t.3
+batch_full : (most : ℕ) (is_next : Request → Type 0) (p q : PenState) (ts : List Told) (r : Option CallError) → AppliesBatch most is_next p ts r q → r ≡ Some BookFull → q.told_full ≡ true
+batch_full most is_next p q ts r (m, each, ends) e =
+    let t : EndsBatch most is_next m (Some BookFull) q = subst (λ x. EndsBatch most is_next m x q) e ends in
+    ap (λ (z : PenState). z.told_full) t.4
 
-pub enters_together : (words : ℕ) (a c : Joined) (told : List Told) (batch : Batch) → is_idle a.pen.standing ≡ true → CarriesOutBatchBy words a told batch c → EntersTogether a told batch c
-enters_together words a c told batch free h =
+pub enters_together : (words : ℕ) (a c : Joined) (told : List Told) (is_next : Request → Type 0) (batch : Batch) → is_idle a.pen.standing ≡ true → CarriesOutBatchBy words a told is_next batch c → EntersTogether a told batch c
+enters_together words a c told is_next batch free h =
     let r = is_ready words h.hinted a h.led h.ready h.book h.stays h.won h.sweeps in
     let e = h.released in
     let p = h.ready.pen in
     let q = e.ended in
     let most = most_posts h.ready.queue.room in
-    let g = batch_gains most p q told batch.refused e.applies in
+    let g = batch_gains most is_next p q told batch.refused e.applies in
     let posts = g.posts in
     let same_posts = r.posts in
     let lines = batch_lines a.pen.place (a.pen.posts + 1) told in
@@ -230,7 +235,7 @@ enters_together words a c told batch free h =
       first = e.first;
       together = hand;
       beyond = omega (arith, first, older, length-append a.pen.known r.hand.0);
-      full = λ f. batch_full most p q told batch.refused e.applies f;
+      full = λ f. batch_full most is_next p q told batch.refused e.applies f;
       times = record {
         began = g.times.began;
         number = g.times.number;

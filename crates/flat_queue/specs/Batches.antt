@@ -1,6 +1,6 @@
 -- Batches: several requests of its own that a member applies under one lock.
 use Rattle.std.specs.Prelude.{◌≡◌, ℕ, ◌+◌, ◌<◌, ◌≤◌, nat_le, if◌then◌else◌, Bool, true, false}
-use Rattle.std.specs.Prelude.{List, [], ◌∷◌, ◌++◌, length, map, Option, Some, None}
+use Rattle.std.specs.Prelude.{List, [], ◌∷◌, ◌++◌, length, map, slice_get, Option, Some, None}
 use Rattle.pq_types.specs.Item.{Item}
 use Rattle.pq_types.specs.Asked.{Request}
 use Rattle.pq_types.specs.declared.request.Request.TheVariants.{Push, Pop}
@@ -48,34 +48,44 @@ AppliesEach p (t ∷ ts) q =
     (now : ℕ) × MayAnswer p.room p.hand t.0 (Entered (length p.hand + 1) t.1)
     × AppliesEach (after_apply p t.0 (Entered (length p.hand + 1) t.1) now) ts q
 
--- Why it applied no more: nothing refused it; or the next request was so answered, and has no line; or no serial was left, of
--- so many.
-abbrev pub EndsBatch : ℕ → PenState → Option CallError → PenState → Type 0
-EndsBatch most p None q = q ≡ p
-EndsBatch most p (Some NoMemory) q =
-    (request : Request) × (now : ℕ) × MayAnswer p.room p.hand request answer.NoMemory
+-- the request is the push of the item at this index
+abbrev pub IsPushAt : List Item → ℕ → Request → Type 0
+IsPushAt items index request = (x : Item) × (slice_get items index ≡ Some x) × (request ≡ Push x)
+
+-- the request is a pop
+abbrev pub IsPop : Request → Type 0
+IsPop request = request ≡ Pop
+
+-- Why it applied no more: nothing refused it; or the next request, of which this holds, was so answered, and has no line; or no
+-- serial was left, of so many.
+abbrev pub EndsBatch : ℕ → (is_next : Request → Type 0) → PenState → Option CallError → PenState → Type 0
+EndsBatch most is_next p None q = q ≡ p
+EndsBatch most is_next p (Some NoMemory) q =
+    (request : Request) × is_next request × (now : ℕ) × MayAnswer p.room p.hand request answer.NoMemory
     × (q ≡ after_apply p request answer.NoMemory now)
-EndsBatch most p (Some BookFull) q =
-    (request : Request) × (now : ℕ) × MayAnswer p.room p.hand request answer.BookFull
+EndsBatch most is_next p (Some BookFull) q =
+    (request : Request) × is_next request × (now : ℕ) × MayAnswer p.room p.hand request answer.BookFull
     × (q ≡ after_apply p request answer.BookFull now)
-EndsBatch most p (Some Spent) q = (most ≤ p.posts) × (q ≡ p)
-EndsBatch most p (Some GaveUp) q = ⊥
+EndsBatch most is_next p (Some Spent) q = (most ≤ p.posts) × (q ≡ p)
+EndsBatch most is_next p (Some GaveUp) q = ⊥
 
 -- it applied these, and no more
-abbrev pub AppliesBatch : ℕ → PenState → List Told → Option CallError → PenState → Type 0
-AppliesBatch most p told refused q = (m : PenState) × AppliesEach p told m × EndsBatch most m refused q
+abbrev pub AppliesBatch : ℕ → (is_next : Request → Type 0) → PenState → List Told → Option CallError → PenState → Type 0
+AppliesBatch most is_next p told refused q = (m : PenState) × AppliesEach p told m × EndsBatch most is_next m refused q
 
 -- The leader applied these requests of its own, of which the first has the line that the batch tells, and released. It posted
 -- nothing.
-pub record ReleasesBatch (before : Joined) (told : List Told) (batch : Batch) (after : Joined) : Type 0 where
+pub record ReleasesBatch (before : Joined) (told : List Told) (is_next : Request → Type 0) (batch : Batch)
+    (after : Joined) : Type 0 where
   pub ended : PenState
   pub first : batch.first ≡ length before.pen.hand + 1
-  pub applies : AppliesBatch (most_posts before.queue.room) before.pen told batch.refused ended
+  pub applies : AppliesBatch (most_posts before.queue.room) is_next before.pen told batch.refused ended
   pub after_is : after ≡ record before { pen = after_release ended }
 
 -- The member won the lock, served the others where it read that somebody had posted, and released with these requests of its
 -- own. Items have so many words.
-pub record CarriesOutBatchBy (words : ℕ) (before : Joined) (told : List Told) (batch : Batch) (after : Joined) : Type 0 where
+pub record CarriesOutBatchBy (words : ℕ) (before : Joined) (told : List Told) (is_next : Request → Type 0) (batch : Batch)
+    (after : Joined) : Type 0 where
   pub book : Volume
   pub led : Joined
   pub ready : Joined
@@ -83,18 +93,19 @@ pub record CarriesOutBatchBy (words : ℕ) (before : Joined) (told : List Told) 
   pub stays : StaysAtPlace before led
   pub hinted : Bool
   pub sweeps : SweepsWhereBy words hinted led ready
-  pub released : ReleasesBatch ready told batch after
+  pub released : ReleasesBatch ready told is_next batch after
 
 -- The queue was shut: the member won the lock, and released it without the batch.
 abbrev pub IsBatchShutOut : Joined → Joined → Type 0
 IsBatchShutOut before after = (lines : ℕ) × Settles before lines after
 
 -- the member found the lock held so often, and then it did so
-pub record MissesThenBatchBy (words : ℕ) (before : Joined) (told : List Told) (batch : Batch) (after : Joined) : Type 0 where
+pub record MissesThenBatchBy (words : ℕ) (before : Joined) (told : List Told) (is_next : Request → Type 0) (batch : Batch)
+    (after : Joined) : Type 0 where
   pub tries : ℕ
   pub missed : Joined
   pub misses : Misses tries before missed
-  pub carries : CarriesOutBatchBy words missed told batch after
+  pub carries : CarriesOutBatchBy words missed told is_next batch after
 
 -- how many of so many requests one batch carries out, if none is refused
 abbrev pub in_one_batch : ℕ → ℕ

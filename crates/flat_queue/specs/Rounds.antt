@@ -6,24 +6,24 @@ use Rattle.split_core.specs.Collect.{NoneBegins}
 use Rattle.split_core.specs.Places.{place}
 use Rattle.split_core.specs.declared.model.Comer.{Comer}
 use Rattle.split_core.specs.declared.model.Next.TheVariants.{Stopped}
-use Rattle.pq_types.specs.Asked.{Request}
-use Rattle.pq_types.specs.Asked.{Answer}
+use Rattle.pq_types.specs.Asked.{Answer, Operation}
 use Rattle.pq_types.specs.declared.journal.TheConstants.{GREATEST_NUMBER}
 use Rattle.desk_core.specs.Desk.{Has as IsPen, opening as desk_opening}
-use Rattle.desk_core.specs.Steps.{Event as DeskEvent, Tries, Releases, ReleasesWith, Run as DeskRun}
+use Rattle.desk_core.specs.Steps.{Event as DeskEvent, Tries, Releases, ReleasesBy, Run as DeskRun}
 use Rattle.desk_core.specs.Leads.{HasPosted, HasAnswer, KnowsAnswer, Serving, places_read}
 use Rattle.desk_core.specs.declared.model.PenState.{PenState}
 use Rattle.flat_queue.specs.Product.{Product, Event, OnGrid, AtDesk, Step, Run, opening, grid_events, desk_events}
 
--- the event ends the lead of the pen at the seat: it releases, alone or with a request of its own
+-- the event ends the lead of the pen at the seat: it releases, alone or with an operation of its own: a request, a removal or a
+-- move
 abbrev pub EndsLead : ℕ → DeskEvent → Type 0
-EndsLead seat e = (e ≡ Releases seat) ⊎ ((request : Request) × (answer : Answer) × (e ≡ ReleasesWith seat request answer))
+EndsLead seat e = (e ≡ Releases seat) ⊎ ((operation : Operation) × (answer : Answer) × (e ≡ ReleasesBy seat operation answer))
 
 -- A round of the comer at `who`, by the pen at `seat`, from s to s': a lead that begins where the
 -- pen wins the lock. Thereafter its comer begins a scan, which is over before the pen releases; in
 -- this lead the pen reads the mail at each place that the scan has found, and answers each post
--- that it reads before it reads on or releases, alone or with a request of its own. Others do meanwhile
--- what they like, and its comer may scan again.
+-- that it reads before it reads on or releases, alone or with an operation of its own. Others do
+-- meanwhile what they like, and its comer may scan again.
 pub record Round (who seat : ℕ) (s : Product) (events : List Event) (s' : Product) : Type 0 where
   pub early : List Event
   pub late : List Event

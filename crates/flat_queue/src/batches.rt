@@ -10,7 +10,7 @@ ghost use Rattle.announce_board.specs.Tokens.{IsLeadOf, is_idle};
 ghost use Rattle.flat_queue.specs.Members.{HasRoomForAll, pen_of};
 ghost use Rattle.flat_queue.specs.Turns.{FindsLockHeld};
 ghost use Rattle.flat_queue.specs.Batches.{AppliesBatch, ReleasesBatch, CarriesOutBatchBy, MissesThenBatchBy};
-ghost use Rattle.flat_queue.specs.Batches.{EntersTogether, IsBatchShutOut, pushes_of, pops_of, in_one_batch, is_first_due};
+ghost use Rattle.flat_queue.specs.Batches.{EntersTogether, IsBatchShutOut, IsPushAt, IsPop, pushes_of, pops_of, in_one_batch, is_first_due};
 
 use crate::ending::Shut;
 use crate::error::CallError;
@@ -51,13 +51,14 @@ impl<S: Store<Entry<P>>, P: Part> Queue<S, P> {
         requires queue { member.old.queue ≡ self.now }
         requires idle { is_idle member.old.pen.standing ≡ true }
         ensures carries { IfSome result (λ batch. CarriesOutBatchBy (word_number P.wide) member.old
-            (pushes_of (take batch.done items.now)) batch member.new) }
+            (pushes_of (take batch.done items.now)) (IsPushAt items.now batch.done) batch member.new) }
         ensures together { IfSome result (λ batch. EntersTogether member.old
             (pushes_of (take batch.done items.now)) batch member.new) }
         ensures memory { HasRoomForAll S.room self.now
             → IfSome result (λ batch. batch.refused ≢ Some CallError.NoMemory) }
         ensures within { IfSome result (λ batch. batch.done ≤ length items.now) }
         ensures whole { IfSome result (λ batch. batch.refused ≡ None → batch.done ≡ in_one_batch (length items.now)) }
+        ensures next { IfSome result (λ batch. batch.refused ≢ None → batch.done < in_one_batch (length items.now)) }
         ensures held { IfNone result (FindsLockHeld member.old member.new) }
     {
         let mut lead = self.lead(member)?;
@@ -77,10 +78,12 @@ impl<S: Store<Entry<P>>, P: Part> Queue<S, P> {
         requires queue { member.old.queue ≡ self.now }
         requires lead { IsLeadOf (pen_of member.old) lead }
         requires idle { is_idle member.old.pen.standing ≡ true }
-        ensures releases { ReleasesBatch member.old (pushes_of (take result.done items.now)) result member.new }
+        ensures releases { ReleasesBatch member.old (pushes_of (take result.done items.now)) (IsPushAt items.now result.done)
+            result member.new }
         ensures memory { HasRoomForAll S.room self.now → result.refused ≢ Some CallError.NoMemory }
         ensures within { result.done ≤ length items.now }
         ensures whole { result.refused ≡ None → result.done ≡ in_one_batch (length items.now) }
+        ensures next { result.refused ≢ None → result.done < in_one_batch (length items.now) }
     {
         let first = lead.next_line();
         let most = self.most_posts();
@@ -105,7 +108,7 @@ impl<S: Store<Entry<P>>, P: Part> Queue<S, P> {
         requires queue { member.old.queue ≡ self.now }
         requires idle { is_idle member.old.pen.standing ≡ true }
         ensures carries { IfSome result (λ told. IfOk told (λ batch. CarriesOutBatchBy (word_number P.wide) member.old
-            (pushes_of (take batch.done items.now)) batch member.new)) }
+            (pushes_of (take batch.done items.now)) (IsPushAt items.now batch.done) batch member.new)) }
         ensures together { IfSome result (λ told. IfOk told (λ batch. EntersTogether member.old
             (pushes_of (take batch.done items.now)) batch member.new)) }
         ensures memory { HasRoomForAll S.room self.now
@@ -113,6 +116,8 @@ impl<S: Store<Entry<P>>, P: Part> Queue<S, P> {
         ensures within { IfSome result (λ told. IfOk told (λ batch. batch.done ≤ length items.now)) }
         ensures whole { IfSome result (λ told. IfOk told (λ batch. batch.refused ≡ None
             → batch.done ≡ in_one_batch (length items.now))) }
+        ensures next { IfSome result (λ told. IfOk told (λ batch. batch.refused ≢ None
+            → batch.done < in_one_batch (length items.now))) }
         ensures shut { IfSome result (λ told. IfErr told (λ _. IsBatchShutOut member.old member.new)) }
         ensures held { IfNone result (FindsLockHeld member.old member.new) }
     {
@@ -146,12 +151,13 @@ impl<S: Store<Entry<P>>, P: Part> Queue<S, P> {
         requires idle { is_idle member.old.pen.standing ≡ true }
         ensures slots { length into.new ≡ length into.old }
         ensures carries { IfSome result (λ batch. CarriesOutBatchBy (word_number P.wide) member.old
-            (pops_of (take batch.done into.new)) batch member.new) }
+            (pops_of (take batch.done into.new)) IsPop batch member.new) }
         ensures together { IfSome result (λ batch. EntersTogether member.old
             (pops_of (take batch.done into.new)) batch member.new) }
         ensures memory { IfSome result (λ batch. batch.refused ≢ Some CallError.NoMemory) }
         ensures due { IfSome result (λ batch. All (λ x. x.priority ≤ P.number priority) (take batch.done into.new)) }
         ensures within { IfSome result (λ batch. batch.done ≤ length into.old) }
+        ensures next { IfSome result (λ batch. batch.refused ≢ None → batch.done < in_one_batch (length into.old)) }
         ensures left { IfSome result (λ batch. batch.refused ≡ None → batch.done < in_one_batch (length into.old)
             → is_first_due (P.number priority) (first_of (left member.new.pen.known)) ≡ false) }
         ensures held { IfNone result (FindsLockHeld member.old member.new) }
@@ -175,10 +181,11 @@ impl<S: Store<Entry<P>>, P: Part> Queue<S, P> {
         requires lead { IsLeadOf (pen_of member.old) lead }
         requires idle { is_idle member.old.pen.standing ≡ true }
         ensures slots { length into.new ≡ length into.old }
-        ensures releases { ReleasesBatch member.old (pops_of (take result.done into.new)) result member.new }
+        ensures releases { ReleasesBatch member.old (pops_of (take result.done into.new)) IsPop result member.new }
         ensures memory { result.refused ≢ Some CallError.NoMemory }
         ensures due { All (λ x. x.priority ≤ P.number priority) (take result.done into.new) }
         ensures within { result.done ≤ length into.old }
+        ensures next { result.refused ≢ None → result.done < in_one_batch (length into.old) }
         ensures left { result.refused ≡ None → result.done < in_one_batch (length into.old)
             → is_first_due (P.number priority) (first_of (left member.new.pen.known)) ≡ false }
     {
@@ -201,12 +208,13 @@ impl<S: Store<Entry<P>>, P: Part> Queue<S, P> {
         requires queue { member.old.queue ≡ self.now }
         requires idle { is_idle member.old.pen.standing ≡ true }
         ensures carries { MissesThenBatchBy (word_number P.wide) member.old
-            (pushes_of (take result.done items.now)) result member.new }
+            (pushes_of (take result.done items.now)) (IsPushAt items.now result.done) result member.new }
         ensures together { EntersTogether member.old
             (pushes_of (take result.done items.now)) result member.new }
         ensures memory { HasRoomForAll S.room self.now → result.refused ≢ Some CallError.NoMemory }
         ensures within { result.done ≤ length items.now }
         ensures whole { result.refused ≡ None → result.done ≡ in_one_batch (length items.now) }
+        ensures next { result.refused ≢ None → result.done < in_one_batch (length items.now) }
     {
         let mut rests = member.rest().of_tries();
         for _ in rt.forever() {
@@ -231,12 +239,13 @@ impl<S: Store<Entry<P>>, P: Part> Queue<S, P> {
         requires idle { is_idle member.old.pen.standing ≡ true }
         ensures slots { length into.new ≡ length into.old }
         ensures carries { MissesThenBatchBy (word_number P.wide) member.old
-            (pops_of (take result.done into.new)) result member.new }
+            (pops_of (take result.done into.new)) IsPop result member.new }
         ensures together { EntersTogether member.old
             (pops_of (take result.done into.new)) result member.new }
         ensures memory { result.refused ≢ Some CallError.NoMemory }
         ensures due { All (λ x. x.priority ≤ P.number priority) (take result.done into.new) }
         ensures within { result.done ≤ length into.old }
+        ensures next { result.refused ≢ None → result.done < in_one_batch (length into.old) }
         ensures left { result.refused ≡ None → result.done < in_one_batch (length into.old)
             → is_first_due (P.number priority) (first_of (left member.new.pen.known)) ≡ false }
     {
@@ -257,12 +266,13 @@ impl<'q, S: Store<Entry<P>>, P: Part> Handle<'q, S, P> {
     /// lock, and takes memory where the store has to grow.
     pub fn push_all<R: Wait>(&mut self, rt: &R, items: &[Item<P>]) -> Batch
         ensures carries { MissesThenBatchBy (word_number P.wide) self.old
-            (pushes_of (take result.done items.now)) result self.new }
+            (pushes_of (take result.done items.now)) (IsPushAt items.now result.done) result self.new }
         ensures together { EntersTogether self.old
             (pushes_of (take result.done items.now)) result self.new }
         ensures memory { HasRoomForAll S.room self.old.queue → result.refused ≢ Some CallError.NoMemory }
         ensures within { result.done ≤ length items.now }
         ensures whole { result.refused ≡ None → result.done ≡ in_one_batch (length items.now) }
+        ensures next { result.refused ≢ None → result.done < in_one_batch (length items.now) }
     {
         self.queue.push_all(rt, &mut self.member, items)
     }
@@ -273,12 +283,13 @@ impl<'q, S: Store<Entry<P>>, P: Part> Handle<'q, S, P> {
     pub fn pop_all_up_to<R: Wait>(&mut self, rt: &R, priority: P, into: &mut [Item<P>]) -> Batch
         ensures slots { length into.new ≡ length into.old }
         ensures carries { MissesThenBatchBy (word_number P.wide) self.old
-            (pops_of (take result.done into.new)) result self.new }
+            (pops_of (take result.done into.new)) IsPop result self.new }
         ensures together { EntersTogether self.old
             (pops_of (take result.done into.new)) result self.new }
         ensures memory { result.refused ≢ Some CallError.NoMemory }
         ensures due { All (λ x. x.priority ≤ P.number priority) (take result.done into.new) }
         ensures within { result.done ≤ length into.old }
+        ensures next { result.refused ≢ None → result.done < in_one_batch (length into.old) }
         ensures left { result.refused ≡ None → result.done < in_one_batch (length into.old)
             → is_first_due (P.number priority) (first_of (left self.new.pen.known)) ≡ false }
     {
@@ -303,10 +314,12 @@ fn push_each<S: Store<Entry<P>>, P: Part>(
     ensures place { pen.new.state.place ≡ pen.old.state.place }
     ensures room { pen.new.state.room ≡ pen.old.state.room }
     ensures lead { IsLeadOf pen.new result.0 }
-    ensures applies { AppliesBatch most pen.old.state (pushes_of (take result.1 items.now)) result.2 pen.new.state }
+    ensures applies { AppliesBatch most (IsPushAt items.now result.1) pen.old.state (pushes_of (take result.1 items.now)) result.2
+        pen.new.state }
     ensures memory { AllHaveRoom S.room pen.old.state.room → result.2 ≢ Some CallError.NoMemory }
     ensures within { result.1 ≤ length items.now }
     ensures whole { result.2 ≡ None → result.1 ≡ in_one_batch (length items.now) }
+    ensures next { result.2 ≢ None → result.1 < in_one_batch (length items.now) }
 {
     let mut lead = lead;
     let end = bounded(items.len());
@@ -344,10 +357,11 @@ fn pop_each<S: Store<Entry<P>>, P: Part>(
     ensures place { pen.new.state.place ≡ pen.old.state.place }
     ensures room { pen.new.state.room ≡ pen.old.state.room }
     ensures lead { IsLeadOf pen.new result.0 }
-    ensures applies { AppliesBatch most pen.old.state (pops_of (take result.1 into.new)) result.2 pen.new.state }
+    ensures applies { AppliesBatch most IsPop pen.old.state (pops_of (take result.1 into.new)) result.2 pen.new.state }
     ensures memory { result.2 ≢ Some CallError.NoMemory }
     ensures due { All (λ x. x.priority ≤ P.number priority) (take result.1 into.new) }
     ensures within { result.1 ≤ length into.old }
+    ensures next { result.2 ≢ None → result.1 < in_one_batch (length into.old) }
     ensures left { result.2 ≡ None → result.1 < in_one_batch (length into.old)
         → is_first_due (P.number priority) (first_of (left pen.new.state.hand)) ≡ false }
 {

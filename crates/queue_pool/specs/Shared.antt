@@ -1,5 +1,5 @@
 -- What the calls of a member come to that may have a request out, or none.
-use Rattle.std.specs.Prelude.{◌≡◌, ℕ, ◌<◌, ◌≤◌, true, false, List, length, take, None, Some}
+use Rattle.std.specs.Prelude.{◌≡◌, ◌≢◌, ℕ, ◌<◌, ◌≤◌, true, false, List, length, take, None, Some}
 use Rattle.std.specs.List.{All}
 use Rattle.pq_types.specs.Item.{Item}
 use Rattle.pq_types.specs.Operation.{Ticketed, Remove, Move}
@@ -18,7 +18,7 @@ use Rattle.flat_queue.specs.declared.counting.Unpushed.TheVariants as unpushed
 use Rattle.pq_types.specs.declared.request.Request.TheVariants.{Push}
 use Rattle.pq_types.specs.History.{left}
 use Rattle.leftist_heap.specs.Store.{first_of}
-use Rattle.flat_queue.specs.Batches.{pushes_of, pops_of, in_one_batch, is_first_due, CarriesOutBatchBy, EntersTogether, IsBatchShutOut}
+use Rattle.flat_queue.specs.Batches.{IsPushAt, IsPop, pushes_of, pops_of, in_one_batch, is_first_due, CarriesOutBatchBy, EntersTogether, IsBatchShutOut}
 use Rattle.queue_pool.specs.declared.shared.TriedBatch.{TriedBatch}
 use Rattle.queue_pool.specs.declared.shared.TriedBatch.TheVariants as tried_batch
 use Rattle.queue_pool.specs.declared.shared.Seen.{Seen as SeenOf}
@@ -131,7 +131,8 @@ TriesPushesBy words before items tried_batch.Shut after =
 TriesPushesBy words before items (tried_batch.Done batch) after =
     (is_idle before.pen.standing ≡ true) × (batch.done ≤ length items)
     × (batch.refused ≡ None → batch.done ≡ in_one_batch (length items))
-    × CarriesOutBatchBy words before (pushes_of (take batch.done items)) batch after
+    × (batch.refused ≢ None → batch.done < in_one_batch (length items))
+    × CarriesOutBatchBy words before (pushes_of (take batch.done items)) (IsPushAt items batch.done) batch after
     × EntersTogether before (pushes_of (take batch.done items)) batch after
 
 -- The same of pops up to a bound, which took these items out.
@@ -145,7 +146,8 @@ TriesPopsBy words bound before items (tried_batch.Done batch) after =
     × All (λ x. x.priority ≤ bound) (take batch.done items)
     × (batch.refused ≡ None → batch.done < in_one_batch (length items)
     → is_first_due bound (first_of (left after.pen.known)) ≡ false)
-    × CarriesOutBatchBy words before (pops_of (take batch.done items)) batch after
+    × (batch.refused ≢ None → batch.done < in_one_batch (length items))
+    × CarriesOutBatchBy words before (pops_of (take batch.done items)) IsPop batch after
     × EntersTogether before (pops_of (take batch.done items)) batch after
 
 -- The same of narrow items, which have one word.

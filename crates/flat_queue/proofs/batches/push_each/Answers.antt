@@ -2,7 +2,8 @@ use Rattle.std.proofs.Common.{sym, ap, subst, ◌∙◌, arith}
 use Rattle.pq_book.specs.Book.{AllHaveRoom}
 use Rattle.announce_board.specs.Tokens.{AtDesk, is_idle}
 use Rattle.pq_types.specs.declared.request.Request.TheVariants.{Push}
-use Rattle.flat_queue.proofs.Together.{pushed_on, out_of_memory}
+use Rattle.flat_queue.specs.Batches.{IsPushAt}
+use Rattle.flat_queue.proofs.Together.{pushed_on, next_push, out_of_memory, out_of_lines}
 use Rattle.flat_queue.proofs.batches.push_each.Goals as goal
 
 pub loop-done-preserved : goal.loop-done-preserved
@@ -24,8 +25,17 @@ pub returns-in-NoMemory-clause-applies : goal.returns-in-NoMemory-clause-applies
 returns-in-NoMemory-clause-applies g c =
     let i = c.loop-done.invariant in
     let e = c.apply-next.ensures in
-    out_of_memory c.args.most c.args.pen.now.state c.loop-done.pen.state c.apply-next.new.pen.state _ (Push c.index-items-done.result) c.apply-next.result.1 e.after.0 i.applies e.may
+    out_of_memory c.args.most (IsPushAt c.args.items.now c.loop-done.done) c.args.pen.now.state c.loop-done.pen.state c.apply-next.new.pen.state _ (Push c.index-items-done.result) c.apply-next.result.1 e.after.0
+    (next_push c.args.items.now c.loop-done.done c.index-items-done.result (omega (arith, c.bounded-end.ensures.within, c.loop-done-test.true)) c.index-items-done.is) i.applies e.may
     (ap (λ (a : AtDesk). a.state) e.after.1) c.in-NoMemory.is
+
+pub returns-in-BookFull-clause-applies : goal.returns-in-BookFull-clause-applies
+returns-in-BookFull-clause-applies g c =
+    let i = c.loop-done.invariant in
+    let e = c.apply-next.ensures in
+    out_of_lines c.args.most (IsPushAt c.args.items.now c.loop-done.done) c.args.pen.now.state c.loop-done.pen.state c.apply-next.new.pen.state _ (Push c.index-items-done.result) c.apply-next.result.1 e.after.0
+    (next_push c.args.items.now c.loop-done.done c.index-items-done.result (omega (arith, c.bounded-end.ensures.within, c.loop-done-test.true)) c.index-items-done.is) i.applies e.may
+    (ap (λ (a : AtDesk). a.state) e.after.1) c.in-BookFull.is
 
 pub returns-in-NoMemory-clause-memory : goal.returns-in-NoMemory-clause-memory
 returns-in-NoMemory-clause-memory g c =

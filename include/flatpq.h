@@ -23,12 +23,15 @@
  */
 #ifndef FLATPQ_H
 #define FLATPQ_H
-
 #include <stddef.h>
 #include <stdint.h>
 
-/* A call whose code a program has to look at. */
+/* A call whose code a program has to look at. In C++17 and C23 a cast to void drops the code without a warning. */
+#if (defined(__cplusplus) && __cplusplus >= 201703L) || (defined(__STDC_VERSION__) && __STDC_VERSION__ > 201710L)
+#define PQ_CHECKED [[nodiscard]]
+#else
 #define PQ_CHECKED __attribute__((warn_unused_result))
+#endif
 
 #ifdef __cplusplus
 extern "C" {
@@ -204,7 +207,6 @@ PQ_CHECKED pq_code pq_remove(pq_member *member, uint64_t ticket, pq_item *item, 
 PQ_CHECKED pq_code pq_reschedule(pq_member *member, uint64_t ticket, uint64_t priority, uint64_t until, uint64_t *number);
 
 /* For programs that never wait: post a request, and poll for its answer. Until then a thread that posts by pq_own keeps its member. */
-
 enum pq_request { PQ_PUSH = 0, PQ_POP = 1, PQ_PEEK = 2, PQ_REMOVE = 3, PQ_RESCHEDULE = 4 };
 
 /* Posts a push, a pop or a peek, for the next thread that combines. PQ_OK; PQ_SHUT; PQ_BAD_REQUEST, also for a push where the number of
@@ -291,10 +293,8 @@ PQ_CHECKED pq_code pq_take_left(pq_journal *journal, pq_item *item);
 
 /* Frees the journal, which may be NULL. */
 void pq_journal_free(pq_journal *journal);
-
 #pragma GCC visibility pop
 #ifdef __cplusplus
 }
 #endif
-
 #endif

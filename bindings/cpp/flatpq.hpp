@@ -9,8 +9,8 @@
 // order in which they were pushed or moved there. flatpq.h says what each call does and what it asks of the program; this file adds types and
 // ownership.
 //
-// A queue also has batches (push_many, pop_due_many, drain), an exact size() and peak_size(), a bound on its items (options::most_items),
-// tickets by which items are removed and moved (options::tickets), and listeners for event loops. A program that writes archives to a file
+// A queue also has batches (push_many, pop_due_many, drain), an exact size() and peak_size(), a bound on its items (options::with_most_items),
+// tickets by which items are removed and moved (options::with_tickets), and listeners for event loops. A program that writes archives to a file
 // survives a crash: wait_archived waits until a push is on disk, and journal<Key>::read_from reads the file back.
 //
 // Any number of threads may call a queue itself. A thread gets a member of its own at its first call; where all members are in use it takes
@@ -51,13 +51,22 @@ namespace flatpq {
 enum class keeping : std::uint32_t { forgets = PQ_FORGETS, refuses = PQ_REFUSES, fills = PQ_FILLS };
 
 /// How a queue is opened, as pq_options says: for how many members at once, 1 to 64; how its journal keeps how many entries; how many items
-/// it may have, where 0 is no bound; and whether items can be removed or moved by ticket.
+/// it may have, where 0 is no bound; and whether items can be removed or moved by ticket: `options{8}`, `options().with_tickets()`.
 struct options {
     std::uint32_t members = 64;
     flatpq::keeping keeping = flatpq::keeping::forgets;
     std::uint32_t entries = 0;
     std::uint64_t most_items = 0;
     bool tickets = false;
+
+    [[nodiscard]] constexpr options with_members(std::uint32_t most) const noexcept { return {most, keeping, entries, most_items, tickets}; }
+    [[nodiscard]] constexpr options with_keeping(flatpq::keeping how, std::uint32_t count = 0) const noexcept {
+        return {members, how, count, most_items, tickets};
+    }
+    [[nodiscard]] constexpr options with_most_items(std::uint64_t most) const noexcept { return {members, keeping, entries, most, tickets}; }
+    [[nodiscard]] constexpr options with_tickets(bool are_there = true) const noexcept {
+        return {members, keeping, entries, most_items, are_there};
+    }
 };
 
 /// What push_many did: how many items it put in, why not the next one, and the number of the first one's journal entry; 0 where it put none in.

@@ -30,7 +30,9 @@ static graph any_graph(std::uint32_t nodes, std::uint32_t edges) {
 
 class search {
 public:
-    search(const graph &of, bool moves) : graph_(of), moves_(moves), open_(asked_for(moves)), nodes_(of.size()) { reach(0, 0); }
+    search(const graph &of, bool moves) : graph_(of), moves_(moves), open_(flatpq::options().with_tickets(moves)), nodes_(of.size()) {
+        reach(0, 0);
+    }
 
     void run() {
         std::thread other([this] { work(); });
@@ -52,12 +54,6 @@ private:
     struct node {
         std::atomic<std::uint64_t> far{not_reached}, ticket{0};
     };
-
-    static flatpq::options asked_for(bool moves) {
-        flatpq::options asked;
-        asked.tickets = moves;
-        return asked;
-    }
 
     // An item is an open node, by how far it is. The thread that is done with the last one ends the search.
     void work() {

@@ -41,13 +41,7 @@ private:
         steady_clock::duration patience;
     };
 
-    static flatpq::options with_tickets() {
-        flatpq::options asked;
-        asked.tickets = true;
-        return asked;
-    }
-
-    flatpq::task_queue<std::string, steady_clock::time_point> timeouts_{with_tickets()};
+    flatpq::task_queue<std::string, steady_clock::time_point> timeouts_{flatpq::options().with_tickets()};
     std::map<std::string, timeout> sent_;
 };
 

@@ -13,12 +13,6 @@
 using namespace std::chrono_literals;
 using flatpq::code;
 
-static flatpq::options within(std::uint64_t most_items) {
-    flatpq::options asked;
-    asked.most_items = most_items;
-    return asked;
-}
-
 static void items_are_counted() {
     flatpq::queue<> queue;
     auto member = queue.join().value();
@@ -33,9 +27,7 @@ static void items_are_counted() {
 
 // The most items at once: pops don't lower it, and a reschedule doesn't raise it.
 static void the_peak_stays() {
-    flatpq::options asked;
-    asked.tickets = true;
-    flatpq::queue<> queue(asked);
+    flatpq::queue<> queue(flatpq::options().with_tickets());
     auto member = queue.join().value();
     CHECK(*queue.peak_size() == 0 && *member.peak_size(flatpq::now) == 0);
     const auto ticket = queue.push(5u, 6).value();
@@ -47,7 +39,7 @@ static void the_peak_stays() {
 }
 
 static void a_full_queue_refuses() {
-    flatpq::task_queue<std::string> queue(within(1));
+    flatpq::task_queue<std::string> queue(flatpq::options().with_most_items(1));
     std::string text = "stays";
     CHECK(queue.push(5u, std::string("five")));
     CHECK(queue.push(6u, std::move(text), flatpq::now).error() == code::full && text == "stays");
@@ -63,13 +55,13 @@ static void a_full_queue_refuses() {
 }
 
 static void no_push_is_posted() {
-    flatpq::queue<> queue(within(1));
+    flatpq::queue<> queue(flatpq::options().with_most_items(1));
     CHECK(queue.post(flatpq::request::push, {1, 2}) == code::bad_request && queue.post(flatpq::request::pop) == code::ok);
     CHECK(queue.combine() == code::ok && queue.poll().error() == code::empty);
 }
 
 static void a_push_waits_for_room() {
-    flatpq::queue<> queue(within(1));
+    flatpq::queue<> queue(flatpq::options().with_most_items(1));
     std::atomic<bool> is_in{false};
     CHECK(queue.push(5u, 1));
     std::thread waits([&] {

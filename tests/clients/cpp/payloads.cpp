@@ -312,8 +312,7 @@ struct own_caller {
 int own_caller::dropped = 0;
 
 static void what_is_dropped_may_call_its_ending_queue() {
-    flatpq::options asked;
-    asked.tickets = true;
+    constexpr auto asked = flatpq::options().with_tickets();
     {
         flatpq::task_queue<own_caller> queue(asked);
         for (unsigned key = 0; key < 3; ++key) {

@@ -95,10 +95,7 @@ static void openings_are_refused() {
     CHECK(opening({1, keeping::forgets, 65536}) == code::ok && opening({1, keeping::forgets, 65535}) == code::bad_option);
     CHECK(opening({1, keeping::refuses, 16777217}) == code::bad_option && opening({1, keeping::fills, 1048577}) == code::bad_option);
     CHECK(flatpq::task_queue<std::string>::open({65}).error() == code::bad_option);
-    flatpq::options named;
-    named.keeping = keeping::fills;
-    named.entries = 1;
-    auto queue = *flatpq::queue<>::open(named);
+    auto queue = *flatpq::queue<>::open(flatpq::options().with_keeping(keeping::fills, 1));
     CHECK(queue.push(1u, 2) && queue.pop().error() == code::journal_full);
 #if defined(__cpp_exceptions)
     flatpq::queue<> four({4});
@@ -121,6 +118,14 @@ struct named : flatpq::queue<> {
     using flatpq::queue<>::basic_queue;
     int number = 7;
 };
+
+// Each sets its own option, and leaves the others.
+constexpr auto all_options = flatpq::options{8}.with_keeping(keeping::refuses, 70000).with_most_items(9).with_tickets();
+static_assert(all_options.members == 8 && all_options.keeping == keeping::refuses && all_options.entries == 70000);
+static_assert(all_options.most_items == 9 && all_options.tickets && !all_options.with_tickets(false).tickets);
+static_assert(all_options.with_members(3).members == 3 && all_options.with_members(3).tickets && all_options.with_members(3).most_items == 9);
+static_assert(std::is_aggregate_v<flatpq::options> && !flatpq::options().tickets);
+
 static_assert(!std::is_convertible_v<flatpq::options, flatpq::queue<>> && std::is_constructible_v<flatpq::queue<>, flatpq::options>);
 
 static void queues_are_opened_in_others() {

@@ -12,11 +12,7 @@
 
 using flatpq::code;
 
-static flatpq::options with_tickets() {
-    flatpq::options asked;
-    asked.tickets = true;
-    return asked;
-}
+constexpr auto with_tickets = flatpq::options().with_tickets();
 
 // A queue, and what it has: the values by priority and ticket.
 class beside_a_map {
@@ -62,7 +58,7 @@ private:
 
     at &one(std::uint64_t any) { return known[any % known.size()]; }
 
-    flatpq::queue<> queue{with_tickets()};
+    flatpq::queue<> queue{with_tickets};
     std::map<at, std::uint64_t> model;
     std::vector<at> known; // some of them gone
 };
@@ -92,7 +88,7 @@ static void a_random_run_is_that_of_a_map() {
 static void payloads_come_back_once() {
     const auto counted = std::make_shared<int>(5);
     {
-        flatpq::task_queue<std::shared_ptr<int>> queue(with_tickets());
+        flatpq::task_queue<std::shared_ptr<int>> queue(with_tickets);
         const auto first = queue.push(5u, std::shared_ptr<int>(counted)).value();
         const auto second = queue.push(6u, std::shared_ptr<int>(counted)).value();
         const auto third = queue.push(7u, std::shared_ptr<int>(counted)).value();
@@ -118,7 +114,7 @@ static void payloads_come_back_once() {
 
 static void a_timer_is_set_anew() {
     using clock = std::chrono::steady_clock;
-    flatpq::queue<clock::time_point> timers(with_tickets());
+    flatpq::queue<clock::time_point> timers(with_tickets);
     const auto soon = clock::now() + std::chrono::milliseconds(5), later = clock::now() + std::chrono::hours(1);
     const auto first = timers.push(soon, 1).value(), second = timers.push(later, 2).value();
     CHECK(timers.reschedule(first, later) && timers.take_due(std::chrono::milliseconds(10)).error() == code::not_due);
@@ -126,7 +122,7 @@ static void a_timer_is_set_anew() {
 }
 
 static void journals_show_both() {
-    flatpq::queue<int> queue(with_tickets());
+    flatpq::queue<int> queue(with_tickets);
     const auto ticket = queue.push(5, 6).value(), moved = queue.reschedule(ticket, -7).value();
     CHECK(queue.remove(moved) && queue.reschedule(moved, 8).error() == code::gone);
     const auto journal = queue.close().value();

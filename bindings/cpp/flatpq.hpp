@@ -218,13 +218,10 @@ public:
         return why == code::ok ? result<std::uint64_t>(peak) : why;
     }
 
-    /// Takes all items out, or those whose keys are at most this one: `for (auto &item : queue.drain())`.
-    [[nodiscard]] auto drain() & noexcept {
-        return drained([this] { return due(UINT64_MAX, {}); });
-    }
-    [[nodiscard]] auto drain(const key &bound) & noexcept {
-        return drained([this, most = key_order<key>::number(bound)] { return due(most, {}); });
-    }
+    /// Takes all items out, or those whose keys are at most this one: `for (auto &item : queue.drain())`. A drain is a range that std::views
+    /// take, by its name too: `queue.drain() | std::views::take(3)`.
+    [[nodiscard]] auto drain() & noexcept { return drained<next_due>(next_due{this, UINT64_MAX}); }
+    [[nodiscard]] auto drain(const key &bound) & noexcept { return drained<next_due>(next_due{this, key_order<key>::number(bound)}); }
 
     /// Takes all items out, and drops them: how many.
     result<std::size_t> clear() noexcept {
@@ -294,6 +291,12 @@ protected:
 
 private:
     friend class basic_listener<Items>;
+
+    struct next_due {
+        calls *from;
+        std::uint64_t bound;
+        found operator()() const noexcept { return from->due(bound, {}); }
+    };
 
     static std::optional<first> stays(code why, pq_item raw) noexcept {
         return why == code::not_due ? std::optional<first>(Items::shown(raw)) : std::nullopt;

@@ -74,7 +74,7 @@ template <class Key> struct values {
 };
 
 /// What a loop takes out, each item when the loop reads it, or asks whether it comes, and none before. The loop ends where no item comes. An
-/// item that came and was not read is the next loop's first.
+/// item that came and was not read is the next loop's first. Where a drain is moved that item goes along, and its iterators are valid no more.
 template <class Next> class drained {
     using result_of = std::invoke_result_t<Next &>;
 
@@ -120,9 +120,16 @@ public:
         drained *of_ = nullptr;
     };
 
-    explicit drained(Next next) noexcept : next_(std::move(next)) {}
-    drained(const drained &) = delete;
-    drained &operator=(const drained &) = delete;
+    explicit drained(Next next) noexcept : next_(next) {}
+    drained(drained &&other) noexcept : next_(other.next_) { take_along(other); }
+    drained &operator=(drained &&other) noexcept {
+        if (this != &other) {
+            next_ = other.next_;
+            last_.reset();
+            take_along(other);
+        }
+        return *this;
+    }
     [[nodiscard]] iterator begin() noexcept { return is_read_ || error() != code::ok ? ++iterator(this) : iterator(this); }
     [[nodiscard]] iterator end() noexcept { return iterator(nullptr); }
     /// Why the loop ended: code::empty, code::not_due, or a refusal; code::ok where it left off before that.
@@ -133,8 +140,16 @@ public:
 private:
     result_of &current() noexcept { return last_ ? *last_ : last_.emplace(next_()); }
 
+    void take_along(drained &other) noexcept {
+        if (other.last_) {
+            last_.emplace(std::move(*other.last_));
+            other.last_.reset();
+        }
+        is_read_ = std::exchange(other.is_read_, false);
+    }
+
     Next next_;
-    std::optional<result_of> last_;
+    std::optional<result_of> last_{};
     bool is_read_ = false;
 };
 
@@ -234,11 +249,13 @@ public:
     }
 
     /// Takes the items out that are left: `for (auto &item : journal.left())`.
-    [[nodiscard]] auto left() & noexcept {
-        return detail::drained([this] { return take(); });
-    }
+    [[nodiscard]] auto left() & noexcept { return detail::drained<next_left>(next_left{this}); }
 
 private:
+    struct next_left {
+        basic_journal *from;
+        result<item> operator()() const noexcept { return from->take(); }
+    };
     struct frees {
         void operator()(pq_journal *own) const noexcept {
             pq_item raw = {};

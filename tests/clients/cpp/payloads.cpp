@@ -283,6 +283,24 @@ static void an_item_that_is_not_read_stays() {
     CHECK(all.begin() != all.end() && all.begin()->priority == 0);
 }
 
+// A drain that is moved takes along the item that it is at, read or not; the other takes the next one.
+static void a_moved_drain_loses_no_item() {
+    auto queue = opened_for(1);
+    push_keys(queue, 0, 6);
+    auto first = queue.drain();
+    CHECK(first.begin()->priority == 0 && live == 6);
+    auto second = std::move(first);
+    CHECK(live == 6 && second.number() == 7 && first.number() == 0 && second.begin()->priority == 1 && live == 5);
+    CHECK(first.begin() != first.end() && *queue.size() == 3);
+    auto third = std::move(first);
+    CHECK(third.begin()->priority == 2 && first.begin()->priority == 3 && live == 5);
+    third = std::move(first);
+    CHECK(live == 4 && third.begin()->priority == 4 && first.begin()->priority == 5 && first.error() == code::ok && live == 3);
+    third = std::move(first);
+    CHECK(live == 2 && third.begin() == third.end() && third.error() == code::empty && live == 1);
+    CHECK(first.error() == code::ok && first.begin() == first.end());
+}
+
 /// Calls a queue when it is dropped.
 struct caller {
     struct pushes {
@@ -451,6 +469,7 @@ int main() {
     batches_come_out_in_order();
     a_loop_takes_no_item_that_it_does_not_read();
     an_item_that_is_not_read_stays();
+    a_moved_drain_loses_no_item();
     what_is_dropped_may_call();
     what_is_dropped_may_call_its_ending_queue();
     CHECK(own_caller::dropped == 4);

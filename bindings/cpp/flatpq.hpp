@@ -19,7 +19,8 @@
 //
 // Queues, members, listeners and journals are moved and never copied, and free what they hold. They may end in any order. Where a queue,
 // member or listener was moved from, its calls return code::no_member; batches of nothing do nothing. A journal that was moved from is empty.
-// Members and listeners are in one call at a time, and so are journals but for const calls.
+// Members and listeners are in one call at a time, const or not; journals too, but for const calls. A const queue has calls that leave its
+// items as they are.
 //
 // The constructors of a queue and result::value() throw flatpq::error. Containers and streams throw what they throw (std::bad_alloc), and so
 // does a copy of a payload; nothing has changed then. All else is noexcept. Without exceptions a queue is opened by open().
@@ -124,7 +125,7 @@ public:
 
     /// Take the first item out, or show it: of payloads its key. They don't wait for an item.
     found pop(deadline until = {}) noexcept { return got<pq_pop>(until); }
-    flatpq::found<first, first> peek(deadline until = {}) noexcept {
+    flatpq::found<first, first> peek(deadline until = {}) const noexcept {
         using shown = flatpq::found<first, first>;
         pq_item raw = {};
         std::uint64_t number = 0;
@@ -205,14 +206,14 @@ public:
     }
 
     /// How many items the queue has, exactly, at one moment of the call.
-    result<std::uint64_t> size(deadline until = {}) noexcept {
+    result<std::uint64_t> size(deadline until = {}) const noexcept {
         std::uint64_t count = 0;
         const auto why = static_cast<code>(pq_size(member_, until.at(), &count, nullptr));
         return why == code::ok ? result<std::uint64_t>(count) : why;
     }
 
     /// The most items that the queue has had at once, exactly, from when it was opened to one moment of the call.
-    result<std::uint64_t> peak_size(deadline until = {}) noexcept {
+    result<std::uint64_t> peak_size(deadline until = {}) const noexcept {
         std::uint64_t count = 0, peak = 0;
         const auto why = static_cast<code>(pq_size(member_, until.at(), &count, &peak));
         return why == code::ok ? result<std::uint64_t>(peak) : why;
@@ -500,7 +501,7 @@ public:
     code shut() noexcept { return queue_ != nullptr ? static_cast<code>(pq_shut(queue_)) : code::no_member; }
 
     /// Waits until an archive has counted the entry of this number as archived. code::ok, code::timed_out, code::closed.
-    [[nodiscard]] code wait_archived(std::uint64_t number, deadline until = {}) noexcept {
+    [[nodiscard]] code wait_archived(std::uint64_t number, deadline until = {}) const noexcept {
         return queue_ != nullptr ? static_cast<code>(pq_wait_archived(queue_, number, until.at())) : code::no_member;
     }
 

@@ -16,9 +16,10 @@ using flatpq::code;
 static void items_are_counted() {
     flatpq::queue<> queue;
     auto member = queue.join().value();
-    CHECK(*queue.size() == 0 && *member.size(flatpq::now) == 0);
+    const auto &read_only = queue;
+    CHECK(*read_only.size() == 0 && *member.size(flatpq::now) == 0);
     CHECK(queue.push(5u, 6) && queue.push_many(std::vector<flatpq::item<>>{{1, 2}, {3, 4}}));
-    CHECK(*queue.size() == 3 && *member.size(1h) == 3);
+    CHECK(*read_only.size() == 3 && *read_only.peak_size() == 3 && *std::as_const(member).size(1h) == 3 && read_only.peek()->value == 2);
     CHECK(member.pop() && *queue.clear() == 2 && *member.size() == 0);
     CHECK(member.post(flatpq::request::pop) == code::ok && member.size().error() == code::pending);
     auto moved = std::move(member);

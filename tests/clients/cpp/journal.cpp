@@ -134,7 +134,7 @@ static void waits_until_archived() {
     flatpq::queue<> queue;
     const auto number = *queue.push(1u, 2);
     CHECK(queue.wait_archived(number, flatpq::now) == code::timed_out && queue.wait_archived(number, 1ms) == code::timed_out);
-    CHECK(queue.archive(number) && queue.wait_archived(number) == code::ok);
+    CHECK(queue.archive(number) && std::as_const(queue).wait_archived(number) == code::ok);
     CHECK(queue.close() && queue.wait_archived(number + 1) == code::closed);
     const auto moved = std::move(queue);
     CHECK(queue.wait_archived(number) == code::no_member);

@@ -35,6 +35,7 @@
 #include <algorithm>
 #include <cstddef>
 #include <cstdint>
+#include <initializer_list>
 #include <iterator>
 #include <memory>
 #include <optional>
@@ -85,10 +86,17 @@ template <class Items> class basic_due_listener;
 namespace detail {
 
 /// Whether an iterator says that its range can be gone through only once.
+#if defined(__cpp_lib_concepts)
+template <class It> inline constexpr bool is_single_pass = !std::forward_iterator<It>;
+#else
 template <class It, class = void> inline constexpr bool is_single_pass = false;
 template <class It>
 inline constexpr bool is_single_pass<It, std::void_t<typename std::iterator_traits<It>::iterator_category>> =
     !std::is_base_of_v<std::forward_iterator_tag, typename std::iterator_traits<It>::iterator_category>;
+#endif
+
+/// Whether what an iterator gives can be moved from, and moved back to.
+template <class One> inline constexpr bool is_mutable = std::is_lvalue_reference_v<One> && !std::is_const_v<std::remove_reference_t<One>>;
 
 /// How many items a batch hands to the library at once.
 inline constexpr std::size_t batch_room = 64;
@@ -104,8 +112,8 @@ public:
     using journal = basic_journal<Items>;
 
     /// Puts a key and a value, or a payload, in: the number of the journal entry, which is the item's ticket. Where the call is refused the
-    /// payload is where it was; one that was made from an argument of another type is dropped. At a queue with a bound it waits for room:
-    /// code::full, where there was none until then.
+    /// payload is where it was. One that was made from an argument of another type is dropped, as a std::unique_ptr<base> from one to a derived
+    /// class: convert that before. At a queue with a bound the call waits for room: code::full, where there was none until then.
     result<std::uint64_t> push(const key &priority, payload &&value, deadline until = {}) noexcept {
         pq_item in = {key_order<key>::number(priority), 0};
         if (!Items::put(value, in.value)) {
@@ -159,25 +167,34 @@ public:
         return got<pq_take_due>(until);
     }
 
-    /// Puts a range of items in, and moves their payloads, up to the first that is refused. The range can be gone through twice, as a vector:
-    /// what a drain or an input iterator gives is collected first.
-    template <class Range> pushed_many push_many(Range &&items, deadline until = {}) noexcept {
+    /// Puts a range of items in, and moves their payloads, up to the first that is refused. Its items are those of the queue, types of the
+    /// program with the same members, or pairs, as of a std::map. Of values braces will do: `queue.push_many({{1, 2}, {3, 4}})`. The range can be
+    /// gone through twice, as a vector: what a drain or an input iterator gives is collected first.
+    template <class Range = std::initializer_list<item>> pushed_many push_many(Range &&items, deadline until = {}) noexcept {
+        using one = decltype(*std::begin(items));
         static_assert(!is_single_pass<decltype(std::begin(items))>, "a batch is a range that can be gone through twice");
-        static_assert(!is_signed_for<key, std::decay_t<decltype((*std::begin(items)).priority)>>, "a signed number is no unsigned key");
+        static_assert(std::is_same_v<Items, values<key>> || is_mutable<one>,
+                      "push_many moves the payloads out of the range: they may be neither const nor temporary");
+        static_assert(!is_signed_for<key, std::decay_t<decltype(key_of(std::declval<one>()))>>, "a signed number is no unsigned key");
         pushed_many all = {0, code::ok, 0};
         const auto end = std::end(items);
         for (auto at = std::begin(items); all && at != end;) {
             pq_item raw[batch_room];
             std::size_t count = 0, done = 0;
-            for (auto it = at; it != end && count < batch_room && Items::put(Items::of(*it), raw[count].value); ++it) {
-                raw[count++].priority = key_order<key>::number((*it).priority);
+            for (auto it = at; it != end && count < batch_room; ++it) {
+                auto &&next = *it;
+                if (!Items::put(Items::of(next), raw[count].value)) {
+                    break;
+                }
+                raw[count++].priority = key_order<key>::number(key_of(next));
             }
             std::uint64_t *const number = all.count == 0 ? &all.number : nullptr;
             all.error = count > 0 ? static_cast<code>(pq_push_many(member_, raw, count, until.at(), &done, number)) : code::no_memory;
             all.count += done;
             for (std::size_t i = 0; i < count; ++i, ++at) {
                 if (i >= done) {
-                    Items::put_back(Items::of(*at), raw[i].value);
+                    auto &&refused = *at;
+                    Items::put_back(Items::of(refused), raw[i].value);
                 }
             }
         }

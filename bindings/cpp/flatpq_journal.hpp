@@ -55,15 +55,34 @@ template <class First, class Key> struct entry {
 
 namespace detail {
 
+/// Whether a type is a std::pair; and the key of an item of a batch.
+template <class Item> inline constexpr bool is_pair = false;
+template <class Key, class Of> inline constexpr bool is_pair<std::pair<Key, Of>> = true;
+template <class Item> const auto &key_of(const Item &it) noexcept {
+    if constexpr (is_pair<Item>) {
+        return it.first;
+    } else {
+        return it.priority;
+    }
+}
+
 /// How a key and a value lie in an item of the library. `first` is what a call may show of an item that stays.
 template <class Key> struct values {
+    static_assert(are_ordered<Key>, "specialise flatpq::key_order for this key (flatpq_keys.hpp)");
+
     using key = Key;
     using payload = std::uint64_t;
     using item = flatpq::item<Key>;
     using first = item;
     static constexpr void (*drops)(void *, pq_item) = nullptr;
 
-    template <class Item> static auto &of(Item &from) noexcept { return from.value; }
+    template <class Item> static auto &of(Item &from) noexcept {
+        if constexpr (is_pair<std::remove_const_t<Item>>) {
+            return from.second;
+        } else {
+            return from.value;
+        }
+    }
     static bool put(const payload &from, std::uint64_t &value) noexcept {
         value = from;
         return true;

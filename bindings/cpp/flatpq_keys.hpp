@@ -83,6 +83,10 @@ struct times<std::chrono::steady_clock, std::chrono::duration<Rep, Period>,
     static constexpr std::uint64_t time_zero = key_order<Rep>::number(0), time_unit = std::ratio_divide<Period, std::nano>::num;
 };
 
+/// Whether the keys of a type have an order.
+template <class Key, class = void> inline constexpr bool are_ordered = false;
+template <class Key> inline constexpr bool are_ordered<Key, std::void_t<decltype(sizeof(key_order<Key>))>> = true;
+
 /// Whether the keys of a type are times.
 template <class Key, class = void> inline constexpr bool are_times = false;
 template <class Key>

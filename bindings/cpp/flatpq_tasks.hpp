@@ -7,8 +7,8 @@
 // Its calls are those of flatpq::queue (flatpq.hpp). A payload of at most 8 bytes that is copied as bytes (std::is_trivially_copyable) lies in
 // the item itself, and any other in memory of its own, which a push asks for (code::no_memory) and a pop frees. A push moves the payload in,
 // and a pop moves it out; a refused push moves it back. One that was made from an argument of another type is dropped then. Payloads that
-// nobody takes are dropped by clear(), with the journal of a closed queue, or with the last of a queue and its members. A payload that may
-// throw while it is moved or dropped doesn't compile.
+// nobody takes are dropped by clear(), with the journal of a closed queue, or with the last of a queue and its members. A type whose move
+// constructor or destructor may throw is no payload: declare them noexcept, or push a std::unique_ptr.
 //
 // A journal has no payloads. Its entries show keys; as text they have for each payload a token: an address, which is used again, or the payload's
 // own bytes. The padding in these is 0 where the compiler can clear it. So an archive of payloads is a record of what happened, and no payload
@@ -46,8 +46,9 @@ template <class T> inline constexpr bool lies_in_value = sizeof(T) <= sizeof(std
 
 /// How a key and a payload lie in an item of the library.
 template <class T, class Key> class payloads {
+    static_assert(are_ordered<Key>, "specialise flatpq::key_order for this key (flatpq_keys.hpp)");
     static_assert(std::is_nothrow_move_constructible_v<T> && std::is_nothrow_destructible_v<T>,
-                  "a payload is moved and dropped without throwing");
+                  "declare its move constructor and destructor noexcept, or push a std::unique_ptr to it");
 
     struct block {
         explicit block(T &&from) noexcept : payload(std::move(from)) {}
@@ -66,7 +67,13 @@ public:
     using first = Key;
     static constexpr void (*drops)(void *, pq_item) = lies_in_value<T> ? nullptr : &drop;
 
-    static T &of(item &from) noexcept { return from.payload; }
+    template <class Item> static T &of(Item &from) noexcept {
+        if constexpr (is_pair<Item>) {
+            return from.second;
+        } else {
+            return from.payload;
+        }
+    }
 
     static bool put(T &from, std::uint64_t &value) noexcept {
         if constexpr (lies_in_value<T>) {

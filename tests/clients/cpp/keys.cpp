@@ -5,6 +5,7 @@
 
 #include <cmath>
 #include <limits>
+#include <map>
 #include <type_traits>
 #include <vector>
 
@@ -177,6 +178,9 @@ static void types_of_the_program_will_do() {
     auto queue = *flatpq::queue<>::open();
     const std::vector<job> jobs = {{7, 8}, {5, 6}};
     CHECK(queue.push_many(jobs).count == 2 && *queue.pop() == flatpq::item<>(5, 6) && *queue.pop() == flatpq::item<>(7, 8));
+    const std::map<unsigned, unsigned> pairs = {{3, 4}, {1, 2}};
+    CHECK(queue.push_many(pairs).count == 2 && *queue.pop() == flatpq::item<>(1, 2) && *queue.pop() == flatpq::item<>(3, 4));
+    CHECK(queue.push_many({{7, 8}, {5, 6}}, 1h).count == 2 && queue.push_many({}).count == 0 && *queue.pop() == flatpq::item<>(5, 6));
 }
 
 // Nothing comes out before its time, what is due at one time comes in the order of its pushes, and what stays is shown exactly.

@@ -6,6 +6,7 @@
 #include <cstring>
 #include <functional>
 #include <iterator>
+#include <map>
 #include <memory>
 #include <new>
 #include <sstream>
@@ -205,6 +206,23 @@ static void batches_keep_what_is_refused() {
         CHECK(batch[static_cast<std::size_t>(key)].payload.number() == (key < room ? -1 : key));
     }
     CHECK(live == count && queue.pop_due_many(1, 10).error() == code::journal_full);
+}
+
+static void a_batch_may_have_pairs() {
+    constexpr int room = 3;
+    auto queue = *tasks::open({1, keeping::fills, room});
+    std::map<int, counted> batch;
+    for (int key = 0; key < 2 * room; ++key) {
+        batch.emplace(key, key);
+    }
+    const auto done = queue.push_many(batch);
+    CHECK(done.error == code::journal_full && done.count == room && live == 2 * room);
+    for (const auto &[key, payload] : batch) {
+        CHECK(payload.number() == (key < room ? -1 : key));
+    }
+    auto journal = *queue.close();
+    CHECK(journal.take()->payload.number() == 0);
+    CHECK(live == 2 * room - 1);
 }
 
 static void batches_come_out_in_order() {
@@ -466,6 +484,7 @@ int main() {
     a_copy_is_pushed_or_nothing();
     what_is_left_is_dropped();
     batches_keep_what_is_refused();
+    a_batch_may_have_pairs();
     batches_come_out_in_order();
     a_loop_takes_no_item_that_it_does_not_read();
     an_item_that_is_not_read_stays();

@@ -60,7 +60,16 @@ static void others_are_taken_too() {
     CHECK((even == std::vector{0, 2}));
 }
 
+// A batch of values may be made as it is read.
+static void a_view_is_pushed() {
+    flatpq::queue<> queue;
+    const auto item_of = [](unsigned key) { return flatpq::item<>(key, 2 * key); };
+    CHECK(queue.push_many(views::iota(1u, 101u) | views::transform(item_of)).count == 100 && *queue.size() == 100);
+    CHECK(*queue.pop() == flatpq::item<>(1, 2) && *queue.pop() == flatpq::item<>(2, 4));
+}
+
 int main() {
+    a_view_is_pushed();
     a_temporary_is_taken();
     a_named_one_goes_on();
     others_are_taken_too();

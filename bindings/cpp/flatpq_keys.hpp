@@ -44,7 +44,7 @@ template <> struct key_order<double> {
     static std::uint64_t number(double key) noexcept {
         std::uint64_t bits = 0;
         std::memcpy(&bits, &key, sizeof bits);
-        if (bits << 1 > infinity << 1) {
+        if ((bits & ~top) > infinity) {
             bits = quiet;
         } else if (bits == top) {
             bits = 0;

@@ -476,6 +476,8 @@ public:
         const auto why = static_cast<code>(pq_open(&raw, &opened));
         return why == code::ok ? result<basic_queue>(basic_queue(opened, pq_own(opened))) : why;
     }
+    basic_queue(const basic_queue &) = delete;
+    basic_queue &operator=(const basic_queue &) = delete;
     basic_queue(basic_queue &&other) noexcept
         : detail::calls<Items>(std::move(other)), queue_(std::exchange(other.queue_, nullptr)) {}
     basic_queue &operator=(basic_queue &&other) noexcept {

@@ -125,11 +125,14 @@ public:
             value_type item;
             [[nodiscard]] value_type operator*() noexcept { return std::move(item); }
         };
+#pragma GCC diagnostic push
+#pragma GCC diagnostic ignored "-Weffc++" // a proxy, as std::istreambuf_iterator has
         dropped operator++(int) noexcept {
             dropped last{std::move(**this)};
             ++*this;
             return last;
         }
+#pragma GCC diagnostic pop
         friend bool operator==(const iterator &a, const iterator &b) noexcept { return a.is_over() == b.is_over(); }
         friend bool operator!=(const iterator &a, const iterator &b) noexcept { return !(a == b); }
 

@@ -93,7 +93,7 @@ private:
     }
     FLATPQ_MAY_THROW T *or_thrown() { return const_cast<T *>(std::as_const(*this).or_thrown()); }
 
-    std::optional<T> value_;
+    std::optional<T> value_{};
     code error_ = code::ok;
 };
 
@@ -115,7 +115,7 @@ public:
 
 private:
     std::uint64_t number_;
-    std::optional<First> first_;
+    std::optional<First> first_{};
 };
 
 /// The deadline of a call that never waits: `queue.pop(flatpq::now)`.

@@ -497,7 +497,8 @@ public:
         return why == code::ok ? result<member>(member(joined)) : why;
     }
 
-    /// Join so, for an event loop that waits for any item, or for what is due. code::no_memory also where the system has no descriptor.
+    /// Join so, for an event loop that waits for any item, or for what is due. code::no_memory also where the system gives no descriptor: errno
+    /// says why, as EMFILE.
     result<listener> listen(deadline until = {}) noexcept {
         return joined_as<listener>(until, [] { return eventfd(1, EFD_CLOEXEC | EFD_NONBLOCK); });
     }
@@ -535,12 +536,16 @@ private:
     basic_queue(pq_queue *opened, pq_member *own) noexcept : detail::calls<Items>(own), queue_(opened) {}
 
     template <class Listener, class Open> result<Listener> joined_as(deadline until, Open open) noexcept {
-        auto joined = join(until);
-        const int fd = joined ? open() : -1;
-        if (fd < 0) {
-            return joined ? code::no_memory : joined.error();
+        Listener made(open(), member(nullptr));
+        if (made.fd_ < 0) {
+            return code::no_memory;
         }
-        return Listener(fd, *std::move(joined));
+        auto joined = join(until);
+        if (!joined) {
+            return joined.error();
+        }
+        made.member_ = *std::move(joined);
+        return result<Listener>(std::move(made));
     }
 
     pq_queue *queue_;

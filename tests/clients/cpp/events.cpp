@@ -5,6 +5,7 @@
 
 #include <atomic>
 #include <string>
+#include <sys/resource.h>
 #include <thread>
 
 using namespace std::chrono_literals;
@@ -154,7 +155,26 @@ static void no_call_is_a_cancellation_point() {
     CHECK(ended(started(is_cancelled, &queue)) == PTHREAD_CANCELED && queue.close());
 }
 
+// Where the system gives no descriptor a listener waits for no member, and says why. Where there is no member it keeps no descriptor.
+static void listeners_without_a_descriptor() {
+    auto queue = *flatpq::queue<clock_of::time_point>::open({1});
+    auto only = *queue.join();
+    const int next = dup(0);
+    CHECK(close(next) == 0 && queue.listen(flatpq::now).error() == code::all_joined && queue.listen_due(1ms).error() == code::all_joined);
+    rlimit all = {};
+    CHECK(getrlimit(RLIMIT_NOFILE, &all) == 0);
+    const rlimit none = {0, all.rlim_max};
+    CHECK(setrlimit(RLIMIT_NOFILE, &none) == 0);
+    errno = 0;
+    CHECK(queue.listen().error() == code::no_memory && errno == EMFILE);
+    errno = 0;
+    CHECK(queue.listen_due().error() == code::no_memory && errno == EMFILE);
+    only.give_back();
+    CHECK(setrlimit(RLIMIT_NOFILE, &all) == 0 && queue.listen(flatpq::now)->fd() == next);
+}
+
 int main() {
+    listeners_without_a_descriptor();
     a_descriptor_is_readable_where_an_item_may_be();
     one_that_ends_wakes_another();
     payloads_come_so();

@@ -158,10 +158,12 @@ public:
         return why == code::ok ? result<std::uint64_t>(number) : why;
     }
 
-    /// Waits for an item, and takes the first one out. code::empty: none came until then; code::timed_out; code::shut: it is shut and empty.
+    /// Waits for an item, and takes the first one out. code::empty: none came until then; code::timed_out; code::shut: it is shut and empty. A take
+    /// that would get the last free member waits for one, as a call does. So of `members` threads at most `members` - 1 sleep here.
     found take(deadline until = {}) noexcept { return got<pq_take>(until); }
 
-    /// The same once the first item is due: it waits for that in a shut queue too. Keys are times. code::not_due: found::first() stays.
+    /// The same once the first item is due: it waits for that in a shut queue too, and sleeps as a take does. Keys are times. code::not_due:
+    /// found::first() stays.
     found take_due(deadline until = {}) noexcept {
         static_assert(are_times<key>, "keys are times of std::chrono::steady_clock");
         return got<pq_take_due>(until);

@@ -294,13 +294,13 @@ public:
     /// The place by which journal entries name the member; UINT32_MAX where there is none at the moment.
     [[nodiscard]] std::uint32_t place() const noexcept { return member_ != nullptr ? pq_place(member_) : UINT32_MAX; }
 
-    /// A signed number is no unsigned key: write 5u for 5, or name a signed Key.
-    template <class Number, if_signed_for<key, Number> = 0> result<std::uint64_t> push(Number, payload, deadline = {}) = delete;
-    template <class Number, if_signed_for<key, Number> = 0> result<std::uint64_t> reschedule(std::uint64_t, Number, deadline = {}) = delete;
-    template <class Number, if_signed_for<key, Number> = 0> found pop_due(Number, deadline = {}) = delete;
-    template <class Number, if_signed_for<key, Number> = 0> found pop_due_many(Number, std::size_t, deadline = {}) = delete;
-    template <class Number, if_signed_for<key, Number> = 0> found drain(Number) = delete;
-    template <class Number, class Notify, if_signed_for<key, Number> = 0> found take_or_listen(Number, Notify &) = delete;
+    /// A signed number is no unsigned key: write 5u for 5, or name a signed Key. Compilers show these lines.
+    template <class Number, if_signed_for<key, Number> = 0> void push(Number, payload, deadline = {}) = delete; // write 5u for 5
+    template <class Number, if_signed_for<key, Number> = 0> void reschedule(std::uint64_t, Number, deadline = {}) = delete; // write 5u for 5
+    template <class Number, if_signed_for<key, Number> = 0> void pop_due(Number, deadline = {}) = delete; // write 5u for 5
+    template <class Number, if_signed_for<key, Number> = 0> void pop_due_many(Number, std::size_t, deadline = {}) = delete; // write 5u for 5
+    template <class Number, if_signed_for<key, Number> = 0> void drain(Number) = delete; // write 5u for 5
+    template <class Number, class Notify, if_signed_for<key, Number> = 0> void take_or_listen(Number, Notify &) = delete; // write 5u for 5
 
 protected:
     explicit calls(pq_member *member) noexcept : member_(member) {}
@@ -419,7 +419,7 @@ public:
     /// shut. It never waits. Where it returns code::shut or a refusal the descriptor stays readable.
     found take_or_listen() noexcept { return taken(UINT64_MAX); }
     found take_or_listen(const key &bound) noexcept { return taken(key_order<key>::number(bound)); }
-    template <class Number, detail::if_signed_for<key, Number> = 0> found take_or_listen(Number) = delete;
+    template <class Number, detail::if_signed_for<key, Number> = 0> void take_or_listen(Number) = delete; // write 5u for 5
 
 private:
     template <class> friend class basic_queue;

@@ -36,7 +36,7 @@ template <class T, class Key = std::uint64_t> struct task {
 
     template <class From = T> task(Key key, From &&from) : priority(key), payload(std::forward<From>(from)) {}
     /// A signed number is no unsigned key.
-    template <class Number, class From = T, detail::if_signed_for<Key, Number> = 0> task(Number, From &&) = delete;
+    template <class Number, class From = T, detail::if_signed_for<Key, Number> = 0> task(Number, From &&) = delete; // write 5u for 5
 };
 
 namespace detail {

@@ -17,8 +17,9 @@
 // over an idle one, or waits for one. A thread that waits for an item, or for room, keeps its member meanwhile. A program that moves members
 // between threads joins them (queue::join). The last argument is the time until which a call may wait (deadline); drain and clear have none.
 //
-// Queues, members, listeners and journals are moved and never copied, and free what they hold. They may end in any order. Where a queue,
-// member or listener was moved from, its calls return code::no_member; batches of nothing do nothing. A journal that was moved from is empty.
+// Queues, members, listeners and journals are moved and never copied, and free what they hold. They may end in any order: a joined member
+// goes on after its queue has ended. Where a queue, member or listener was moved from, its calls return code::no_member; batches of nothing
+// do nothing. A journal that was moved from is empty.
 // Members and listeners are in one call at a time, const or not; journals too, but for const calls. A const queue has calls that leave its
 // items as they are.
 //

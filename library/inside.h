@@ -360,5 +360,7 @@ HIDDEN void flatpq_count_staying(pq_queue *queue, uint32_t more);
  */
 HIDDEN pq_journal *flatpq_new_journal(void);
 HIDDEN void flatpq_fill_journal(pq_journal *made, core proved);
+enum { CHECKSUM_LENGTH = 9 };
+HIDDEN char *flatpq_put_checksum(char *at, const char *text, size_t length); /* a space, and the checksum of a text of this length */
 
 #endif

@@ -145,13 +145,36 @@ static char *put_reply(char *at, const pq_entry *entry) {
     return put_item(put_word(at, entry->request == PQ_PEEK ? " least" : " got"), entry->item);
 }
 
-/* `flatpq audit` reads this text. It calls a peek `least`, and a reschedule `move`. */
+/* CRC-32C (Castagnoli, Braeuer and Herrmann 1993), by halves of bytes. */
+static uint32_t checksum(const char *text, size_t length) {
+    static const uint32_t of_half[16] = { 0x00000000, 0x105ec76f, 0x20bd8ede, 0x30e349b1, 0x417b1dbc, 0x5125dad3, 0x61c69362, 0x7198540d,
+        0x82f63b78, 0x92a8fc17, 0xa24bb5a6, 0xb21572c9, 0xc38d26c4, 0xd3d3e1ab, 0xe330a81a, 0xf36e6f75 };
+    uint32_t sum = UINT32_MAX;
+    for (size_t i = 0; i < length; i++) {
+        sum ^= (uint8_t)text[i];
+        sum = sum >> 4 ^ of_half[sum & 15];
+        sum = sum >> 4 ^ of_half[sum & 15];
+    }
+    return ~sum;
+}
+
+char *flatpq_put_checksum(char *at, const char *text, size_t length) {
+    const uint32_t sum = checksum(text, length);
+    *at++ = ' ';
+    for (int shift = 28; shift >= 0; shift -= 4) {
+        *at++ = "0123456789abcdef"[sum >> shift & 15];
+    }
+    return at;
+}
+
+/* `flatpq audit` reads this text without the checksum. It calls a peek `least`, and a reschedule `move`. */
 size_t pq_text(const pq_entry *entry, char text[PQ_TEXT_ROOM]) {
     char *at = put_number(text, entry->number);
     *at++ = ' ';
     at = put_number(at, entry->place);
     *at++ = ' ';
     at = put_reply(put_request(put_number(at, entry->serial), entry), entry);
+    at = flatpq_put_checksum(at, text, (size_t)(at - text));
     *at++ = '\n';
     *at = 0;
     return (size_t)(at - text);

@@ -4,15 +4,20 @@
 #include "inside.h"
 
 #include <errno.h>
+#include <stdlib.h>
 #include <string.h>
 #include <sys/syscall.h>
 #include <unistd.h>
+
+enum { PLACES = 2080 };
 
 /* A file that is read in blocks. */
 typedef struct reader {
     int file;
     core replay;
     uint64_t lines;    /* read so far, the one that is refused among them */
+    uint64_t bytes;    /* of those that were replayed, with their line feeds */
+    int has_checksums; /* as its first line has one: then each has to */
     int is_long;       /* a piece is left out that is longer than a line */
     size_t begin, end; /* where in `text` what is not replayed yet stands */
     char text[64 * PQ_TEXT_ROOM];
@@ -32,15 +37,41 @@ static ssize_t read_block(reader *it) {
     return count;
 }
 
-static pq_code replay_line(reader *it, size_t length) {
-    const uint8_t *line = (const uint8_t *)it->text + it->begin;
-    pq_code code = PQ_NOT_LAWFUL;
-    it->lines++;
-    if (length < PQ_TEXT_ROOM && !it->is_long) {
-        code = LEAVE_OUT(pq_core_replay_line(&it->replay, line, length));
+/* How long a line is before its checksum; 0 where it does not end in the right one. */
+static size_t without_checksum(const char *line, size_t length) {
+    char word[CHECKSUM_LENGTH];
+    if (length <= sizeof word) {
+        return 0;
     }
-    it->begin += length + 1;
-    return code;
+    length -= sizeof word;
+    flatpq_put_checksum(word, line, length);
+    return memcmp(word, line + length, sizeof word) == 0 ? length : 0;
+}
+
+/* Whether a line that was replayed is as a queue writes it: the replay also reads numbers with leading zeros, and places of 16 bits. */
+static int is_as_written(const char *line, size_t length) {
+    for (size_t i = 0; i + 1 < length; i++) {
+        if (line[i] == '0' && line[i + 1] != ' ' && (i == 0 || line[i - 1] == ' ')) {
+            return 0;
+        }
+    }
+    return strtoul(strchr(line, ' '), NULL, 10) < PLACES;
+}
+
+/* Earlier versions wrote no checksums. The first line of such a text ends in a word that is none, as an empty queue has no item to return.
+   The replay refuses an empty line. */
+static pq_code replay_line(reader *it, const char *line, size_t length) {
+    pq_code code;
+    it->lines++;
+    if (length >= PQ_TEXT_ROOM || it->is_long) {
+        return PQ_NOT_LAWFUL;
+    }
+    if (it->lines == 1) {
+        it->has_checksums = without_checksum(line, length) > 0;
+    }
+    length = it->has_checksums ? without_checksum(line, length) : length;
+    code = LEAVE_OUT(pq_core_replay_line(&it->replay, (const uint8_t *)line, length));
+    return code != PQ_OK || is_as_written(line, length) ? code : PQ_NOT_LAWFUL;
 }
 
 /* Replays the whole lines that are there. A piece that is longer than a line is left out: it is refused once its line feed comes. */
@@ -48,12 +79,16 @@ static pq_code replay_lines(reader *it) {
     pq_code code = PQ_OK;
     while (code == PQ_OK) {
         const char *begin = it->text + it->begin, *feed = memchr(begin, '\n', it->end - it->begin);
+        size_t length;
         if (feed == NULL) {
             it->is_long |= it->end - it->begin >= PQ_TEXT_ROOM;
             it->begin = it->is_long ? it->end : it->begin;
             return PQ_OK;
         }
-        code = replay_line(it, (size_t)(feed - begin));
+        length = (size_t)(feed - begin);
+        code = replay_line(it, begin, length);
+        it->begin += length + 1;
+        it->bytes += code == PQ_OK ? length + 1 : 0;
     }
     return code;
 }
@@ -85,15 +120,15 @@ static pq_code read_all(reader *it, core *journal) {
     return code;
 }
 
-pq_code pq_journal_read(int file, pq_journal **journal, uint64_t *line) {
+pq_code pq_journal_read(int file, pq_journal **journal, uint64_t *line, uint64_t *bytes) {
     reader it;
     core ended = NULL;
     pq_journal *made = NULL;
     pq_code code = flatpq_may_read();
     it.file = file;
     it.replay = NULL;
-    it.lines = it.begin = it.end = 0;
-    it.is_long = 0;
+    it.lines = it.bytes = it.begin = it.end = 0;
+    it.has_checksums = it.is_long = 0;
     if (code == PQ_OK) {
         made = flatpq_new_journal();
         code = made != NULL ? read_all(&it, &ended) : PQ_NO_MEMORY;
@@ -108,6 +143,9 @@ pq_code pq_journal_read(int file, pq_journal **journal, uint64_t *line) {
     *journal = made;
     if (line != NULL) {
         *line = it.lines;
+    }
+    if (bytes != NULL) {
+        *bytes = it.bytes;
     }
     return code;
 }

@@ -246,7 +246,11 @@ public:
     [[nodiscard]] iterator begin() const noexcept { return iterator(this, 0); }
     [[nodiscard]] iterator end() const noexcept { return iterator(this, size()); }
 
-    /// Writes all entries as text, as pq_text does, and flushes. code::ok, code::no_member; code::not_written: a part may be written.
+    /// Writes all entries as text to a file descriptor. code::ok, code::no_member; code::not_written: a part may be written. As pq_write it is
+    /// a cancellation point.
+    [[nodiscard]] code write(int file) const { return own_ ? static_cast<code>(pq_write(own_.get(), file)) : code::no_member; }
+
+    /// The same to a stream, which it flushes.
     [[nodiscard]] code write(std::ostream &out) const {
         char line[PQ_TEXT_ROOM];
         pq_entry raw = {};
@@ -299,6 +303,8 @@ public:
 
     /// How many lines were read; of code::not_lawful the number of the refused line.
     [[nodiscard]] std::uint64_t lines() const noexcept { return lines_; }
+    /// The length of those before a torn or refused one, in bytes: where a program cuts the file.
+    [[nodiscard]] std::uint64_t bytes() const noexcept { return bytes_; }
     /// Whether the last line was cut off, and is left out.
     [[nodiscard]] bool is_torn() const noexcept { return is_torn_; }
 
@@ -306,12 +312,12 @@ private:
     using base = result<basic_journal<Items>>;
 
     read_back(int file, pq_journal *none) noexcept : base(code::not_read) {
-        const auto why = static_cast<code>(pq_journal_read(file, &none, &lines_));
+        const auto why = static_cast<code>(pq_journal_read(file, &none, &lines_, &bytes_));
         is_torn_ = why == code::torn;
         static_cast<base &>(*this) = none != nullptr ? base(basic_journal<Items>(none)) : base(why);
     }
 
-    std::uint64_t lines_ = 0;
+    std::uint64_t lines_ = 0, bytes_ = 0;
     bool is_torn_ = false;
 };
 

@@ -105,15 +105,28 @@ static void *work(void *unused) {
     return unused;
 }
 
-/* Moves what is left into the new queue, whose file takes the old one's place once it is on disk. A torn line was never acknowledged. */
-static void recover(const char *name, const char *beside) {
+/* Reads the old file back. A torn line was never acknowledged. A damaged one is cut off, with all that follows it: jobs may be lost. */
+static pq_journal *read_back(int old) {
     pq_journal *journal;
-    pq_item item;
-    uint64_t line, number = 0;
-    int old = open(name, O_RDONLY | O_CREAT, 0666), folder = open(".", O_RDONLY);
-    pq_code code = pq_journal_read(old, &journal, &line);
+    uint64_t line, bytes;
+    pq_code code = pq_journal_read(old, &journal, &line, &bytes);
+    if (code == PQ_NOT_LAWFUL) {
+        fprintf(stderr, "damaged line %" PRIu64 "\n", line);
+        need(ftruncate(old, (off_t)bytes) == 0 && lseek(old, 0, SEEK_SET) == 0, "cut", strerror(errno));
+        code = pq_journal_read(old, &journal, &line, &bytes);
+    }
     acknowledge(code == PQ_TORN ? "torn after line" : "lines", line, 0);
-    for (must(code == PQ_TORN ? PQ_OK : code); pq_take_left(journal, &item) == PQ_OK; left++) {
+    must(code == PQ_TORN ? PQ_OK : code);
+    return journal;
+}
+
+/* Moves what is left into the new queue, whose file takes the old one's place once it is on disk. */
+static void recover(const char *name, const char *beside) {
+    pq_item item;
+    uint64_t number = 0;
+    int old = open(name, O_RDWR | O_CREAT, 0666), folder = open(".", O_RDONLY);
+    pq_journal *journal = read_back(old);
+    for (; pq_take_left(journal, &item) == PQ_OK; left++) {
         number = push(item);
         acknowledge("left", item.value, 0);
     }

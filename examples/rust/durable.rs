@@ -4,9 +4,10 @@
 //! acknowledged as done doesn't come back. One that is taken out when the program crashes is not given out again.
 //!
 //! `durable [FILE [FIRST [JOBS]]]`: pushes so many jobs, with numbers from FIRST on, and does all that there are. FILE is in this folder.
-use flatpq::{Error, Keeping, Options, Queue, TaskJournal};
+use flatpq::{Error, Keeping, Options, Queue, ReadBack, TaskJournal};
 use std::fmt::Display;
 use std::fs::{self, File, OpenOptions};
+use std::io::Seek;
 use std::sync::atomic::{AtomicBool, AtomicU64, Ordering};
 use std::time::Duration;
 use std::{env, io, process, thread};
@@ -34,6 +35,19 @@ fn must<T, E: Display>(result: Result<T, E>) -> T {
 
 fn nap() {
     thread::sleep(Duration::from_micros(100));
+}
+
+/// Reads the old file back. A torn line was never acknowledged. A damaged one is cut off, with all that follows it: jobs may be lost.
+fn read_back(old: &mut File) -> io::Result<ReadBack<u64>> {
+    match TaskJournal::read_from(&*old) {
+        Err(refused) if refused.error == Error::NotLawful => {
+            eprintln!("damaged line {}", refused.line);
+            old.set_len(refused.bytes)?;
+            old.rewind()?;
+            Ok(TaskJournal::read_from(&*old)?)
+        }
+        read => Ok(read?),
+    }
 }
 
 impl Jobs {
@@ -96,15 +110,14 @@ impl Jobs {
         }
     }
 
-    /// Moves what is left into the new queue, whose file takes the old one's place once it is on disk: how many jobs. A torn line was never
-    /// acknowledged.
+    /// Moves what is left into the new queue, whose file takes the old one's place once it is on disk: how many jobs.
     fn recover(&self, name: &str) -> io::Result<u64> {
-        let old = OpenOptions::new()
+        let mut old = OpenOptions::new()
             .read(true)
             .append(true)
             .create(true)
             .open(name)?;
-        let mut read = TaskJournal::read_from(&old)?;
+        let mut read = read_back(&mut old)?;
         let lines = if read.is_torn {
             "torn after line"
         } else {

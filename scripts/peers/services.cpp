@@ -69,7 +69,7 @@ static bool read_back(std::uint64_t count, std::uint64_t &took) {
     pq_journal *read = nullptr;
     std::uint64_t lines = 0;
     const std::uint64_t began = nanoseconds_now();
-    const pq_code code = pq_journal_read(journal.number(), &read, &lines);
+    const pq_code code = pq_journal_read(journal.number(), &read, &lines, nullptr);
     took = nanoseconds_now() - began;
     pq_journal_free(read);
     return code == PQ_OK && lines == count;

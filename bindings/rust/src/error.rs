@@ -191,6 +191,8 @@ impl<T, K> std::error::Error for NotClosed<T, K> {
 pub struct NotReadBack {
     /// Of [`Error::NotLawful`] the number of the line that is refused, from 1; else how many lines were read.
     pub line: u64,
+    /// How many bytes the lines before that one have: where a program cuts the file.
+    pub bytes: u64,
     /// Why it was not read.
     pub error: Error,
 }

@@ -58,7 +58,7 @@ impl Request {
     }
 }
 
-/// An entry of the journal. Its text is that of the library: `7 3 2 push 5 1 pushed`.
+/// An entry of the journal. It is displayed as `7 3 2 push 5 1 pushed`: number, place, serial, request and reply.
 #[derive(Clone, Copy, Debug, PartialEq, Eq, Hash)]
 #[non_exhaustive]
 pub struct Entry {
@@ -109,7 +109,7 @@ impl Entry {
         }
     }
 
-    // The text, with the line feed.
+    // The text, with the checksum and the line feed.
     fn text(&self) -> ([u8; raw::TEXT_ROOM], usize) {
         let mut text = [0_u8; raw::TEXT_ROOM];
         let at = text.as_mut_ptr().cast::<c_char>();
@@ -123,7 +123,8 @@ impl fmt::Display for Entry {
     fn fmt(&self, f: &mut fmt::Formatter<'_>) -> fmt::Result {
         let (text, length) = self.text();
         let text = std::str::from_utf8(&text[..length]).map_err(|_| fmt::Error)?;
-        f.write_str(text.trim_end())
+        let (text, _checksum) = text.rsplit_once(' ').ok_or(fmt::Error)?;
+        f.write_str(text)
     }
 }
 
@@ -176,7 +177,7 @@ impl Journal {
         Entries { journal, next }
     }
 
-    /// Writes all entries as text, each ended by a line feed.
+    /// Writes all entries as text, each ended by a checksum and a line feed.
     ///
     /// # Errors
     ///
@@ -285,6 +286,8 @@ pub struct ReadBack<T, K = u64> {
     pub journal: TaskJournal<T, K>,
     /// How many lines were read.
     pub lines: u64,
+    /// How many bytes these lines have. What follows is a torn line.
+    pub bytes: u64,
     /// Whether the last line was cut off, as after a crash. It is left out.
     pub is_torn: bool,
 }
@@ -296,8 +299,8 @@ impl<T: Number, K: Key> TaskJournal<T, K> {
     ///
     /// # Errors
     ///
-    /// [`Error::NotLawful`] where a line is no entry that may come next, [`Error::NotRead`], [`Error::NoMemory`] and
-    /// [`Error::Processor`], with the number of the line.
+    /// [`Error::NotLawful`] where a line is no entry that may come next, or its checksum is wrong, [`Error::NotRead`], [`Error::NoMemory`]
+    /// and [`Error::Processor`], with the number of the line, and where it begins.
     ///
     /// ```
     /// # fn main() -> Result<(), Box<dyn std::error::Error>> {
@@ -317,13 +320,15 @@ impl<T: Number, K: Key> TaskJournal<T, K> {
             above: 0,
         };
         match RawJournal::read_from(file.as_fd().as_raw_fd()) {
-            (code, Some(raw), lines) => Ok(ReadBack {
+            (code, Some(raw), lines, bytes) => Ok(ReadBack {
                 journal: TaskJournal::new(raw, times),
                 lines,
+                bytes,
                 is_torn: code == raw::TORN,
             }),
-            (code, None, line) => Err(NotReadBack {
+            (code, None, line, bytes) => Err(NotReadBack {
                 line,
+                bytes,
                 error: Error::of(code),
             }),
         }

@@ -95,7 +95,7 @@ extern "C" {
     pub fn pq_notify_fd(context: *mut c_void);
     pub fn pq_archive(member: *mut MemberInside, archived: u64, until: u64, journal: *mut *mut JournalInside) -> u32;
     fn pq_wait_archived(queue: *mut QueueInside, number: u64, until: u64) -> u32;
-    fn pq_journal_read(file: c_int, journal: *mut *mut JournalInside, line: *mut u64) -> u32;
+    fn pq_journal_read(file: c_int, journal: *mut *mut JournalInside, line: *mut u64, bytes: *mut u64) -> u32;
     fn pq_count(journal: *const JournalInside, before: *mut u64) -> usize;
     fn pq_read(journal: *const JournalInside, index: usize, entry: *mut RawEntry) -> u32;
     pub fn pq_text(entry: *const RawEntry, text: *mut c_char) -> usize;
@@ -204,12 +204,13 @@ impl RawJournal {
         NonNull::new(journal).map(RawJournal).ok_or(Error::NoMemory)
     }
 
-    /// Reads one back from a file: the code, the journal if there is one, and how many lines were read.
-    pub fn read_from(file: c_int) -> (u32, Option<RawJournal>, u64) {
-        let (mut journal, mut line) = (ptr::null_mut(), 0);
-        // SAFETY: both are borrowed for this call.
-        let code = unsafe { pq_journal_read(file, &mut journal, &mut line) };
-        (code, NonNull::new(journal).map(RawJournal), line)
+    /// Reads one back from a file: the code, the journal if there is one, how many lines were read, and how many bytes those before a torn or
+    /// refused one have.
+    pub fn read_from(file: c_int) -> (u32, Option<RawJournal>, u64, u64) {
+        let (mut journal, mut line, mut bytes) = (ptr::null_mut(), 0, 0);
+        // SAFETY: all are borrowed for this call.
+        let code = unsafe { pq_journal_read(file, &mut journal, &mut line, &mut bytes) };
+        (code, NonNull::new(journal).map(RawJournal), line, bytes)
     }
 
     /// How many entries it has, and how many came before them.

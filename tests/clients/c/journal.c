@@ -65,20 +65,20 @@ static void has_text(void) {
     const pq_entry move = { UINT64_MAX, UINT64_MAX, 2079, PQ_RESCHEDULE, PQ_OK, 0, { UINT64_MAX, UINT64_MAX }, UINT64_MAX, UINT64_MAX };
     pq_entry entry = { 7, 2, 3, PQ_PUSH, PQ_OK, 0, { 5, 1 }, 4, 6 };
     is_text(&move, "18446744073709551615 2079 18446744073709551615 move 18446744073709551615 18446744073709551615 got 18446744073709551615 "
-                   "18446744073709551615\n");
-    is_text(&entry, "7 3 2 push 5 1 pushed\n");
+                   "18446744073709551615 59b20626\n");
+    is_text(&entry, "7 3 2 push 5 1 pushed 4ebb24e7\n");
     entry.request = PQ_REMOVE;
-    is_text(&entry, "7 3 2 remove 4 got 5 1\n");
+    is_text(&entry, "7 3 2 remove 4 got 5 1 63ab3b6f\n");
     entry.request = PQ_RESCHEDULE;
-    is_text(&entry, "7 3 2 move 4 6 got 5 1\n");
+    is_text(&entry, "7 3 2 move 4 6 got 5 1 bda4aecb\n");
     entry.request = PQ_POP;
-    is_text(&entry, "7 3 2 pop got 5 1\n");
+    is_text(&entry, "7 3 2 pop got 5 1 d637d109\n");
     entry.request = PQ_PEEK;
-    is_text(&entry, "7 3 2 least least 5 1\n");
+    is_text(&entry, "7 3 2 least least 5 1 2e4aa542\n");
     entry.reply = PQ_EMPTY;
-    is_text(&entry, "7 3 2 least empty\n");
+    is_text(&entry, "7 3 2 least empty 59b86d82\n");
     entry.request = PQ_POP;
-    is_text(&entry, "7 3 2 pop empty\n");
+    is_text(&entry, "7 3 2 pop empty 153d19d7\n");
 }
 
 static void is_not_written(const pq_journal *journal) {

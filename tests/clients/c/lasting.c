@@ -111,7 +111,7 @@ static void writes_an_archive(void) {
     pq_journal *journal = NULL;
     uint64_t archived = 0;
     pq_item item;
-    char text[80] = "";
+    char text[120] = "";
     FILE *file = tmpfile();
     CHECK(file != NULL && pq_push(own, item_of(5, 1), PQ_FOREVER, NULL) == PQ_OK);
     CHECK(pq_archive(own, archived, PQ_FOREVER, &journal) == PQ_OK && pq_write(journal, fileno(file)) == PQ_OK);
@@ -122,7 +122,7 @@ static void writes_an_archive(void) {
     pq_journal_free(journal);
     rewind(file);
     CHECK(fread(text, 1, sizeof text - 1, file) > 0);
-    CHECK(strcmp(text, "1 0 1 push 5 1 pushed\n2 0 2 pop got 5 1\n3 0 3 pop empty\n") == 0);
+    CHECK(strcmp(text, "1 0 1 push 5 1 pushed 4e0aefb0\n2 0 2 pop got 5 1 5b3f0dd8\n3 0 3 pop empty 48ed244c\n") == 0);
     fclose(file);
     close_and_free(queue);
 }

@@ -201,7 +201,7 @@ static void read_back_at_last(pq_journal *written) {
     pq_journal *journal = NULL;
     long asked;
     CHECK(made != NULL && pq_write(written, fileno(made)) == PQ_OK);
-    AT_LAST(asked, (rewind(made), pq_journal_read(fileno(made), &journal, NULL)), journal == NULL && out == had);
+    AT_LAST(asked, (rewind(made), pq_journal_read(fileno(made), &journal, NULL, NULL)), journal == NULL && out == had);
     CHECK(asked > 3 && pq_count(journal, NULL) == pq_count(written, NULL) && fclose(made) == 0);
     pq_journal_free(journal);
 }

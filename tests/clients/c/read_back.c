@@ -1,5 +1,5 @@
 /* A journal that was written is read back, with the same entries and the same items left. A torn last line is left out; a line that may not
-   come next is refused by its number; and a read that fails says so. */
+   come next, or of which any byte has changed, is refused by its number; and a read that fails says so. */
 #include "../check.h"
 
 #include <fcntl.h>
@@ -16,13 +16,24 @@ static int file_of(const char *text, size_t length) {
     return file;
 }
 
-/* Reads this text: the code, and the number of lines. */
+/* The length of so many lines at the begin of a text. */
+static size_t length_of(const char *text, size_t length, uint64_t lines) {
+    const char *end = text;
+    for (uint64_t i = 0; i < lines; i++) {
+        end = (const char *)memchr(end, '\n', length - (size_t)(end - text)) + 1;
+    }
+    return (size_t)(end - text);
+}
+
+/* Reads this text: the code, and the number of lines. Those before a torn or refused one have this length. */
 static pq_code reads(const char *text, size_t length, pq_journal **journal, uint64_t *line) {
     int file = file_of(text, length);
+    uint64_t bytes = 99;
     *journal = NULL;
     *line = 99;
-    pq_code code = pq_journal_read(file, journal, line);
+    pq_code code = pq_journal_read(file, journal, line, &bytes);
     CHECK(close(file) == 0 && (*journal != NULL) == (code == PQ_OK || code == PQ_TORN));
+    CHECK(bytes == length_of(text, length, *line - (code == PQ_NOT_LAWFUL)) && (code != PQ_OK || bytes == length));
     return code;
 }
 
@@ -64,7 +75,7 @@ static void is_read_back(uint32_t count) {
     CHECK(pq_pop(pq_own(queue), &item, PQ_FOREVER, NULL) == PQ_EMPTY && pq_peek(pq_own(queue), &item, PQ_FOREVER, NULL) == PQ_EMPTY);
     makes(queue, count);
     written = closed(queue);
-    CHECK(pq_write(written, file) == PQ_OK && lseek(file, 0, SEEK_SET) == 0 && pq_journal_read(file, &read, &line) == PQ_OK);
+    CHECK(pq_write(written, file) == PQ_OK && lseek(file, 0, SEEK_SET) == 0 && pq_journal_read(file, &read, &line, NULL) == PQ_OK);
     CHECK(line == pq_count(written, NULL) && close(file) == 0);
     has_the_same(written, read);
     pq_journal_free(written);
@@ -85,13 +96,14 @@ static void keeps_the_last(void) {
     }
     pq_leave(queue);
     whole = closed(queue);
-    CHECK(lseek(file, 0, SEEK_SET) == 0 && pq_journal_read(file, &read, &line) == PQ_OK && line == archived && close(file) == 0);
+    CHECK(lseek(file, 0, SEEK_SET) == 0 && pq_journal_read(file, &read, &line, NULL) == PQ_OK && line == archived && close(file) == 0);
     CHECK(pq_count(read, &before) == KEPT && before == archived - KEPT);
     has_the_same(whole, read);
     pq_journal_free(whole);
     pq_journal_free(read);
 }
 
+/* As an earlier version wrote it. */
 #define PUSHED "1 3 1 push 5 1 pushed\n2 3 4 push 6 2 pushed\n"
 
 static void is_refused(const char *last, uint64_t number) {
@@ -106,11 +118,77 @@ static void refuses_what_may_not_come_next(void) {
     const char *const unlawful[] = { "4 3 5 pop got 5 1\n", "2 3 5 pop got 5 1\n", "3 3 4 pop got 5 1\n", "3 3 3 pop got 5 1\n",
         "3 3 5 pop got 6 2\n", "3 3 5 pop empty\n", "3 3 5 least least 5 2\n", "garbage\n", "\n", "3 3 5 pop got 5 1 \n",
         "3 3 5 pop got 5 1\r\n", "3 3 5 pop\n", "3 70000 1 pop got 5 1\n", "3,3,5,pop,5,1\n", "{\"number\": 3}\n",
-        "3 3 5 push 18446744073709551616 1 pushed\n" };
+        "3 3 5 push 18446744073709551616 1 pushed\n", "03 3 5 pop got 5 1\n", "3 03 5 pop got 5 1\n", "3 3 05 pop got 5 1\n",
+        "3 3 5 pop got 05 1\n", "3 3 5 pop got 5 01\n", "3 3 5 push 00 1 pushed\n", "3 2080 1 pop got 5 1\n",
+        "3 3 5 pop got 5 1 3e767fbf\n" };
     for (size_t i = 0; i < sizeof unlawful / sizeof *unlawful; i++) {
         is_refused(unlawful[i], 3);
     }
     is_refused("3 3 5 pop got 5 1\n3 3 6 pop got 6 2\n", 4);
+}
+
+/* What is lawful: the last place, numbers that are 0, and a member whose first request has no entry, as memory for it was refused. */
+static void accepts_what_may_come_next(void) {
+    const char *const lawful[] = { "3 2079 1 pop got 5 1\n", "3 0 1 pop got 5 1\n", "3 3 5 push 0 0 pushed\n", "3 4 2 pop got 5 1\n" };
+    for (size_t i = 0; i < sizeof lawful / sizeof *lawful; i++) {
+        char text[1000];
+        pq_journal *journal;
+        uint64_t line;
+        size_t length = (size_t)snprintf(text, sizeof text, PUSHED "%s", lawful[i]);
+        CHECK(reads(text, length, &journal, &line) == PQ_OK && line == 3);
+        pq_journal_free(journal);
+    }
+}
+
+enum { LINES = 6 };
+
+/* Writes a journal of so many lines: how long its text is. */
+static size_t written(char *text, size_t room) {
+    pq_queue *queue = opened(2);
+    pq_journal *journal;
+    pq_item item;
+    int file = file_of("", 0);
+    CHECK(pq_pop(pq_own(queue), &item, PQ_FOREVER, NULL) == PQ_EMPTY);
+    makes(queue, 3);
+    journal = closed(queue);
+    CHECK(pq_write(journal, file) == PQ_OK && lseek(file, 0, SEEK_SET) == 0);
+    const ssize_t length = read(file, text, room);
+    CHECK(length > 0 && (size_t)length < room && close(file) == 0);
+    pq_journal_free(journal);
+    return (size_t)length;
+}
+
+/* Whichever bit of a written journal is changed, its line is refused. One without its last line feed is torn. */
+static void finds_each_change(void) {
+    char text[1000];
+    const size_t length = written(text, sizeof text), step = 20 / requests(20);
+    pq_journal *journal;
+    uint64_t line = 1, found;
+    for (size_t at = 0; at < length; at++) {
+        for (unsigned bit = 1; bit < 256 && at % step == 0; bit *= 2) {
+            text[at] = (char)(text[at] ^ (char)bit);
+            CHECK(reads(text, length, &journal, &found) == PQ_NOT_LAWFUL ? found == line : at + 1 == length && found == line - 1);
+            text[at] = (char)(text[at] ^ (char)bit);
+            pq_journal_free(journal);
+        }
+        line += text[at] == '\n';
+    }
+    CHECK(line == LINES + 1);
+}
+
+/* In a text with checksums each line has one. */
+static void refuses_a_line_without_a_checksum(void) {
+    const pq_entry next = { LINES + 1, 4, 0, PQ_POP, PQ_OK, 0, { 226, UINT64_MAX - 2 }, 0, 0 };
+    char text[1000];
+    pq_journal *journal;
+    uint64_t line;
+    size_t length = written(text, sizeof text);
+    length += pq_text(&next, text + length);
+    CHECK(reads(text, length, &journal, &line) == PQ_OK && line == LINES + 1);
+    pq_journal_free(journal);
+    length -= strlen(" 12345678");
+    text[length - 1] = '\n';
+    CHECK(reads(text, length, &journal, &line) == PQ_NOT_LAWFUL && line == LINES + 1);
 }
 
 /* A last line of any length is left out, as a crash may leave blocks of zeros there; one that has a line feed is refused. */
@@ -154,8 +232,8 @@ static void a_read_fails(void) {
     pq_journal *journal = (pq_journal *)&journal;
     uint64_t line = 9;
     int folder = open("/", O_RDONLY);
-    CHECK(folder >= 0 && pq_journal_read(folder, &journal, NULL) == PQ_NOT_READ && journal == NULL && close(folder) == 0);
-    CHECK(pq_journal_read(folder, &journal, &line) == PQ_NOT_READ && journal == NULL && line == 0);
+    CHECK(folder >= 0 && pq_journal_read(folder, &journal, NULL, NULL) == PQ_NOT_READ && journal == NULL && close(folder) == 0);
+    CHECK(pq_journal_read(folder, &journal, &line, NULL) == PQ_NOT_READ && journal == NULL && line == 0);
 }
 
 /* A pipe from which no more can be read now, and that is no end of the file. */
@@ -165,7 +243,7 @@ static void a_read_fails_midway(void) {
     uint64_t line = 9;
     int ends[2];
     CHECK(pipe2(ends, O_NONBLOCK) == 0 && write(ends[1], text, sizeof text - 1) == (ssize_t)sizeof text - 1);
-    CHECK(pq_journal_read(ends[0], &journal, &line) == PQ_NOT_READ && journal == NULL && line == 2);
+    CHECK(pq_journal_read(ends[0], &journal, &line, NULL) == PQ_NOT_READ && journal == NULL && line == 2);
     CHECK(close(ends[0]) == 0 && close(ends[1]) == 0);
 }
 
@@ -174,6 +252,9 @@ int main(void) {
     is_read_back(requests(20000));
     keeps_the_last();
     refuses_what_may_not_come_next();
+    accepts_what_may_come_next();
+    finds_each_change();
+    refuses_a_line_without_a_checksum();
     leaves_a_torn_line_out();
     leaves_a_long_one_out();
     a_read_fails();

@@ -55,7 +55,7 @@ static void has_other_calls(void) {
     HAS(uint32_t, pq_place, (pq_member *));
     HAS(pq_code, pq_archive, (pq_member *, uint64_t, uint64_t, pq_journal **));
     HAS(pq_code, pq_wait_archived, (pq_queue *, uint64_t, uint64_t));
-    HAS(pq_code, pq_journal_read, (int, pq_journal **, uint64_t *));
+    HAS(pq_code, pq_journal_read, (int, pq_journal **, uint64_t *, uint64_t *));
     HAS(size_t, pq_count, (const pq_journal *, uint64_t *));
     HAS(pq_code, pq_read, (const pq_journal *, size_t, pq_entry *));
     HAS(size_t, pq_text, (const pq_entry *, char *));

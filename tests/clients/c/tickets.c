@@ -382,13 +382,13 @@ static pq_entry entry_at(const pq_journal *journal, size_t index, const char *wa
 }
 
 static void has_entries(const pq_journal *journal) {
-    pq_entry entry = entry_at(journal, 2, "3 0 3 remove 1 got 5 1\n");
+    pq_entry entry = entry_at(journal, 2, "3 0 3 remove 1 got 5 1 6a4cf9d9\n");
     CHECK(entry.request == PQ_REMOVE && entry.ticket == 1 && entry.priority == 0 && entry.reply == PQ_OK && is_item(entry.item, 5, 1));
-    entry = entry_at(journal, 3, "4 0 4 remove 1 empty\n");
+    entry = entry_at(journal, 3, "4 0 4 remove 1 empty 099ab2e0\n");
     CHECK(entry.reply == PQ_EMPTY && entry.ticket == 1);
-    entry = entry_at(journal, 4, "5 0 5 move 1 0 empty\n");
+    entry = entry_at(journal, 4, "5 0 5 move 1 0 empty 2f44b382\n");
     CHECK(entry.request == PQ_RESCHEDULE && entry.ticket == 1 && entry.priority == 0 && entry.reply == PQ_EMPTY);
-    entry = entry_at(journal, 5, "6 0 6 move 2 18446744073709551615 got 6 2\n");
+    entry = entry_at(journal, 5, "6 0 6 move 2 18446744073709551615 got 6 2 d13ee84a\n");
     CHECK(entry.request == PQ_RESCHEDULE && entry.ticket == 2 && entry.priority == UINT64_MAX && entry.reply == PQ_OK && is_item(entry.item, 6, 2));
     CHECK(pq_count(journal, NULL) == 6);
 }
@@ -406,7 +406,7 @@ static void is_read_back(const char *name) {
     has_entries(archive);
     has_entries(journal);
     CHECK(pq_write(journal, file) == PQ_OK && lseek(file, 0, SEEK_SET) == 0);
-    CHECK(pq_journal_read(file, &read, &line) == PQ_OK && line == 6 && close(file) == 0);
+    CHECK(pq_journal_read(file, &read, &line, NULL) == PQ_OK && line == 6 && close(file) == 0);
     has_entries(read);
     CHECK(pq_take_left(read, &item) == PQ_OK && is_item(item, UINT64_MAX, 2) && pq_take_left(read, &item) == PQ_EMPTY);
     pq_journal_free(read);
@@ -420,7 +420,7 @@ static void is_not_lawful(const char *text) {
     pq_journal *read;
     uint64_t line = 0;
     CHECK(write(file, text, strlen(text)) == (ssize_t)strlen(text) && lseek(file, 0, SEEK_SET) == 0);
-    CHECK(pq_journal_read(file, &read, &line) == PQ_NOT_LAWFUL && line == 2 && read == NULL && close(file) == 0);
+    CHECK(pq_journal_read(file, &read, &line, NULL) == PQ_NOT_LAWFUL && line == 2 && read == NULL && close(file) == 0);
 }
 
 int main(int count, char **words) {

@@ -29,7 +29,7 @@ int main(void) {
     reads(journal, 2, PQ_PUSH, PQ_OK, soon);
     reads(journal, 3, PQ_PEEK, PQ_OK, soon);
     reads(journal, 4, PQ_POP, PQ_OK, soon);
-    CHECK(pq_read(journal, 0, &entry) == PQ_OK && pq_text(&entry, text) == 16 && strcmp(text, "1 0 1 pop empty\n") == 0);
+    CHECK(pq_read(journal, 0, &entry) == PQ_OK && pq_text(&entry, text) == 25 && strcmp(text, "1 0 1 pop empty acff473d\n") == 0);
     CHECK(pq_take_left(journal, &item) == PQ_OK && is_item(item, UINT64_MAX, 1) && pq_take_left(journal, &item) == PQ_EMPTY);
     pq_journal_free(journal);
     CHECK(strcmp(pq_code_text(PQ_EMPTY), pq_code_text(PQ_OK)) != 0);

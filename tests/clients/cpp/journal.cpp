@@ -25,6 +25,27 @@ struct grouped : std::numpunct<char> {
     std::string do_grouping() const override { return "\3"; }
 };
 
+static const char six_lines[] = "1 0 1 pop empty acff473d\n"
+                              "2 0 2 push 5 1000000 pushed 1dfc62d6\n"
+                              "3 0 3 push 4000000000 9 pushed 08fc79b1\n"
+                              "4 0 4 push 5 0 pushed 1b8ec31c\n"
+                              "5 0 5 pop got 5 1000000 2f994eb6\n"
+                              "6 0 6 least least 5 0 65f5fff9\n";
+
+// Writes it by a stream, whatever the locale of that, and by a descriptor; and says so where that fails.
+static void is_written(const flatpq::journal<unsigned> &journal) {
+    std::ostringstream text;
+    text.imbue(std::locale(std::locale::classic(), new grouped));
+    CHECK(journal.write(text) == code::ok && text.str() == six_lines);
+    std::FILE *made = std::tmpfile();
+    char read[sizeof six_lines + 1] = "";
+    CHECK(made != nullptr && journal.write(fileno(made)) == code::ok && std::fseek(made, 0, SEEK_SET) == 0);
+    CHECK(std::fread(read, 1, sizeof read, made) == sizeof six_lines - 1 && std::string(read) == six_lines && std::fclose(made) == 0);
+    std::ofstream full("/dev/full");
+    CHECK(full && journal.write(full) == code::not_written && journal.write(-1) == code::not_written);
+    std::cout << text.str();
+}
+
 static void entries_are_read_and_written() {
     auto queue = *flatpq::queue<unsigned>::open({1, keeping::fills, 1000});
     auto member = *queue.join();
@@ -55,18 +76,10 @@ static void entries_are_read_and_written() {
     for (auto &thread : threads) {
         thread.join();
     }
-    std::ostringstream text;
-    text.imbue(std::locale(std::locale::classic(), new grouped));
-    CHECK(journal.write(text) == code::ok);
-    const std::string at = " " + std::to_string(place) + " ";
-    const std::string written = "1" + at + "1 pop empty\n2" + at + "2 push 5 1000000 pushed\n3" + at + "3 push 4000000000 9 pushed\n4" + at +
-                                "4 push 5 0 pushed\n5" + at + "5 pop got 5 1000000\n6" + at + "6 ";
-    CHECK(text.str().compare(0, written.size(), written) == 0 && text.str().back() == '\n');
-    std::cout << text.str();
-    std::ofstream full("/dev/full");
-    CHECK(full && journal.write(full) == code::not_written);
+    CHECK(place == 0);
+    is_written(journal);
     auto moved = std::move(journal);
-    CHECK(journal.write(text) == code::no_member && text && journal.begin() == journal.end());
+    CHECK(journal.write(std::cout) == code::no_member && std::cout && journal.write(1) == code::no_member && journal.begin() == journal.end());
     journal = std::move(moved);
     std::vector<item<unsigned>> left;
     for (const auto &it : journal.left()) {
@@ -117,16 +130,16 @@ static void is_read_back() {
         return back;
     };
     auto torn = read(sizeof text - 1);
-    CHECK(torn && torn.is_torn() && torn.lines() == 3 && torn->size() == 3 && torn->read(2)->request == request::pop);
+    CHECK(torn && torn.is_torn() && torn.lines() == 3 && torn.bytes() == sizeof text - 9 && torn->read(2)->request == request::pop);
     CHECK(*torn->take() == (item<unsigned>{6, 8}) && torn->take().error() == code::empty);
     auto whole = read(sizeof text - 9);
-    CHECK(whole && !whole.is_torn() && whole.lines() == 3);
+    CHECK(whole && !whole.is_torn() && whole.lines() == 3 && whole.bytes() == sizeof text - 9 && whole->size() == 3);
     CHECK(!flatpq::journal<>::read_from(-1) && flatpq::journal<>::read_from(-1).error() == code::not_read);
     std::FILE *made = std::tmpfile();
     CHECK(made != nullptr && std::fputs("1 0 1 pop empty\n1 0 2 pop empty\n", made) >= 0);
     std::rewind(made);
     const auto refused = flatpq::journal<>::read_from(fileno(made));
-    CHECK(refused.error() == code::not_lawful && refused.lines() == 2 && std::fclose(made) == 0);
+    CHECK(refused.error() == code::not_lawful && refused.lines() == 2 && refused.bytes() == 16 && std::fclose(made) == 0);
 }
 
 static void waits_until_archived() {

@@ -22,9 +22,9 @@ fn queue_with_entries() -> Queue {
 }
 
 /// The text of the last three entries of those.
-const TEXT: &str = "3 0 3 push 5 18446744073709551615 pushed
-4 0 4 pop got 5 18446744073709551615
-5 0 5 pop empty
+const TEXT: &str = "3 0 3 push 5 18446744073709551615 pushed 03a0e38f
+4 0 4 pop got 5 18446744073709551615 e29542c5
+5 0 5 pop empty 6137f72e
 ";
 
 #[test]
@@ -71,8 +71,10 @@ fn entries_are_written_as_the_library_does() {
     let mut text = Vec::new();
     journal.write_to(&mut text).unwrap();
     assert_eq!(String::from_utf8(text).unwrap(), TEXT);
-    let lines: String = journal.iter().map(|it| format!("{it}\n")).collect();
-    assert_eq!(lines, TEXT);
+    for (entry, line) in journal.iter().zip(TEXT.lines()) {
+        let shown = entry.to_string();
+        assert!(line.starts_with(&shown) && line.len() == shown.len() + " 12345678".len());
+    }
     let full = File::options().write(true).open("/dev/full").unwrap();
     assert!(journal.write_to(&full).is_err());
     let mut failing = Failing(Vec::new());
@@ -131,22 +133,27 @@ fn read_back(name: &str, text: &str) -> Result<ReadBack<u64>, NotReadBack> {
     TaskJournal::read_from(&file)
 }
 
+const WRITTEN: &str = "1 0 1 push 5 7 pushed fd6f9793
+2 0 2 push 6 8 pushed ea288e85
+3 0 3 pop got 5 7 12a80e0a
+";
+const BYTES: u64 = WRITTEN.len() as u64;
+
 #[test]
 fn a_journal_is_read_back() {
-    let text = "1 0 1 push 5 7 pushed\n2 0 2 push 6 8 pushed\n3 0 3 pop got 5 7\n";
-    let mut read = read_back("whole", text).unwrap();
+    let mut read = read_back("whole", WRITTEN).unwrap();
     let mut written = Vec::new();
     read.journal.write_to(&mut written).unwrap();
-    assert_eq!((written, read.lines, read.is_torn), (text.into(), 3, false));
+    assert_eq!(String::from_utf8(written).unwrap(), WRITTEN);
+    assert_eq!((read.lines, read.bytes, read.is_torn), (3, BYTES, false));
     assert_eq!(read.journal.left().collect::<Vec<_>>(), [(6, 8)]);
-    let torn = read_back("torn", &format!("{text}4 0 4 po")).unwrap();
-    assert_eq!((torn.lines, torn.is_torn, torn.journal.len()), (3, true, 3));
-    let refused = read_back("refused", &format!("{text}4 0 3 pop got 6 8\n")).unwrap_err();
-    let wanted = NotReadBack {
-        line: 4,
-        error: Error::NotLawful,
-    };
-    assert_eq!(refused, wanted);
+    let torn = read_back("torn", &format!("{WRITTEN}4 0 4 po")).unwrap();
+    assert_eq!((torn.lines, torn.bytes, torn.is_torn), (3, BYTES, true));
+    assert_eq!(torn.journal.len(), 3);
+    let (line, bytes, error) = (4, BYTES, Error::NotLawful);
+    let wanted = NotReadBack { line, bytes, error };
+    let damaged = format!("{WRITTEN}4 0 4 pop got 6 8 12345678\n");
+    assert_eq!(read_back("refused", &damaged).unwrap_err(), wanted);
     let folder = TaskJournal::<u64>::read_from(File::open("/").unwrap());
     assert_eq!(folder.map_err(Error::from).err(), Some(Error::NotRead));
 }

@@ -101,7 +101,8 @@ static char *put_word(char *at, const char *word) {
     return at + length;
 }
 
-static char *put_number(char *at, uint64_t number) {
+/* Each line has it up to seven times: as a call it keeps the library small. */
+static __attribute__((noinline)) char *put_number(char *at, uint64_t number) {
     char digits[20];
     size_t first = sizeof digits;
     do {

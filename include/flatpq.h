@@ -258,8 +258,8 @@ typedef struct pq_entry {
     uint64_t priority; /* of PQ_RESCHEDULE the one that the item gets; else 0 */
 } pq_entry;
 
-/* Copies the entries after the first `archived`, which count as archived from now on. Nothing checks `archived`: if it is too large,
-   pq_wait_archived returns too early. PQ_OK; PQ_FORGOTTEN, PQ_NO_MEMORY, PQ_TIMED_OUT, PQ_NO_MEMBER, PQ_CLOSED, PQ_FORKED: *journal is NULL. */
+/* Copies the entries after the first `archived`, and counts those first ones as archived from now on. Nothing checks `archived`: too large a one
+   ends waits too early. PQ_OK; PQ_FORGOTTEN, PQ_NO_MEMORY, PQ_TIMED_OUT, PQ_NO_MEMBER, PQ_CLOSED, PQ_FORKED: *journal is NULL. */
 PQ_CHECKED pq_code pq_archive(pq_member *member, uint64_t archived, uint64_t until, pq_journal **journal);
 
 /* Waits until a pq_archive of the queue has counted the entry of this number as archived. An archiver passes `archived` on once these entries
@@ -282,10 +282,10 @@ size_t pq_text(const pq_entry *entry, char text[PQ_TEXT_ROOM]);
 PQ_CHECKED pq_code pq_write(const pq_journal *journal, int file);
 
 /* Reads a journal back from a file descriptor, to the end of the file: the text that pq_write writes, of a journal from entry 1 on. Each line is
-   checked: its checksum, unless the first line has none, as earlier versions wrote it; that its number is the next one, and its reply follows
-   from the entries before. The journal is as that of a closed queue, and keeps the last 65536 entries. line and bytes may be NULL; else *line is
-   how many lines are read, and *bytes the length of those before a torn or refused one: cut the file there. PQ_OK; PQ_TORN: the last line has no
-   line feed, and is left out; PQ_NOT_LAWFUL: line *line is refused. *journal is NULL then, and of PQ_NOT_READ, PQ_NO_MEMORY, PQ_PROCESSOR. */
+   checked: its checksum, that its number is the next one, and that its reply follows from the entries before. A text of an earlier version has no
+   checksums. The journal is as that of a closed queue, and keeps the last 65536 entries. line and bytes may be NULL; else *line is how many lines
+   are read, and *bytes the length of those before a torn or refused one. PQ_OK; PQ_TORN: the last line has no line feed, and is left out;
+   PQ_NOT_LAWFUL: line *line is refused, and *journal is NULL, as of PQ_NOT_READ, PQ_NO_MEMORY and PQ_PROCESSOR. */
 PQ_CHECKED pq_code pq_journal_read(int file, pq_journal **journal, uint64_t *line, uint64_t *bytes);
 
 /* Takes the first item out that is left in a closed queue. PQ_OK; PQ_EMPTY. */

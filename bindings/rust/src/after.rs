@@ -6,7 +6,6 @@ use std::sync::atomic::{AtomicBool, Ordering};
 use std::sync::mpsc::{channel, Sender};
 use std::sync::{Mutex, MutexGuard, PoisonError};
 use std::task::Waker;
-use std::vec::IntoIter;
 use std::{io, mem, ptr, thread};
 
 /// What is run after a call.
@@ -34,9 +33,10 @@ pub fn calling<R>(call: impl FnOnce() -> R) -> R {
     result
 }
 
+/// A waker that panics is not the call's fault, which has an answer for its caller.
 #[cold]
 fn run(after: After) {
-    wake_all(after.wakers);
+    after.wakers.into_iter().for_each(wake_caught);
 }
 
 /// Makes a call that may wait for long: wakers run in another thread meanwhile.
@@ -68,21 +68,9 @@ pub fn wake(waker: Waker) {
     after.get_or_insert_with(Box::default).wakers.push(waker);
 }
 
-/// Wakes all, though one panics.
-fn wake_all(wakers: Vec<Waker>) {
-    struct Rest(IntoIter<Waker>);
-    impl Drop for Rest {
-        fn drop(&mut self) {
-            (&mut self.0).for_each(Waker::wake);
-        }
-    }
-    let mut rest = Rest(wakers.into_iter());
-    (&mut rest.0).for_each(Waker::wake);
-}
-
-/// Runs code of the user's. A panic does not go through the library, nor does one of its own payload's drop.
-fn run_caught(code: impl FnOnce()) {
-    if let Err(panic) = catch_unwind(AssertUnwindSafe(code)) {
+/// A panic ends here, and so does one of its own payload's drop.
+fn wake_caught(waker: Waker) {
+    if let Err(panic) = catch_unwind(AssertUnwindSafe(|| waker.wake())) {
         mem::forget(panic);
     }
 }
@@ -115,11 +103,7 @@ fn start() -> bool {
 
 fn start_waking() -> io::Result<Sender<Waker>> {
     let (sender, wakers) = channel::<Waker>();
-    let wake_each = move || {
-        wakers
-            .into_iter()
-            .for_each(|waker| run_caught(|| waker.wake()))
-    };
+    let wake_each = move || wakers.into_iter().for_each(wake_caught);
     let thread = thread::Builder::new().name("flatpq wakers".to_string());
     thread.spawn(wake_each).map(|_| sender)
 }

@@ -66,8 +66,6 @@ errors! {
     Processor = 61,
     /// Other threads had the lock, or all members, until the deadline.
     TimedOut = 62,
-    /// The queue is closed.
-    Closed = 63,
 }
 
 impl Error {
@@ -91,11 +89,20 @@ impl std::error::Error for Error {}
 
 impl From<Error> for io::Error {
     fn from(error: Error) -> io::Error {
-        io::Error::new(io::ErrorKind::Other, error)
+        let kind = match error {
+            Error::TimedOut => io::ErrorKind::TimedOut,
+            Error::NoMemory => io::ErrorKind::OutOfMemory,
+            Error::Shut => io::ErrorKind::BrokenPipe,
+            Error::Full => io::ErrorKind::WouldBlock,
+            _ => io::ErrorKind::Other,
+        };
+        io::Error::new(kind, error)
     }
 }
 
-/// Why a payload was not pushed, and the payload. `?` turns it into its [`Error`], or an [`io::Error`].
+/// Why a payload was not pushed, and the payload. `?` turns it into its [`Error`], or an [`io::Error`], and `.map_err(Error::from)?` into
+/// any error that an `Error` turns into.
+#[derive(Clone, Copy, PartialEq, Eq)]
 pub struct NotPushed<T> {
     /// The payload.
     pub payload: T,
@@ -124,9 +131,10 @@ impl<T> std::error::Error for NotPushed<T> {
 }
 
 /// Why a batch ended before all of it was pushed, and what was not. `?` turns it into its [`Error`], or an [`io::Error`].
+#[derive(Clone, PartialEq, Eq)]
 pub struct NotAllPushed<K, T> {
     /// All keys and payloads that were not pushed.
-    pub payload: Vec<(K, T)>,
+    pub payloads: Vec<(K, T)>,
     /// Why the first of them was not pushed.
     pub error: Error,
     /// What was pushed before them.
@@ -159,14 +167,14 @@ impl<K, T> std::error::Error for NotAllPushed<K, T> {
 }
 
 /// Why a queue was not closed, and the queue, which stays open. `?` turns it into its [`Error`], or an [`io::Error`].
-pub struct NotClosed<T, K = u64> {
+pub struct NotClosed<K, T> {
     /// The queue.
-    pub queue: TaskQueue<T, K>,
+    pub queue: TaskQueue<K, T>,
     /// Why it was not closed.
     pub error: Error,
 }
 
-impl<T, K> fmt::Debug for NotClosed<T, K> {
+impl<K, T> fmt::Debug for NotClosed<K, T> {
     fn fmt(&self, f: &mut fmt::Formatter<'_>) -> fmt::Result {
         f.debug_struct("NotClosed")
             .field("error", &self.error)
@@ -174,13 +182,13 @@ impl<T, K> fmt::Debug for NotClosed<T, K> {
     }
 }
 
-impl<T, K> fmt::Display for NotClosed<T, K> {
+impl<K, T> fmt::Display for NotClosed<K, T> {
     fn fmt(&self, f: &mut fmt::Formatter<'_>) -> fmt::Result {
         write!(f, "not closed: {}", self.error)
     }
 }
 
-impl<T, K> std::error::Error for NotClosed<T, K> {
+impl<K, T> std::error::Error for NotClosed<K, T> {
     fn source(&self) -> Option<&(dyn std::error::Error + 'static)> {
         Some(&self.error)
     }
@@ -225,12 +233,11 @@ macro_rules! into_errors {
     )*};
 }
 
-into_errors!(NotPushed<T>, NotAllPushed<K, T>, NotClosed<T, K>, NotReadBack<>);
+into_errors!(NotPushed<T>, NotAllPushed<K, T>, NotClosed<K, T>, NotReadBack<>);
 
 /// What a pop of what is due found.
-#[derive(Clone, Copy, Debug, PartialEq, Eq)]
-#[non_exhaustive]
-pub enum Due<T, K = u64> {
+#[derive(Clone, Copy, Debug, PartialEq, Eq, Hash)]
+pub enum Due<K, T> {
     /// It took out this payload, of this key.
     Got(K, T),
     /// The first payload has this key, and stays.
@@ -239,7 +246,7 @@ pub enum Due<T, K = u64> {
     Empty,
 }
 
-impl<T, K> Due<T, K> {
+impl<K, T> Due<K, T> {
     /// The key and the payload that were taken out, if any.
     pub fn got(self) -> Option<(K, T)> {
         match self {

@@ -121,7 +121,7 @@ fn a_member_that_listens_no_longer_has_no_waker() {
 /// The sleep until the old time never ends.
 #[test]
 fn a_move_to_now_wakes() {
-    let queue: TaskQueue<u32, Instant> = Options::new().tickets(true).open().unwrap();
+    let queue: TaskQueue<Instant, u32> = Options::new().tickets(true).open().unwrap();
     let ticket = queue.push(Instant::now() + LONG, 1).unwrap();
     let mut taker = queue.join().unwrap();
     let counted = Counted::new();
@@ -135,7 +135,7 @@ fn a_move_to_now_wakes() {
 
 #[test]
 fn a_future_of_the_queue_joins_while_it_waits() {
-    let queue: TaskQueue<String> = Options::new().members(2).open().unwrap();
+    let queue: TaskQueue<u64, String> = Options::new().members(2).open().unwrap();
     let counted = Counted::new();
     let mut takes = [queue.take_async(), queue.take_async(), queue.take_async()];
     assert!(polled(&mut takes[0], &counted).is_pending());
@@ -296,7 +296,7 @@ impl Future for Sleep {
 #[test]
 fn what_is_due_is_taken_by_the_program_s_own_timer() {
     const UNIT: Duration = Duration::from_millis(5);
-    let queue: TaskQueue<u32, Instant> = TaskQueue::new().unwrap();
+    let queue: TaskQueue<Instant, u32> = TaskQueue::new().unwrap();
     let start = Instant::now();
     let asked = Mutex::new(Vec::new());
     let sleep = |moment| {

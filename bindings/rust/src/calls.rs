@@ -512,10 +512,7 @@ macro_rules! takes {
             /// # Errors
             ///
             /// Those of [`Self::take`].
-            pub fn take_due(&$($mutable)? self) -> Result<(K, T), Error>
-            where
-                K: TimeKey,
-            {
+            pub fn take_due(&$($mutable)? self) -> Result<(K, T), Error> where K: TimeKey {
                 self.call().take_due()?.got().ok_or(Error::TimedOut)
             }
 
@@ -524,10 +521,7 @@ macro_rules! takes {
             /// # Errors
             ///
             /// Those of [`Self::take`], and [`Error::TimedOut`] where other threads had the lock, or all members.
-            pub fn try_take_due(&$($mutable)? self) -> Result<Due<K, T>, Error>
-            where
-                K: TimeKey,
-            {
+            pub fn try_take_due(&$($mutable)? self) -> Result<Due<K, T>, Error> where K: TimeKey {
                 self.until(Until::NOW).take_due()
             }
         }

@@ -110,26 +110,6 @@ pub struct NotPushed<T> {
     pub error: Error,
 }
 
-impl<T> fmt::Debug for NotPushed<T> {
-    fn fmt(&self, f: &mut fmt::Formatter<'_>) -> fmt::Result {
-        f.debug_struct("NotPushed")
-            .field("error", &self.error)
-            .finish_non_exhaustive()
-    }
-}
-
-impl<T> fmt::Display for NotPushed<T> {
-    fn fmt(&self, f: &mut fmt::Formatter<'_>) -> fmt::Result {
-        write!(f, "not pushed: {}", self.error)
-    }
-}
-
-impl<T> std::error::Error for NotPushed<T> {
-    fn source(&self) -> Option<&(dyn std::error::Error + 'static)> {
-        Some(&self.error)
-    }
-}
-
 /// Why a batch ended before all of it was pushed, and what was not. `?` turns it into its [`Error`], or an [`io::Error`].
 #[derive(Clone, PartialEq, Eq)]
 pub struct NotAllPushed<K, T> {
@@ -141,57 +121,12 @@ pub struct NotAllPushed<K, T> {
     pub pushed: Pushed,
 }
 
-impl<K, T> fmt::Debug for NotAllPushed<K, T> {
-    fn fmt(&self, f: &mut fmt::Formatter<'_>) -> fmt::Result {
-        f.debug_struct("NotAllPushed")
-            .field("error", &self.error)
-            .field("pushed", &self.pushed)
-            .finish_non_exhaustive()
-    }
-}
-
-impl<K, T> fmt::Display for NotAllPushed<K, T> {
-    fn fmt(&self, f: &mut fmt::Formatter<'_>) -> fmt::Result {
-        write!(
-            f,
-            "pushed {} and no more: {}",
-            self.pushed.count, self.error
-        )
-    }
-}
-
-impl<K, T> std::error::Error for NotAllPushed<K, T> {
-    fn source(&self) -> Option<&(dyn std::error::Error + 'static)> {
-        Some(&self.error)
-    }
-}
-
 /// Why a queue was not closed, and the queue, which stays open. `?` turns it into its [`Error`], or an [`io::Error`].
 pub struct NotClosed<K, T> {
     /// The queue.
     pub queue: TaskQueue<K, T>,
     /// Why it was not closed.
     pub error: Error,
-}
-
-impl<K, T> fmt::Debug for NotClosed<K, T> {
-    fn fmt(&self, f: &mut fmt::Formatter<'_>) -> fmt::Result {
-        f.debug_struct("NotClosed")
-            .field("error", &self.error)
-            .finish_non_exhaustive()
-    }
-}
-
-impl<K, T> fmt::Display for NotClosed<K, T> {
-    fn fmt(&self, f: &mut fmt::Formatter<'_>) -> fmt::Result {
-        write!(f, "not closed: {}", self.error)
-    }
-}
-
-impl<K, T> std::error::Error for NotClosed<K, T> {
-    fn source(&self) -> Option<&(dyn std::error::Error + 'static)> {
-        Some(&self.error)
-    }
 }
 
 /// Why a journal was not read back from its text. `?` turns it into its [`Error`], or an [`io::Error`].
@@ -234,6 +169,36 @@ macro_rules! into_errors {
 }
 
 into_errors!(NotPushed<T>, NotAllPushed<K, T>, NotClosed<K, T>, NotReadBack<>);
+
+/// Texts of an error that gives something back, which needs none.
+macro_rules! texts {
+    ($Refused:ident<$($Part:ident),*>, $($field:ident),*; |$it:ident| $($text:expr),*) => {
+        impl<$($Part),*> fmt::Debug for $Refused<$($Part),*> {
+            fn fmt(&self, f: &mut fmt::Formatter<'_>) -> fmt::Result {
+                let mut text = f.debug_struct(stringify!($Refused));
+                $(text.field(stringify!($field), &self.$field);)*
+                text.finish_non_exhaustive()
+            }
+        }
+
+        impl<$($Part),*> fmt::Display for $Refused<$($Part),*> {
+            fn fmt(&self, f: &mut fmt::Formatter<'_>) -> fmt::Result {
+                let $it = self;
+                write!(f, $($text),*)
+            }
+        }
+
+        impl<$($Part),*> std::error::Error for $Refused<$($Part),*> {
+            fn source(&self) -> Option<&(dyn std::error::Error + 'static)> {
+                Some(&self.error)
+            }
+        }
+    };
+}
+
+texts!(NotPushed<T>, error; |it| "not pushed: {}", it.error);
+texts!(NotAllPushed<K, T>, error, pushed; |it| "pushed {} and no more: {}", it.pushed.count, it.error);
+texts!(NotClosed<K, T>, error; |it| "not closed: {}", it.error);
 
 /// What a pop of what is due found.
 #[derive(Clone, Copy, Debug, PartialEq, Eq, Hash)]

@@ -55,13 +55,6 @@ pub trait Key: Copy {
 /// nanoseconds of `CLOCK_MONOTONIC`, mostly since the machine was started. Other keys are no times, and wait for none:
 ///
 /// ```compile_fail,E0277
-/// let queue = flatpq::TaskQueue::new()?;
-/// queue.push(0.5, "a float")?;
-/// queue.take_due()?;
-/// # Ok::<(), flatpq::Error>(())
-/// ```
-///
-/// ```compile_fail,E0277
 /// use std::time::Duration;
 /// let queue = flatpq::TaskQueue::new()?;
 /// queue.push(Duration::from_secs(1), "a delay, from when on?")?;
@@ -86,47 +79,23 @@ pub trait TickKey: TimeKey {}
 /// The bit that is turned so that negative numbers come first.
 const TOP: u64 = 1 << 63;
 
-macro_rules! unsigned {
-    ($($Number:ty),*) => {$(
+macro_rules! integers {
+    ($zero:expr; $($Number:ident, $NonZero:ident;)*) => {$(
         impl Key for $Number {
+            const TIME_ZERO: u64 = $zero;
+
             fn to_number(self) -> u64 {
-                self as u64
+                self as i64 as u64 ^ $zero
             }
 
             fn from_number(number: u64) -> $Number {
-                number as $Number
+                (number ^ $zero) as $Number
             }
         }
 
         impl TimeKey for $Number {}
         impl TickKey for $Number {}
-    )*};
-}
 
-macro_rules! signed {
-    ($($Number:ty),*) => {$(
-        impl Key for $Number {
-            const TIME_ZERO: u64 = TOP;
-
-            fn to_number(self) -> u64 {
-                self as i64 as u64 ^ TOP
-            }
-
-            fn from_number(number: u64) -> $Number {
-                (number ^ TOP) as $Number
-            }
-        }
-
-        impl TimeKey for $Number {}
-        impl TickKey for $Number {}
-    )*};
-}
-
-unsigned!(u8, u16, u32, u64, usize);
-signed!(i8, i16, i32, i64, isize);
-
-macro_rules! nonzero {
-    ($($NonZero:ident: $Number:ty),* $(,)?) => {$(
         impl Key for num::$NonZero {
             fn to_number(self) -> u64 {
                 self.get().to_number()
@@ -140,10 +109,8 @@ macro_rules! nonzero {
     )*};
 }
 
-nonzero! {
-    NonZeroU8: u8, NonZeroU16: u16, NonZeroU32: u32, NonZeroU64: u64, NonZeroUsize: usize,
-    NonZeroI8: i8, NonZeroI16: i16, NonZeroI32: i32, NonZeroI64: i64, NonZeroIsize: isize,
-}
+integers!(0; u8, NonZeroU8; u16, NonZeroU16; u32, NonZeroU32; u64, NonZeroU64; usize, NonZeroUsize;);
+integers!(TOP; i8, NonZeroI8; i16, NonZeroI16; i32, NonZeroI32; i64, NonZeroI64; isize, NonZeroIsize;);
 
 /// `false` comes out first.
 impl Key for bool {
@@ -177,41 +144,27 @@ impl Key for (u32, u32) {
     }
 }
 
-/// In the total order of IEEE 754: -0 comes before 0, and a NaN before or after all other numbers, by its sign. Each comes out with the bits
-/// that it was pushed with.
-impl Key for f64 {
-    fn to_number(self) -> u64 {
-        let bits = self.to_bits();
-        if bits & TOP == 0 {
-            bits ^ TOP
-        } else {
-            !bits
+macro_rules! floats {
+    ($($Float:ty: $Bits:ty),*) => {$(
+        /// In the total order of IEEE 754: -0 comes before 0, and a NaN before or after all other numbers, by its sign. Each comes out with the
+        /// bits that it was pushed with.
+        impl Key for $Float {
+            fn to_number(self) -> u64 {
+                const TOP: $Bits = 1 << (<$Bits>::BITS - 1);
+                let bits = self.to_bits();
+                (if bits & TOP == 0 { bits ^ TOP } else { !bits }).into()
+            }
+
+            fn from_number(number: u64) -> $Float {
+                const TOP: $Bits = 1 << (<$Bits>::BITS - 1);
+                let bits = number as $Bits;
+                <$Float>::from_bits(if bits & TOP == 0 { !bits } else { bits ^ TOP })
+            }
         }
-    }
-
-    fn from_number(number: u64) -> f64 {
-        f64::from_bits(if number & TOP == 0 {
-            !number
-        } else {
-            number ^ TOP
-        })
-    }
+    )*};
 }
 
-/// As `f64`.
-impl Key for f32 {
-    fn to_number(self) -> u64 {
-        const TOP: u32 = 1 << 31;
-        let bits = self.to_bits();
-        u64::from(if bits & TOP == 0 { bits ^ TOP } else { !bits })
-    }
-
-    fn from_number(number: u64) -> f32 {
-        const TOP: u32 = 1 << 31;
-        let bits = number as u32;
-        f32::from_bits(if bits & TOP == 0 { !bits } else { bits ^ TOP })
-    }
-}
+floats!(f32: u32, f64: u64);
 
 /// The largest comes out first.
 impl<K: Key> Key for Reverse<K> {

@@ -118,26 +118,33 @@ impl<K: Key, T: Send> Listener<K, T> {
     }
 }
 
-impl<K, T> AsFd for Listener<K, T> {
-    fn as_fd(&self) -> BorrowedFd<'_> {
-        self.event.as_fd()
-    }
+macro_rules! has_descriptor {
+    ($Type:ident, $file:ident) => {
+        impl<K, T> AsFd for $Type<K, T> {
+            fn as_fd(&self) -> BorrowedFd<'_> {
+                self.$file.as_fd()
+            }
+        }
+
+        impl<K, T> AsRawFd for $Type<K, T> {
+            fn as_raw_fd(&self) -> RawFd {
+                self.$file.as_raw_fd()
+            }
+        }
+
+        impl<K, T> fmt::Debug for $Type<K, T> {
+            fn fmt(&self, f: &mut fmt::Formatter<'_>) -> fmt::Result {
+                f.debug_struct(stringify!($Type))
+                    .field("member", &self.member)
+                    .field(stringify!($file), &self.$file)
+                    .finish()
+            }
+        }
+    };
 }
 
-impl<K, T> AsRawFd for Listener<K, T> {
-    fn as_raw_fd(&self) -> RawFd {
-        self.event.as_raw_fd()
-    }
-}
-
-impl<K, T> fmt::Debug for Listener<K, T> {
-    fn fmt(&self, f: &mut fmt::Formatter<'_>) -> fmt::Result {
-        f.debug_struct("Listener")
-            .field("member", &self.member)
-            .field("event", &self.event)
-            .finish()
-    }
-}
+has_descriptor!(Listener, event);
+has_descriptor!(DueListener, timer);
 
 /// A member with a file descriptor that is readable once the first payload is due, for event loops: poll(2), mio,
 /// `tokio::io::unix::AsyncFd`. So the loop needs no timer of its own.
@@ -181,26 +188,5 @@ impl<K: Key, T: Send> DueListener<K, T> {
     pub fn try_take_due(&mut self) -> Result<Due<K, T>, Error> {
         let found = self.member.taken_due_or_listens(self.timer.as_fd())?;
         Ok(self.member.shared.keyed(found))
-    }
-}
-
-impl<K, T> AsFd for DueListener<K, T> {
-    fn as_fd(&self) -> BorrowedFd<'_> {
-        self.timer.as_fd()
-    }
-}
-
-impl<K, T> AsRawFd for DueListener<K, T> {
-    fn as_raw_fd(&self) -> RawFd {
-        self.timer.as_raw_fd()
-    }
-}
-
-impl<K, T> fmt::Debug for DueListener<K, T> {
-    fn fmt(&self, f: &mut fmt::Formatter<'_>) -> fmt::Result {
-        f.debug_struct("DueListener")
-            .field("member", &self.member)
-            .field("timer", &self.timer)
-            .finish()
     }
 }

@@ -31,11 +31,7 @@ pub enum Keeping {
 #[derive(Clone, Copy, Debug, Default, PartialEq, Eq, Hash)]
 #[must_use]
 pub struct Options<S = ()> {
-    members: u32,
-    keeping: u32,
-    entries: u32,
-    most_items: u64,
-    tickets: bool,
+    raw: RawOptions,
     start: S,
 }
 
@@ -61,14 +57,8 @@ impl Options {
     /// # Ok::<(), flatpq::Error>(())
     /// ```
     pub fn times(self, start: Instant, unit: Duration) -> Options<(Instant, Duration)> {
-        Options {
-            members: self.members,
-            keeping: self.keeping,
-            entries: self.entries,
-            most_items: self.most_items,
-            tickets: self.tickets,
-            start: (start, unit),
-        }
+        let (raw, start) = (self.raw, (start, unit));
+        Options { raw, start }
     }
 
     /// Opens a queue. Where its keys are times, they are those that [`TimeKey`](crate::TimeKey) says.
@@ -90,7 +80,7 @@ impl Options<(Instant, Duration)> {
     ///
     /// # Errors
     ///
-    /// [`Error::BadOption`], [`Error::NoMemory`], [`Error::Forked`], [`Error::Processor`].
+    /// Those of any opening.
     pub fn open<K: TickKey, T: Send>(&self) -> Result<TaskQueue<K, T>, Error> {
         let (start, unit) = self.start;
         let times = Times::since(K::TIME_ZERO, start, unit);
@@ -100,22 +90,19 @@ impl Options<(Instant, Duration)> {
 
 impl<S> Options<S> {
     /// How many members there may be at once: 1 to 64; 0 is 64. More threads than that may call the queue itself.
-    pub fn members(self, members: u32) -> Options<S> {
-        Options { members, ..self }
+    pub fn members(mut self, members: u32) -> Options<S> {
+        self.raw.members = members;
+        self
     }
 
     /// What happens to the journal's older entries.
-    pub fn keeping(self, keeping: Keeping) -> Options<S> {
-        let (keeping, entries) = match keeping {
+    pub fn keeping(mut self, keeping: Keeping) -> Options<S> {
+        (self.raw.keeping, self.raw.entries) = match keeping {
             Keeping::Forgets(entries) => (0, entries),
             Keeping::Refuses(entries) => (1, entries),
             Keeping::Fills(entries) => (2, entries),
         };
-        Options {
-            keeping,
-            entries,
-            ..self
-        }
+        self
     }
 
     /// How many items the queue may have; 0, the default, is no bound. A push to a queue that has so many waits until a payload is taken out,
@@ -131,24 +118,22 @@ impl<S> Options<S> {
     /// assert_eq!((refused.error, refused.payload), (Error::Full, "six"));
     /// # Ok::<(), Error>(())
     /// ```
-    pub fn most_items(self, most_items: u64) -> Options<S> {
-        Options { most_items, ..self }
+    pub fn most_items(mut self, most_items: u64) -> Options<S> {
+        self.raw.most_items = most_items;
+        self
     }
 
     /// Whether payloads can be removed or moved by ticket ([`TaskQueue::remove`], [`TaskQueue::reschedule`]). Pushes and pops take longer then.
-    pub fn tickets(self, tickets: bool) -> Options<S> {
-        Options { tickets, ..self }
+    pub fn tickets(mut self, tickets: bool) -> Options<S> {
+        self.raw.tickets = tickets.into();
+        self
     }
 
     fn opened<K: Key, T: Send>(&self, times: Times) -> Result<TaskQueue<K, T>, Error> {
         let options = RawOptions {
-            members: self.members,
-            keeping: self.keeping,
-            entries: self.entries,
-            tickets: u32::from(self.tickets),
             time_zero: times.zero,
             time_unit: times.unit,
-            most_items: self.most_items,
+            ..self.raw
         };
         TaskQueue::opened(&options, times)
     }

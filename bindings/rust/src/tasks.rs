@@ -39,9 +39,7 @@ impl<T> Shared<T> {
             Due::Empty => Due::Empty,
         }
     }
-}
 
-impl<T> Shared<T> {
     /// Waits until the entry of this number is archived.
     pub fn wait_archived(&self, number: u64, until: u64) -> u32 {
         let wait = || self.queue.wait_archived(number, until);

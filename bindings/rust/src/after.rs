@@ -44,6 +44,14 @@ pub fn waiting<R>(call: impl FnOnce() -> R) -> R {
     during(ptr::null_mut(), call)
 }
 
+/// Makes a call that may wait until then.
+pub fn until<R>(until: u64, call: impl FnOnce() -> R) -> R {
+    match until {
+        0 => calling(call),
+        _ => waiting(call),
+    }
+}
+
 fn during<R>(after: *mut IfAny, call: impl FnOnce() -> R) -> R {
     /// What was set before, which is set again.
     struct Before(*mut IfAny);

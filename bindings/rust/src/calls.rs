@@ -65,10 +65,7 @@ impl<K: Key, T> Call<'_, K, T> {
         let (member, until) = (self.member, self.until);
         // SAFETY: the member is there, and in this call alone; the others are borrowed for it.
         let taken = || self.taken(|item, number| unsafe { call(member, item, until, number) });
-        match until {
-            0 => after::calling(taken),
-            _ => after::waiting(taken),
-        }
+        after::until(until, taken)
     }
 
     fn peeked(&self) -> Result<Option<Item>, Error> {
@@ -223,8 +220,7 @@ impl<K: Key, T: Send> Call<'_, K, T> {
         Ok(self.keyed(due))
     }
 
-    // After a take that found none until its deadline: the library returns the end of a shut queue then by a call that listens, and never
-    // waits.
+    // After a take that found none until its deadline: a call that listens, and never waits, returns the end of a shut queue.
     #[cold]
     fn sees_end(&self, priority: u64) -> Result<Due<u64, T>, Error> {
         /// A member that listens only during this call has nobody to wake.
@@ -492,15 +488,13 @@ macro_rules! takes {
             /// Those of [`Self::take`].
             ///
             /// ```
-            /// use flatpq::{Error, TaskQueue};
-            ///
-            /// let queue = TaskQueue::new()?;
+            /// let queue = flatpq::TaskQueue::new()?;
             /// assert_eq!(queue.try_take()?, None);
             /// queue.push(5, "five")?;
             /// queue.shut()?;
             /// assert_eq!(queue.try_take()?, Some((5, "five")));
-            /// assert_eq!(queue.try_take(), Err(Error::Shut));
-            /// # Ok::<(), Error>(())
+            /// assert_eq!(queue.try_take(), Err(flatpq::Error::Shut));
+            /// # Ok::<(), flatpq::Error>(())
             /// ```
             pub fn try_take(&$($mutable)? self) -> Result<Option<(K, T)>, Error> {
                 self.until(Until::NOW).take()

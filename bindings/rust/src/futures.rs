@@ -114,13 +114,9 @@ impl<K: Key, T: Send> TaskMember<K, T> {
     ///
     /// Those of [`TaskMember::take_async`].
     pub fn poll_take(&mut self, cx: &mut Context<'_>) -> Poll<Result<(K, T), Error>> {
-        match self.found_or_listens(u64::MAX, cx)? {
-            Due::Got(priority, payload) => {
-                let key = self.shared.times.key_of(priority);
-                Poll::Ready(Ok((key, payload)))
-            }
-            Due::Later(_) | Due::Empty => Poll::Pending,
-        }
+        let found = self.found_or_listens(u64::MAX, cx)?;
+        let taken = self.shared.keyed(found).got();
+        taken.map_or(Poll::Pending, |it| Poll::Ready(Ok(it)))
     }
 
     /// Takes the first payload out if its key is at most this one; else has the context's task woken by the next push, or when the queue is

@@ -55,9 +55,8 @@ pub trait Key: Copy {
 /// nanoseconds of `CLOCK_MONOTONIC`, mostly since the machine was started. Other keys are no times, and wait for none:
 ///
 /// ```compile_fail,E0277
-/// use std::time::Duration;
 /// let queue = flatpq::TaskQueue::new()?;
-/// queue.push(Duration::from_secs(1), "a delay, from when on?")?;
+/// queue.push(std::time::Duration::from_secs(1), "a delay, from when on?")?;
 /// queue.take_due()?;
 /// # Ok::<(), flatpq::Error>(())
 /// ```

@@ -42,11 +42,7 @@ impl<T> Shared<T> {
 
     /// Waits until the entry of this number is archived.
     pub fn wait_archived(&self, number: u64, until: u64) -> u32 {
-        let wait = || self.queue.wait_archived(number, until);
-        match until {
-            0 => after::calling(wait),
-            _ => after::waiting(wait),
-        }
+        after::until(until, || self.queue.wait_archived(number, until))
     }
 
     fn shut(&self) -> Result<(), Error> {
@@ -80,18 +76,6 @@ impl<T> Drop for Shared<T> {
 ///
 /// A queue whose type is not named has keys of the type of those that are pushed, which of bare numbers is `i32`.
 ///
-/// # Errors
-///
-/// Each call may return
-///
-/// - [`Error::JournalFull`] and [`Error::Unarchived`], where the queue was opened so ([`Options::keeping`]), and [`Error::Exhausted`];
-/// - [`Error::Pending`], by a member that has posted a request which has no answer yet;
-/// - [`Error::NoMemory`], by the queue itself, for its thread's member;
-/// - [`Error::TimedOut`], with a deadline: other threads had the lock, or all members, until then;
-/// - [`Error::Forked`], in a forked child of a process that has opened a queue.
-///
-/// # Examples
-///
 /// ```
 /// use flatpq::TaskQueue;
 /// use std::thread;
@@ -115,6 +99,16 @@ impl<T> Drop for Shared<T> {
 /// drop(text);
 /// # Ok::<(), flatpq::Error>(())
 /// ```
+///
+/// # Errors
+///
+/// Each call may return
+///
+/// - [`Error::JournalFull`] and [`Error::Unarchived`], where the queue was opened so ([`Options::keeping`]), and [`Error::Exhausted`];
+/// - [`Error::Pending`], by a member that has posted a request which has no answer yet;
+/// - [`Error::NoMemory`], by the queue itself, for its thread's member;
+/// - [`Error::TimedOut`], with a deadline: other threads had the lock, or all members, until then;
+/// - [`Error::Forked`], in a forked child of a process that has opened a queue.
 pub struct TaskQueue<K, T> {
     shared: Arc<Shared<T>>,
     keys: PhantomData<fn(K) -> K>,
@@ -185,13 +179,9 @@ impl<K: Key, T: Send> TaskQueue<K, T> {
     ///
     /// Those of [`TaskQueue::join`].
     pub fn join_until(&self, until: impl Into<Until>) -> Result<TaskMember<K, T>, Error> {
-        let join = |until| move || self.shared.queue.join(until);
-        let raw = match until.into().time() {
-            0 => after::calling(join(0)),
-            until => after::waiting(join(until)),
-        };
+        let until = until.into().time();
         Ok(TaskMember {
-            raw: raw?,
+            raw: after::until(until, || self.shared.queue.join(until))?,
             number: Cell::new(0),
             posted: Item::default(),
             slot: Arc::default(),

@@ -77,7 +77,7 @@ pub fn wake(waker: Waker) {
 }
 
 /// A panic ends here, and so does one of its own payload's drop.
-fn wake_caught(waker: Waker) {
+pub fn wake_caught(waker: Waker) {
     if let Err(panic) = catch_unwind(AssertUnwindSafe(|| waker.wake())) {
         mem::forget(panic);
     }

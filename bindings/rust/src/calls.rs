@@ -268,6 +268,7 @@ impl<K: Key, T: Send> Call<'_, K, T> {
         Error::unless_ok(after::calling(|| unsafe {
             raw::pq_archive(self.member, archived, self.until, &mut journal)
         }))?;
+        self.shared.archives.wake(archived);
         RawJournal::of(journal).map(Journal::new)
     }
 }

@@ -3,7 +3,7 @@ use crate::after;
 use crate::error::{Due, Error};
 use crate::key::{Key, TimeKey};
 use crate::raw::Notify;
-use crate::tasks::{TaskMember, TaskQueue};
+use crate::tasks::{Shared, TaskMember, TaskQueue};
 use std::future::Future;
 use std::os::raw::c_void;
 use std::pin::Pin;
@@ -37,6 +37,26 @@ impl Slot {
     /// What the library calls for this slot, and with what.
     fn notify(self: &Arc<Slot>) -> (Notify, *mut c_void) {
         (notified, Arc::as_ptr(self) as *mut c_void)
+    }
+}
+
+/// Those who wait until entries are archived, each by the number of its entry. Only calls of this crate archive.
+#[derive(Default)]
+pub struct Archives(Mutex<Vec<(u64, Arc<Slot>)>>);
+
+impl Archives {
+    fn lock(&self) -> MutexGuard<'_, Vec<(u64, Arc<Slot>)>> {
+        self.0.lock().unwrap_or_else(PoisonError::into_inner)
+    }
+
+    /// Wakes those whose entries are among the first so many.
+    pub fn wake(&self, archived: u64) {
+        let mut all = self.lock();
+        let (over, waiting): (Vec<_>, Vec<_>) = all.drain(..).partition(|it| it.0 <= archived);
+        *all = waiting;
+        drop(all);
+        let wakers = over.iter().filter_map(|it| it.1.take());
+        wakers.for_each(after::wake_caught);
     }
 }
 
@@ -207,6 +227,59 @@ impl<K: Key, T: Send> TaskQueue<K, T> {
         TakeDue::by(Taker::Queue(self, None), sleep)
     }
 }
+
+impl<K, T> TaskQueue<K, T> {
+    /// Waits by a future until an archive has counted the entry of this number as archived, as [`TaskQueue::wait_archived`] does. The archive
+    /// wakes, in its thread.
+    pub fn wait_archived_async(&self, number: u64) -> WaitArchived<'_, T> {
+        let (shared, slot) = (&*self.shared, Arc::default());
+        WaitArchived {
+            shared,
+            number,
+            slot,
+        }
+    }
+}
+
+/// A wait until an entry is archived, by [`TaskQueue::wait_archived_async`].
+#[must_use = "a future does nothing unless it is polled"]
+pub struct WaitArchived<'a, T> {
+    shared: &'a Shared<T>,
+    number: u64,
+    // It is in the list, too, from a poll until an archive wakes it.
+    slot: Arc<Slot>,
+}
+
+impl<T> Future for WaitArchived<'_, T> {
+    type Output = Result<(), Error>;
+
+    fn poll(self: Pin<&mut Self>, cx: &mut Context<'_>) -> Poll<Self::Output> {
+        let looks = || match Error::unless_ok(self.shared.wait_archived(self.number, 0)) {
+            Err(Error::TimedOut) => Poll::Pending,
+            done => Poll::Ready(done),
+        };
+        if looks().is_pending() {
+            self.slot.set(cx.waker());
+            if Arc::strong_count(&self.slot) == 1 {
+                let own = (self.number, Arc::clone(&self.slot));
+                self.shared.archives.lock().push(own);
+            }
+        }
+        // An archive that came before the waker was there is seen now.
+        looks()
+    }
+}
+
+impl<T> Drop for WaitArchived<'_, T> {
+    fn drop(&mut self) {
+        if Arc::strong_count(&self.slot) > 1 {
+            let is_other = |it: &(u64, Arc<Slot>)| !Arc::ptr_eq(&it.1, &self.slot);
+            self.shared.archives.lock().retain(is_other);
+        }
+    }
+}
+
+debug_by_name!(WaitArchived<'a, T>);
 
 /// By whom a future takes.
 enum Taker<'a, K, T> {

@@ -4,7 +4,7 @@ use crate::batches::Pushed;
 use crate::calls::{calls, found, takes, Call, Limited, Number};
 use crate::clock::{Times, Until};
 use crate::error::{Due, Error, NotAllPushed, NotClosed, NotPushed};
-use crate::futures::Slot;
+use crate::futures::{Archives, Slot};
 use crate::journal::{Item, Journal, TaskJournal};
 use crate::key::{Key, TimeKey};
 use crate::options::Options;
@@ -26,6 +26,7 @@ pub struct Shared<T> {
     pub is_bounded: bool,
     /// A shut has returned.
     pub is_shut: AtomicBool,
+    pub archives: Archives,
     // Payloads go from thread to thread, and none is used by two at once.
     payloads: PhantomData<Mutex<T>>,
 }
@@ -110,7 +111,7 @@ impl<T> Drop for Shared<T> {
 /// - [`Error::TimedOut`], with a deadline: other threads had the lock, or all members, until then;
 /// - [`Error::Forked`], in a forked child of a process that has opened a queue.
 pub struct TaskQueue<K, T> {
-    shared: Arc<Shared<T>>,
+    pub(crate) shared: Arc<Shared<T>>,
     keys: PhantomData<fn(K) -> K>,
 }
 
@@ -140,6 +141,7 @@ impl<K: Key, T: Send> TaskQueue<K, T> {
             times,
             is_bounded: options.most_items > 0,
             is_shut: AtomicBool::new(false),
+            archives: Archives::default(),
             payloads: PhantomData,
         };
         Ok(TaskQueue {

@@ -239,7 +239,7 @@ impl<K: Key, T: Send> Call<'_, K, T> {
             found
         });
         match found {
-            Err(Error::TimedOut) => Ok(Due::Empty),
+            Err(Error::TimedOut | Error::AllJoined) => Ok(Due::Empty),
             found => found,
         }
     }
@@ -471,8 +471,8 @@ macro_rules! calls {
 macro_rules! takes {
     ($Type:ident $($mutable:tt)?) => {
         impl<K: Key, T: Send> $Type<K, T> {
-            /// Waits for a payload, and takes the first one out, with its key. The thread keeps its member meanwhile. No thread that waits for a
-            /// payload has the last free member: a take that would get it waits for another, as a call does where all are in use.
+            /// Waits for a payload, and takes the first one out, with its key. The thread keeps its member meanwhile. By the queue itself a take
+            /// that would get the last free member waits for another one, as a call does where all are in use.
             ///
             /// # Errors
             ///

@@ -84,7 +84,8 @@ impl<K: Key, T: Send> TaskMember<K, T> {
     ///
     /// # Errors
     ///
-    /// Those of [`TaskMember::take`], and [`Error::NoMemory`] where that thread can't start.
+    /// Those of [`TaskMember::take`], [`Error::NoMemory`] where that thread can't start, and [`Error::AllJoined`] where the members of all others
+    /// wait for payloads: calls need the last one.
     ///
     /// ```
     /// use std::future::Future;
@@ -207,8 +208,8 @@ impl<K: Key, T: Send> TaskQueue<K, T> {
     ///
     /// # Errors
     ///
-    /// Those of [`TaskMember::take_async`], and [`Error::AllJoined`], also where only one member is left, which calls need. So at most one future
-    /// less than members waits at once: a program with more tasks that wait has some take for the others.
+    /// Those of [`TaskMember::take_async`], and [`Error::AllJoined`] where no member is left. So one future less than members waits at once: a
+    /// program with more tasks that wait has some take for the others.
     pub fn take_async(&self) -> Take<'_, K, T> {
         Take(Taker::Queue(self, None))
     }

@@ -55,8 +55,7 @@ impl<K: Key, T: Send> TaskQueue<K, T> {
     ///
     /// # Errors
     ///
-    /// Those of [`TaskQueue::join`], [`Error::AllJoined`] also where only one member is left, which calls need, and where there is no descriptor
-    /// left.
+    /// Those of [`TaskQueue::join`], and where there is no descriptor left.
     pub fn listener(&self) -> io::Result<Listener<K, T>> {
         let member = self.join()?;
         // SAFETY: the call makes a descriptor.
@@ -87,7 +86,7 @@ impl<K: Key, T: Send> Listener<K, T> {
     ///
     /// # Errors
     ///
-    /// Those of [`TaskMember::take`].
+    /// Those of [`TaskMember::take`], and [`Error::AllJoined`] where the members of all others wait for payloads: calls need the last one.
     pub fn try_take(&mut self) -> Result<Option<(K, T)>, Error> {
         let found = self.found(u64::MAX)?;
         Ok(self.member.shared.keyed(found).got())
@@ -98,7 +97,7 @@ impl<K: Key, T: Send> Listener<K, T> {
     ///
     /// # Errors
     ///
-    /// Those of [`TaskMember::take`].
+    /// Those of [`Listener::try_take`].
     pub fn pop_due(&mut self, key: K) -> Result<Due<K, T>, Error> {
         let found = self.found(self.member.shared.times.priority_of(key))?;
         Ok(self.member.shared.keyed(found))
@@ -184,7 +183,7 @@ impl<K: Key, T: Send> DueListener<K, T> {
     ///
     /// # Errors
     ///
-    /// Those of [`TaskMember::take_due`].
+    /// Those of [`Listener::try_take`].
     pub fn try_take_due(&mut self) -> Result<Due<K, T>, Error> {
         let found = self.member.taken_due_or_listens(self.timer.as_fd())?;
         Ok(self.member.shared.keyed(found))

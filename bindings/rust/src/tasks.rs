@@ -166,7 +166,7 @@ impl<K: Key, T: Send> TaskQueue<K, T> {
         })
     }
 
-    /// Joins the queue, if a member is left, or an idle one that it takes over.
+    /// Joins the queue, if a member is left, or an idle one that it takes over. Leave one for calls by the queue itself, which else wait.
     ///
     /// # Errors
     ///

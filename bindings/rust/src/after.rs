@@ -76,11 +76,13 @@ pub fn wake(waker: Waker) {
     after.get_or_insert_with(Box::default).wakers.push(waker);
 }
 
-/// A panic ends here, and so does one of its own payload's drop.
+/// A panic ends here, and so does that of its payload's drop, and of that one's.
 pub fn wake_caught(waker: Waker) {
-    if let Err(panic) = catch_unwind(AssertUnwindSafe(|| waker.wake())) {
-        mem::forget(panic);
+    let mut panic = catch_unwind(AssertUnwindSafe(|| waker.wake())).err();
+    for _ in 0..2 {
+        panic = panic.and_then(|it| catch_unwind(AssertUnwindSafe(|| drop(it))).err());
     }
+    mem::forget(panic);
 }
 
 /// Where wakers go that can't run in their own thread: one that waits in the library for an item, or one of C or C++. They may call the

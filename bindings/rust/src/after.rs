@@ -92,8 +92,9 @@ static WAKERS: Mutex<Option<Sender<Waker>>> = Mutex::new(None);
 /// Whether that thread has started.
 static IS_STARTED: AtomicBool = AtomicBool::new(false);
 
-fn wakers() -> MutexGuard<'static, Option<Sender<Waker>>> {
-    WAKERS.lock().unwrap_or_else(PoisonError::into_inner)
+/// Locks what no panic leaves half done.
+pub fn locked<T>(mutex: &Mutex<T>) -> MutexGuard<'_, T> {
+    mutex.lock().unwrap_or_else(PoisonError::into_inner)
 }
 
 /// Starts the thread that runs such wakers, before the first member listens: whether there is one.
@@ -103,7 +104,7 @@ pub fn has_thread() -> bool {
 
 #[cold]
 fn start() -> bool {
-    let mut sender = wakers();
+    let mut sender = locked(&WAKERS);
     if sender.is_none() {
         *sender = start_waking().ok();
         IS_STARTED.store(sender.is_some(), Ordering::Release);
@@ -121,7 +122,7 @@ fn start_waking() -> io::Result<Sender<Waker>> {
 #[cold]
 fn hand_over(waker: Waker) {
     // The thread is there since a member listens, and never ends.
-    if let Some(sender) = &*wakers() {
+    if let Some(sender) = &*locked(&WAKERS) {
         let _ = sender.send(waker);
     }
 }

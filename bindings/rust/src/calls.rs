@@ -501,8 +501,7 @@ macro_rules! takes {
                 self.until(Until::NOW).take()
             }
 
-            /// Waits until the first payload is due, also in a shut queue, and takes it out, with its key. The thread keeps its member as in
-            /// [`Self::take`].
+            /// Waits until the first payload is due, also in a shut queue, and takes it out, with its key. It waits as [`Self::take`] does.
             ///
             /// # Errors
             ///

@@ -1,13 +1,16 @@
 //! Takes that wait without a thread: by a waker, on any executor.
-use crate::after;
+use crate::after::{self, locked};
 use crate::error::{Due, Error};
 use crate::key::{Key, TimeKey};
 use crate::raw::Notify;
 use crate::tasks::{Shared, TaskMember, TaskQueue};
+use std::collections::BTreeMap;
 use std::future::Future;
+use std::mem;
 use std::os::raw::c_void;
 use std::pin::Pin;
-use std::sync::{Arc, Mutex, MutexGuard, PoisonError};
+use std::sync::atomic::{AtomicU64, Ordering};
+use std::sync::{Arc, Mutex};
 use std::task::{Context, Poll, Waker};
 use std::time::Instant;
 
@@ -16,20 +19,16 @@ use std::time::Instant;
 pub struct Slot(Mutex<Option<Waker>>);
 
 impl Slot {
-    fn lock(&self) -> MutexGuard<'_, Option<Waker>> {
-        self.0.lock().unwrap_or_else(PoisonError::into_inner)
-    }
-
     /// Takes the waker out, if one is left.
     pub fn take(&self) -> Option<Waker> {
-        self.lock().take()
+        locked(&self.0).take()
     }
 
     fn set(&self, waker: &Waker) {
         let is_same = |own: &Waker| own.will_wake(waker);
-        if !self.lock().as_ref().map_or(false, is_same) {
+        if !locked(&self.0).as_ref().map_or(false, is_same) {
             let waker = waker.clone();
-            let before = self.lock().replace(waker);
+            let before = locked(&self.0).replace(waker);
             drop(before);
         }
     }
@@ -40,23 +39,19 @@ impl Slot {
     }
 }
 
-/// Those who wait until entries are archived, each by the number of its entry. Only calls of this crate archive.
+/// The wakers of those who wait until entries are archived, each by the number of its entry and one of its own. Only calls of this crate
+/// archive.
 #[derive(Default)]
-pub struct Archives(Mutex<Vec<(u64, Arc<Slot>)>>);
+pub struct Archives(Mutex<BTreeMap<(u64, u64), Waker>>, AtomicU64);
 
 impl Archives {
-    fn lock(&self) -> MutexGuard<'_, Vec<(u64, Arc<Slot>)>> {
-        self.0.lock().unwrap_or_else(PoisonError::into_inner)
-    }
-
     /// Wakes those whose entries are among the first so many.
     pub fn wake(&self, archived: u64) {
-        let mut all = self.lock();
-        let (over, waiting): (Vec<_>, Vec<_>) = all.drain(..).partition(|it| it.0 <= archived);
-        *all = waiting;
+        let mut all = locked(&self.0);
+        let waiting = all.split_off(&(archived, u64::MAX));
+        let over = mem::replace(&mut *all, waiting);
         drop(all);
-        let wakers = over.iter().filter_map(|it| it.1.take());
-        wakers.for_each(after::wake_caught);
+        over.into_values().for_each(after::wake_caught);
     }
 }
 
@@ -233,38 +228,28 @@ impl<K, T> TaskQueue<K, T> {
     /// Waits by a future until an archive has counted the entry of this number as archived, as [`TaskQueue::wait_archived`] does. The archive
     /// wakes, in its thread.
     pub fn wait_archived_async(&self, number: u64) -> WaitArchived<'_, T> {
-        let (shared, slot) = (&*self.shared, Arc::default());
-        WaitArchived {
-            shared,
-            number,
-            slot,
-        }
+        let own = self.shared.archives.1.fetch_add(1, Ordering::Relaxed);
+        WaitArchived(&self.shared, (number, own))
     }
 }
 
 /// A wait until an entry is archived, by [`TaskQueue::wait_archived_async`].
 #[must_use = "a future does nothing unless it is polled"]
-pub struct WaitArchived<'a, T> {
-    shared: &'a Shared<T>,
-    number: u64,
-    // It is in the list, too, from a poll until an archive wakes it.
-    slot: Arc<Slot>,
-}
+pub struct WaitArchived<'a, T>(&'a Shared<T>, (u64, u64));
 
 impl<T> Future for WaitArchived<'_, T> {
     type Output = Result<(), Error>;
 
     fn poll(self: Pin<&mut Self>, cx: &mut Context<'_>) -> Poll<Self::Output> {
-        let looks = || match Error::unless_ok(self.shared.wait_archived(self.number, 0)) {
+        let WaitArchived(shared, own) = *self;
+        let looks = || match Error::unless_ok(shared.wait_archived(own.0, 0)) {
             Err(Error::TimedOut) => Poll::Pending,
             done => Poll::Ready(done),
         };
         if looks().is_pending() {
-            self.slot.set(cx.waker());
-            if Arc::strong_count(&self.slot) == 1 {
-                let own = (self.number, Arc::clone(&self.slot));
-                self.shared.archives.lock().push(own);
-            }
+            let waker = cx.waker().clone();
+            let before = locked(&shared.archives.0).insert(own, waker);
+            drop(before);
         }
         // An archive that came before the waker was there is seen now.
         looks()
@@ -273,10 +258,8 @@ impl<T> Future for WaitArchived<'_, T> {
 
 impl<T> Drop for WaitArchived<'_, T> {
     fn drop(&mut self) {
-        if Arc::strong_count(&self.slot) > 1 {
-            let is_other = |it: &(u64, Arc<Slot>)| !Arc::ptr_eq(&it.1, &self.slot);
-            self.shared.archives.lock().retain(is_other);
-        }
+        let waker = locked(&self.0.archives.0).remove(&self.1);
+        drop(waker);
     }
 }
 

@@ -175,6 +175,7 @@ impl Journal {
     }
 
     /// All entries, the first first.
+    #[must_use]
     pub fn iter(&self) -> Iter<'_> {
         let (journal, next) = (self, 0);
         Iter { journal, next }

@@ -67,10 +67,9 @@ pub trait TimeKey: Key {}
 ///
 /// ```compile_fail,E0277
 /// use flatpq::{Options, TaskQueue};
-/// use std::cmp::Reverse;
 /// use std::time::{Duration, Instant};
 /// let options = Options::new().times(Instant::now(), Duration::from_millis(1));
-/// let queue: TaskQueue<Reverse<u32>, &str> = options.open()?;
+/// let queue: TaskQueue<std::cmp::Reverse<u32>, &str> = options.open()?;
 /// # Ok::<(), flatpq::Error>(())
 /// ```
 pub trait TickKey: TimeKey {}
@@ -101,8 +100,7 @@ macro_rules! integers {
             }
 
             fn from_number(number: u64) -> Self {
-                let key = Self::new(<$Number>::from_number(number));
-                key.or(Self::new(1)).expect("1 is not 0")
+                Self::new(<$Number>::from_number(number)).or(Self::new(1)).expect("1 is not 0")
             }
         }
     )*};

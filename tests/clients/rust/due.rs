@@ -13,7 +13,7 @@ fn timed<K: TickKey>(start: Instant) -> TaskQueue<K, u32> {
 
 /// These keys are 20, 0 and 10 units after the start, and one that is an hour later.
 fn come_in_time<K: TickKey + PartialEq + std::fmt::Debug>(keys: [K; 4]) {
-    let start = Instant::now() + 200 * UNIT;
+    let start = Instant::now() + 1000 * UNIT;
     let queue = timed(start);
     let [twenty, zero, ten, late] = keys;
     queue.push(late, 9).unwrap();

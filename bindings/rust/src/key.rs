@@ -7,7 +7,7 @@ use std::time::{Duration, Instant};
 /// By what a [`TaskQueue`](crate::TaskQueue) orders its payloads: the smallest key comes out first. The queue orders the numbers of keys,
 /// and gives back the key of a number.
 ///
-/// Integers of at most 64 bits are keys, also those that are not zero, pairs of `u32`, `bool`, `char`, `f32` and `f64`, [`Duration`] and
+/// Integers of at most 64 bits are keys, `NonZeroU32` and the like, pairs of `u32`, `bool`, `char`, `f32` and `f64`, [`Duration`] and
 /// [`Instant`], and [`Reverse`] of each, whose largest comes out first. Those that are times are [`TimeKey`]s. A type of the program's own
 /// is a key by two functions that undo each other:
 ///
@@ -52,7 +52,7 @@ pub trait Key: Copy {
 /// Keys that are times, at which payloads are due: [`TaskQueue::take_due`](crate::TaskQueue::take_due).
 ///
 /// An [`Instant`] is a moment. An integer counts from the start that [`Options::times`](crate::Options::times) gives, and without one
-/// nanoseconds of `CLOCK_MONOTONIC`, mostly since the machine was started. Other keys are no times, and wait for none:
+/// nanoseconds of `CLOCK_MONOTONIC`, mostly since the machine was started. Other keys are no times:
 ///
 /// ```compile_fail,E0277
 /// let queue = flatpq::TaskQueue::new()?;

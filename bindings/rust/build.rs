@@ -1,26 +1,46 @@
-//! Names the library to the linker. The first of these that is there:
+//! Names the library to the linker: the archive `libflatpq.a` in the first of these that there is,
 //!
-//! - `libflatpq.a` in the folder that `FLATPQ_LIB_DIR` names;
-//! - what `pkg-config` knows as `flatpq`, where its version goes with this crate;
-//! - `libflatpq.a` in `lib/` of this crate, where a package has it, or in `out/` at the top of the sources, where they build it.
+//! - the folder that `FLATPQ_LIB_DIR` names;
+//! - `lib/` of this crate, where a package has it;
+//! - `out/` at the top of the sources, where they build it;
+//! - the folder that `pkg-config` knows of `flatpq`.
+//!
+//! Where `FLATPQ_DYNAMIC` is 1 it names the shared library that `pkg-config` knows.
 use std::env;
 use std::path::{Path, PathBuf};
 use std::process::Command;
 
 fn main() {
-    println!("cargo:rerun-if-env-changed=FLATPQ_LIB_DIR");
-    println!("cargo:rerun-if-env-changed=PKG_CONFIG_PATH");
-    if let Some(folder) = env::var_os("FLATPQ_LIB_DIR") {
-        link_archive(Path::new(&folder));
-    } else if let Some(folder) = by_pkg_config() {
-        println!("cargo:rustc-link-search=native={folder}");
-        println!("cargo:rustc-link-lib=dylib=flatpq");
-    } else {
-        link_archive(&beside_the_sources());
+    for name in ["FLATPQ_LIB_DIR", "FLATPQ_DYNAMIC", "PKG_CONFIG_PATH"] {
+        println!("cargo:rerun-if-env-changed={name}");
     }
+    let kind = match env::var_os("FLATPQ_DYNAMIC") {
+        Some(is_so) if is_so == "1" => "dylib",
+        _ => "static",
+    };
+    let folder = match kind {
+        "dylib" => {
+            installed().expect("FLATPQ_DYNAMIC needs a flatpq of this version in pkg-config")
+        }
+        _ => archive(),
+    };
+    println!("cargo:rustc-link-search=native={}", folder.display());
+    println!("cargo:rustc-link-lib={kind}=flatpq");
 }
 
-fn link_archive(folder: &Path) {
+/// The folder of the archive.
+fn archive() -> PathBuf {
+    let own = env::var_os("CARGO_MANIFEST_DIR").expect("cargo sets CARGO_MANIFEST_DIR");
+    let own = Path::new(&own);
+    let has_archive = |folder: &PathBuf| folder.join("libflatpq.a").is_file();
+    let named = env::var_os("FLATPQ_LIB_DIR").map(PathBuf::from);
+    let folder = named.unwrap_or_else(|| {
+        let beside = [own.join("lib"), own.join("../../out")];
+        let there = beside.into_iter().find(has_archive);
+        there
+            .or_else(installed)
+            .unwrap_or_else(|| own.join("../../out"))
+    });
     let archive = folder.join("libflatpq.a");
     println!("cargo:rerun-if-changed={}", archive.display());
     if !archive.is_file() {
@@ -29,8 +49,7 @@ fn link_archive(folder: &Path) {
             archive.display()
         );
     }
-    println!("cargo:rustc-link-search=native={}", folder.display());
-    println!("cargo:rustc-link-lib=static=flatpq");
+    folder
 }
 
 /// What `pkg-config` has of `flatpq` by this word, if it is there and has it.
@@ -42,30 +61,18 @@ fn asked(word: &str) -> Option<String> {
 }
 
 /// The folder of an installed library whose major and minor numbers are this crate's.
-fn by_pkg_config() -> Option<String> {
+fn installed() -> Option<PathBuf> {
     let number = |name| env::var(name).expect("cargo sets the version of the crate");
     let own = [
         number("CARGO_PKG_VERSION_MAJOR"),
         number("CARGO_PKG_VERSION_MINOR"),
     ];
     let version = asked("--modversion")?;
-    if !version
-        .split('.')
-        .take(2)
-        .eq(own.iter().map(String::as_str))
-    {
+    let is_own = version.split('.').take(2).eq(own);
+    // That of the machine which builds is none of another one.
+    if !is_own || env::var("HOST") != env::var("TARGET") {
         return None;
     }
     // A space is escaped there.
-    asked("--variable=libdir").map(|folder| folder.replace('\\', ""))
-}
-
-fn beside_the_sources() -> PathBuf {
-    let set = env::var_os("CARGO_MANIFEST_DIR").expect("cargo sets CARGO_MANIFEST_DIR");
-    let packed = Path::new(&set).join("lib");
-    if packed.is_dir() {
-        packed
-    } else {
-        Path::new(&set).join("../../out")
-    }
+    asked("--variable=libdir").map(|folder| folder.replace('\\', "").into())
 }

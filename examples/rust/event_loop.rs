@@ -11,7 +11,7 @@ use std::task::{Context, Poll, Wake};
 use std::time::{Duration, Instant};
 use std::{io, thread};
 
-type Timers = TaskQueue<String, Instant>;
+type Timers = TaskQueue<Instant, String>;
 
 #[repr(C)]
 struct Polled {
@@ -105,7 +105,7 @@ fn show(moment: Instant, text: &str) {
 async fn run(timers: &Timers) -> io::Result<()> {
     let mut ready = AsyncFd::new(timers.due_listener()?)?;
     loop {
-        match ready.get_mut().take_due() {
+        match ready.get_mut().try_take_due() {
             Ok(Due::Got(moment, text)) => show(moment, &text),
             Ok(_) => ready.readable_mut().await?.clear_ready(),
             Err(Error::Shut) => return Ok(()),

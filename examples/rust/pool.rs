@@ -8,7 +8,7 @@ use std::time::Duration;
 
 type Job = Box<dyn FnOnce() + Send>;
 
-fn work(jobs: &TaskQueue<Job>) -> Result<(), Error> {
+fn work(jobs: &TaskQueue<u64, Job>) -> Result<(), Error> {
     while let Some((_, job)) = jobs.until(Duration::from_millis(20)).take()? {
         job();
     }

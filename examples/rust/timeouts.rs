@@ -5,7 +5,7 @@ use std::collections::HashMap;
 use std::thread;
 use std::time::{Duration, Instant};
 
-type Timeouts = TaskQueue<&'static str, Instant>;
+type Timeouts = TaskQueue<Instant, &'static str>;
 
 /// What was sent: the tickets of the timeouts, and how long each request may take.
 struct Requests<'a> {

@@ -8,7 +8,7 @@ use std::time::{Duration, Instant};
 type Timer = Box<dyn FnOnce(&Service) + Send>;
 
 struct Service {
-    timers: TaskQueue<Timer, Instant>,
+    timers: TaskQueue<Instant, Timer>,
     start: Instant,
     /// What was called, and for when that was due.
     called: Mutex<Vec<(Duration, &'static str)>>,

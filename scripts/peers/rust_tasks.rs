@@ -52,7 +52,7 @@ trait Tasks {
     fn pop(&mut self) -> Option<Closure>;
 }
 
-impl Tasks for TaskMember<Closure> {
+impl Tasks for TaskMember<u64, Closure> {
     fn push(&mut self, priority: u64, closure: Closure) {
         TaskMember::push(self, priority, closure).expect("the queue takes all");
     }

@@ -6,7 +6,6 @@ use std::sync::atomic::{AtomicBool, Ordering};
 use std::sync::mpsc::{channel, Sender};
 use std::sync::{Mutex, MutexGuard, PoisonError};
 use std::task::Waker;
-use std::vec::IntoIter;
 use std::{io, mem, ptr, thread};
 
 /// What is run after a call.
@@ -34,14 +33,23 @@ pub fn calling<R>(call: impl FnOnce() -> R) -> R {
     result
 }
 
+/// A waker that panics is not the call's fault, which has an answer for its caller.
 #[cold]
 fn run(after: After) {
-    wake_all(after.wakers);
+    after.wakers.into_iter().for_each(wake_caught);
 }
 
 /// Makes a call that may wait for long: wakers run in another thread meanwhile.
 pub fn waiting<R>(call: impl FnOnce() -> R) -> R {
     during(ptr::null_mut(), call)
+}
+
+/// Makes a call that may wait until then.
+pub fn until<R>(until: u64, call: impl FnOnce() -> R) -> R {
+    match until {
+        0 => calling(call),
+        _ => waiting(call),
+    }
 }
 
 fn during<R>(after: *mut IfAny, call: impl FnOnce() -> R) -> R {
@@ -68,23 +76,13 @@ pub fn wake(waker: Waker) {
     after.get_or_insert_with(Box::default).wakers.push(waker);
 }
 
-/// Wakes all, though one panics.
-fn wake_all(wakers: Vec<Waker>) {
-    struct Rest(IntoIter<Waker>);
-    impl Drop for Rest {
-        fn drop(&mut self) {
-            (&mut self.0).for_each(Waker::wake);
-        }
+/// A panic ends here, and so does that of its payload's drop, and of that one's.
+pub fn wake_caught(waker: Waker) {
+    let mut panic = catch_unwind(AssertUnwindSafe(|| waker.wake())).err();
+    for _ in 0..2 {
+        panic = panic.and_then(|it| catch_unwind(AssertUnwindSafe(|| drop(it))).err());
     }
-    let mut rest = Rest(wakers.into_iter());
-    (&mut rest.0).for_each(Waker::wake);
-}
-
-/// Runs code of the user's. A panic does not go through the library, nor does one of its own payload's drop.
-fn run_caught(code: impl FnOnce()) {
-    if let Err(panic) = catch_unwind(AssertUnwindSafe(code)) {
-        mem::forget(panic);
-    }
+    mem::forget(panic);
 }
 
 /// Where wakers go that can't run in their own thread: one that waits in the library for an item, or one of C or C++. They may call the
@@ -94,8 +92,9 @@ static WAKERS: Mutex<Option<Sender<Waker>>> = Mutex::new(None);
 /// Whether that thread has started.
 static IS_STARTED: AtomicBool = AtomicBool::new(false);
 
-fn wakers() -> MutexGuard<'static, Option<Sender<Waker>>> {
-    WAKERS.lock().unwrap_or_else(PoisonError::into_inner)
+/// Locks what no panic leaves half done.
+pub fn locked<T>(mutex: &Mutex<T>) -> MutexGuard<'_, T> {
+    mutex.lock().unwrap_or_else(PoisonError::into_inner)
 }
 
 /// Starts the thread that runs such wakers, before the first member listens: whether there is one.
@@ -105,7 +104,7 @@ pub fn has_thread() -> bool {
 
 #[cold]
 fn start() -> bool {
-    let mut sender = wakers();
+    let mut sender = locked(&WAKERS);
     if sender.is_none() {
         *sender = start_waking().ok();
         IS_STARTED.store(sender.is_some(), Ordering::Release);
@@ -115,11 +114,7 @@ fn start() -> bool {
 
 fn start_waking() -> io::Result<Sender<Waker>> {
     let (sender, wakers) = channel::<Waker>();
-    let wake_each = move || {
-        wakers
-            .into_iter()
-            .for_each(|waker| run_caught(|| waker.wake()))
-    };
+    let wake_each = move || wakers.into_iter().for_each(wake_caught);
     let thread = thread::Builder::new().name("flatpq wakers".to_string());
     thread.spawn(wake_each).map(|_| sender)
 }
@@ -127,7 +122,7 @@ fn start_waking() -> io::Result<Sender<Waker>> {
 #[cold]
 fn hand_over(waker: Waker) {
     // The thread is there since a member listens, and never ends.
-    if let Some(sender) = &*wakers() {
+    if let Some(sender) = &*locked(&WAKERS) {
         let _ = sender.send(waker);
     }
 }

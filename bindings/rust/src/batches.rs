@@ -8,6 +8,10 @@ use crate::payload::{self, payload_of, value_of};
 use crate::raw;
 use std::iter;
 use std::marker::PhantomData;
+use std::mem::size_of;
+
+/// A batch of pops first asks for memory for so many bytes of payloads, or for one payload, and then for as many again.
+const PART: usize = 1 << 16;
 
 /// What a batch of pushes put in.
 #[derive(Clone, Copy, Debug, Default, PartialEq, Eq)]
@@ -50,7 +54,7 @@ impl<T> Drop for Batch<T> {
     }
 }
 
-impl<T: Send, K: Key> Call<'_, T, K> {
+impl<K: Key, T: Send> Call<'_, K, T> {
     pub fn push_many(
         &self,
         payloads: impl IntoIterator<Item = (K, T)>,
@@ -79,7 +83,7 @@ impl<T: Send, K: Key> Call<'_, T, K> {
         self.has_number(pushed.number);
         let rest = refused.is_some().then_some(payloads);
         result.map(|()| pushed).map_err(|error| NotAllPushed {
-            payload: keys
+            payloads: keys
                 .drain(pushed.count..)
                 .zip(batch.back())
                 .chain(refused)
@@ -115,9 +119,10 @@ impl<T: Send, K: Key> Call<'_, T, K> {
     pub fn pop_due_many(&self, key: K, most: usize) -> Result<Vec<(K, T)>, Error> {
         let priority = self.shared.times.priority_of(key);
         let mut taken = Vec::new();
+        // There may be no memory for as many as the program would take.
+        let part = (PART / size_of::<T>().max(64)).max(1);
         loop {
-            // There may be no memory for as many as the program would take.
-            let (before, room) = (taken.len(), (most - taken.len()).min(1024));
+            let (before, room) = (taken.len(), (most - taken.len()).min(part));
             match self.takes_many(&mut taken, room, priority) {
                 Err(error) if before == 0 => return Err(error),
                 Ok(()) if taken.len() == before + room && taken.len() < most => (),

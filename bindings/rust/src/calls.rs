@@ -3,14 +3,16 @@ use crate::after;
 use crate::batches::Pushed;
 use crate::error::{Due, Error, NotAllPushed, NotPushed};
 use crate::journal::{Item, Journal};
-use crate::key::Key;
+use crate::key::{Key, TimeKey};
 use crate::payload::{payload_of, value_of};
 use crate::raw::{self, First, MemberInside, RawJournal};
 use crate::tasks::Shared;
 use std::cell::Cell;
 use std::fmt;
 use std::marker::PhantomData;
+use std::os::raw::c_void;
 use std::ptr;
+use std::sync::atomic::Ordering;
 
 /// Integers of at most 64 bits, as payloads: a queue of them is a [`Queue`](crate::Queue).
 pub trait Number: Copy + Send + sealed::Sealed {}
@@ -29,7 +31,7 @@ macro_rules! numbers {
 numbers!(u8, u16, u32, u64, usize, i8, i16, i32, i64, isize);
 
 /// Calls by a member, or by the calling thread's own, until a time.
-pub struct Call<'a, T, K> {
+pub struct Call<'a, K, T> {
     pub member: *mut MemberInside,
     pub until: u64,
     pub shared: &'a Shared<T>,
@@ -38,9 +40,9 @@ pub struct Call<'a, T, K> {
     pub keys: PhantomData<fn(K) -> K>,
 }
 
-impl<T, K: Key> Call<'_, T, K> {
+impl<K: Key, T> Call<'_, K, T> {
     // Makes a call for the first item, which takes it out.
-    fn taken(&self, call: impl FnOnce(&mut Item, &mut u64) -> u32) -> Result<Due<T>, Error> {
+    fn taken(&self, call: impl FnOnce(&mut Item, &mut u64) -> u32) -> Result<Due<u64, T>, Error> {
         let (mut item, mut number) = (Item::default(), 0);
         let code = call(&mut item, &mut number);
         self.has_number(number);
@@ -54,19 +56,16 @@ impl<T, K: Key> Call<'_, T, K> {
         }
     }
 
-    fn keyed(&self, found: Due<T>) -> Due<T, K> {
+    fn keyed(&self, found: Due<u64, T>) -> Due<K, T> {
         self.shared.keyed(found)
     }
 
     // A call that may wait for an item.
-    fn waits(&self, call: First) -> Result<Due<T>, Error> {
+    fn waits(&self, call: First) -> Result<Due<u64, T>, Error> {
         let (member, until) = (self.member, self.until);
         // SAFETY: the member is there, and in this call alone; the others are borrowed for it.
         let taken = || self.taken(|item, number| unsafe { call(member, item, until, number) });
-        match until {
-            0 => after::calling(taken),
-            _ => after::waiting(taken),
-        }
+        after::until(until, taken)
     }
 
     fn peeked(&self) -> Result<Option<Item>, Error> {
@@ -83,7 +82,7 @@ impl<T, K: Key> Call<'_, T, K> {
     }
 
     // Takes the first payload out where its priority is at most this one.
-    pub(crate) fn pop_up_to(&self, priority: u64) -> Result<Due<T, K>, Error> {
+    pub(crate) fn pop_up_to(&self, priority: u64) -> Result<Due<K, T>, Error> {
         let (member, until) = (self.member, self.until);
         let found = after::calling(|| {
             // SAFETY: as above.
@@ -100,7 +99,7 @@ impl<T, K: Key> Call<'_, T, K> {
 /// # Safety
 ///
 /// The code is that of a call that takes items out of a queue of such payloads, and this the one time that the payload is taken out.
-pub unsafe fn found<T>(code: u32, item: Item) -> Result<Due<T>, Error> {
+pub unsafe fn found<T>(code: u32, item: Item) -> Result<Due<u64, T>, Error> {
     match code {
         // SAFETY: all values of the queue are such payloads, and the call took this one out.
         raw::OK => Ok(Due::Got(item.priority, unsafe { payload_of(item.value) })),
@@ -110,7 +109,7 @@ pub unsafe fn found<T>(code: u32, item: Item) -> Result<Due<T>, Error> {
     }
 }
 
-impl<T: Send, K: Key> Call<'_, T, K> {
+impl<K: Key, T: Send> Call<'_, K, T> {
     pub fn push(&self, key: K, payload: T) -> Result<u64, NotPushed<T>> {
         let priority = self.shared.times.priority_of(key);
         match self.shared.is_bounded {
@@ -201,19 +200,48 @@ impl<T: Send, K: Key> Call<'_, T, K> {
         Ok(first.map(|it| self.shared.times.key_of(it.priority)))
     }
 
-    pub fn pop_due(&self, key: K) -> Result<Due<T, K>, Error> {
+    pub fn pop_due(&self, key: K) -> Result<Due<K, T>, Error> {
         self.pop_up_to(self.shared.times.priority_of(key))
     }
 
     pub fn take(&self) -> Result<Option<(K, T)>, Error> {
         match self.waits(raw::pq_take) {
             Err(Error::TimedOut) => Ok(None),
+            Ok(Due::Empty) => Ok(self.keyed(self.sees_end(u64::MAX)?).got()),
             taken => Ok(self.keyed(taken?).got()),
         }
     }
 
-    pub fn take_due(&self) -> Result<Due<T, K>, Error> {
-        Ok(self.keyed(self.waits(raw::pq_take_due)?))
+    pub fn take_due(&self) -> Result<Due<K, T>, Error> {
+        let due = match self.waits(raw::pq_take_due)? {
+            Due::Empty => self.sees_end(self.shared.times.due_now())?,
+            due => due,
+        };
+        Ok(self.keyed(due))
+    }
+
+    // After a take that found none until its deadline: a call that listens, and never waits, returns the end of a shut queue.
+    #[cold]
+    fn sees_end(&self, priority: u64) -> Result<Due<u64, T>, Error> {
+        /// A member that listens only during this call has nobody to wake.
+        unsafe extern "C" fn nobody(_: *mut c_void) {}
+        let (member, context) = (self.member, ptr::null_mut());
+        if !self.shared.is_shut.load(Ordering::Acquire) {
+            return Ok(Due::Empty);
+        }
+        let found = after::calling(|| {
+            // SAFETY: as of `waits`; the context is not used.
+            let found = self.taken(|item, number| unsafe {
+                raw::pq_take_or_listen(member, priority, item, number, nobody, context)
+            });
+            // SAFETY: the member is there, and in this call alone.
+            unsafe { raw::pq_unlisten(member) };
+            found
+        });
+        match found {
+            Err(Error::TimedOut | Error::AllJoined) => Ok(Due::Empty),
+            found => found,
+        }
     }
 
     /// How many payloads there are, and the most that there were at once.
@@ -240,11 +268,12 @@ impl<T: Send, K: Key> Call<'_, T, K> {
         Error::unless_ok(after::calling(|| unsafe {
             raw::pq_archive(self.member, archived, self.until, &mut journal)
         }))?;
+        self.shared.archives.wake(archived);
         RawJournal::of(journal).map(Journal::new)
     }
 }
 
-impl<T: Number, K: Key> Call<'_, T, K> {
+impl<K: Key, T: Number> Call<'_, K, T> {
     pub fn peek_item(&self) -> Result<Option<(K, T)>, Error> {
         // SAFETY: the payload is a number.
         let payload = |value| unsafe { payload_of(value) };
@@ -256,15 +285,13 @@ impl<T: Number, K: Key> Call<'_, T, K> {
 /// Calls of a queue, of a member, or until a deadline.
 macro_rules! calls {
     (($($life:lifetime)?) $Type:ty, $($mutable:tt)?) => {
-        impl<$($life,)? T: Send, K: Key> $Type {
+        impl<$($life,)? K: Key, T: Send> $Type {
             /// Puts a payload in: the number of its journal entry, which is the payload's ticket. At a queue with a bound
             /// ([`Options::most_items`](crate::Options::most_items)) it waits for room, until its deadline: then [`Error::Full`].
             ///
             /// # Errors
             ///
-            /// [`Error::Shut`]. Each of these calls may return [`Error::Exhausted`], [`Error::JournalFull`], [`Error::Unarchived`],
-            /// [`Error::Forked`], with a deadline [`Error::TimedOut`], or [`Error::Pending`] where a posted request has no answer yet. A push,
-            /// and each call by the queue itself, may return [`Error::NoMemory`]. The payload comes back with the error.
+            /// Those of [each call](crate::TaskQueue#errors), [`Error::Shut`] and [`Error::NoMemory`], each with the payload.
             pub fn push(&$($mutable)? self, key: K, payload: T) -> Result<u64, NotPushed<T>> {
                 self.call().push(key, payload)
             }
@@ -274,7 +301,7 @@ macro_rules! calls {
             ///
             /// # Errors
             ///
-            /// Those of each call.
+            /// Those of [each call](crate::TaskQueue#errors).
             pub fn pop(&$($mutable)? self) -> Result<Option<(K, T)>, Error> {
                 self.call().pop()
             }
@@ -284,7 +311,7 @@ macro_rules! calls {
             ///
             /// # Errors
             ///
-            /// Those of each call, and [`Error::NoTickets`] unless the queue was opened for it
+            /// Those of [each call](crate::TaskQueue#errors), and [`Error::NoTickets`] unless the queue was opened for it
             /// ([`Options::tickets`](crate::Options::tickets)).
             ///
             /// ```
@@ -325,7 +352,7 @@ macro_rules! calls {
             ///
             /// # Errors
             ///
-            /// Those of each call.
+            /// Those of [each call](crate::TaskQueue#errors).
             pub fn peek(&$($mutable)? self) -> Result<Option<K>, Error> {
                 self.call().peek()
             }
@@ -379,8 +406,8 @@ macro_rules! calls {
             ///
             /// # Errors
             ///
-            /// Those of each call.
-            pub fn pop_due(&$($mutable)? self, key: K) -> Result<Due<T, K>, Error> {
+            /// Those of [each call](crate::TaskQueue#errors).
+            pub fn pop_due(&$($mutable)? self, key: K) -> Result<Due<K, T>, Error> {
                 self.call().pop_due(key)
             }
 
@@ -404,18 +431,19 @@ macro_rules! calls {
                 self.call().push_many(payloads)
             }
 
-            /// Takes the first payloads out whose keys are at most this one: so many at most. A member's
-            /// [`number`](crate::TaskMember::number) is then that of the first one's journal entry.
+            /// Takes the first payloads out whose keys are at most this one, and at most `most` of them: up to 64 under one lock where a payload
+            /// has at most 1 KiB. A member's [`number`](crate::TaskMember::number) is then that of the first one's journal entry.
             ///
             /// # Errors
             ///
-            /// Those of each call, where it took none out.
+            /// Those of [each call](crate::TaskQueue#errors), where it took none out.
             pub fn pop_due_many(&$($mutable)? self, key: K, most: usize) -> Result<Vec<(K, T)>, Error> {
                 self.call().pop_due_many(key, most)
             }
 
-            /// Copies the journal entries after the first `archived`, and counts those first ones as archived from now on. An entry has a
-            /// token for a payload that is no number ([`Item::value`](crate::Item::value)), so nobody gets that back from an archive.
+            /// Returns the journal entries after the first `archived`, which is how many the program has stored: they may be forgotten from now on.
+            /// An entry has a token for a payload that is no number ([`Item::value`](crate::Item::value)), so nobody gets that back from an
+            /// archive.
             ///
             /// # Errors
             ///
@@ -426,12 +454,12 @@ macro_rules! calls {
         }
 
         /// Of numbers.
-        impl<$($life,)? T: Number, K: Key> $Type {
+        impl<$($life,)? K: Key, T: Number> $Type {
             /// Returns the first key and number, if there is one. It stays.
             ///
             /// # Errors
             ///
-            /// Those of each call.
+            /// Those of [each call](crate::TaskQueue#errors).
             pub fn peek_item(&$($mutable)? self) -> Result<Option<(K, T)>, Error> {
                 self.call().peek_item()
             }
@@ -439,28 +467,56 @@ macro_rules! calls {
     };
 }
 
-/// Those that wait for a payload as long as it takes.
+/// Those that wait for a payload as long as it takes, and those that never wait.
 macro_rules! takes {
     ($Type:ident $($mutable:tt)?) => {
-        impl<T: Send, K: Key> $Type<T, K> {
-            /// Waits for a payload, and takes the first one out, with its key. The thread keeps its member meanwhile: open a queue for more
-            /// members than there are threads that wait, or a push may wait for ever.
+        impl<K: Key, T: Send> $Type<K, T> {
+            /// Waits for a payload, and takes the first one out, with its key. The thread keeps its member meanwhile. By the queue itself a take
+            /// that would get the last free member waits for another one, as a call does where all are in use.
             ///
             /// # Errors
             ///
-            /// Those of each call, and [`Error::Shut`] where the queue is shut and empty.
+            /// Those of [each call](crate::TaskQueue#errors), and [`Error::Shut`] where the queue is shut and empty.
             pub fn take(&$($mutable)? self) -> Result<(K, T), Error> {
                 self.call().take()?.ok_or(Error::TimedOut)
             }
 
-            /// Waits until the first payload is due, also in a shut queue, and takes it out, with its key. Keys are times: moments
-            /// ([`Instant`](std::time::Instant)), or those of [`Options::times`](crate::Options::times).
+            /// Takes the first payload out, with its key, and never waits: `None` where there is none, or other threads had the lock, or all
+            /// members. It has no journal entry then.
             ///
             /// # Errors
             ///
-            /// Those of each call, and [`Error::Shut`] where the queue is shut and empty.
-            pub fn take_due(&$($mutable)? self) -> Result<(K, T), Error> {
+            /// Those of [`Self::take`].
+            ///
+            /// ```
+            /// let queue = flatpq::TaskQueue::new()?;
+            /// assert_eq!(queue.try_take()?, None);
+            /// queue.push(5, "five")?;
+            /// queue.shut()?;
+            /// assert_eq!(queue.try_take()?, Some((5, "five")));
+            /// assert_eq!(queue.try_take(), Err(flatpq::Error::Shut));
+            /// # Ok::<(), flatpq::Error>(())
+            /// ```
+            pub fn try_take(&$($mutable)? self) -> Result<Option<(K, T)>, Error> {
+                self.until(Until::NOW).take()
+            }
+
+            /// Waits until the first payload is due, also in a shut queue, and takes it out, with its key. It waits as [`Self::take`] does.
+            ///
+            /// # Errors
+            ///
+            /// Those of [`Self::take`].
+            pub fn take_due(&$($mutable)? self) -> Result<(K, T), Error> where K: TimeKey {
                 self.call().take_due()?.got().ok_or(Error::TimedOut)
+            }
+
+            /// Takes the first payload out, with its key, if it is due, and never waits.
+            ///
+            /// # Errors
+            ///
+            /// Those of [`Self::take`], and [`Error::TimedOut`] where other threads had the lock, or all members.
+            pub fn try_take_due(&$($mutable)? self) -> Result<Due<K, T>, Error> where K: TimeKey {
+                self.until(Until::NOW).take_due()
             }
         }
     };
@@ -469,7 +525,8 @@ macro_rules! takes {
 pub(crate) use {calls, takes};
 
 /// Calls that wait until a deadline at most: [`TaskQueue::until`](crate::TaskQueue::until), [`TaskMember::until`](crate::TaskMember::until).
-/// One that returns [`Error::TimedOut`] has done nothing but what [`NotAllPushed`] says of a batch, and nothing of it happens later.
+/// The time counts from `until`, not from each call. One that returns [`Error::TimedOut`] has done nothing but what [`NotAllPushed`] says
+/// of a batch, and nothing of it happens later.
 ///
 /// ```
 /// use flatpq::{TaskQueue, Until};
@@ -483,12 +540,12 @@ pub(crate) use {calls, takes};
 /// # Ok::<(), flatpq::Error>(())
 /// ```
 #[must_use]
-pub struct Limited<'a, T, K = u64>(pub(crate) Call<'a, T, K>);
+pub struct Limited<'a, K, T>(pub(crate) Call<'a, K, T>);
 
-calls!(('a) Limited<'a, T, K>,);
+calls!(('a) Limited<'a, K, T>,);
 
-impl<'a, T: Send, K: Key> Limited<'a, T, K> {
-    fn call(&self) -> &Call<'a, T, K> {
+impl<'a, K: Key, T: Send> Limited<'a, K, T> {
+    fn call(&self) -> &Call<'a, K, T> {
         &self.0
     }
 
@@ -506,13 +563,16 @@ impl<'a, T: Send, K: Key> Limited<'a, T, K> {
     ///
     /// # Errors
     ///
-    /// Those of [`TaskQueue::take_due`](crate::TaskQueue::take_due), and [`Error::TimedOut`].
-    pub fn take_due(&self) -> Result<Due<T, K>, Error> {
+    /// Those of [`TaskQueue::take`](crate::TaskQueue::take), and [`Error::TimedOut`].
+    pub fn take_due(&self) -> Result<Due<K, T>, Error>
+    where
+        K: TimeKey,
+    {
         self.0.take_due()
     }
 }
 
-impl<T, K> Limited<'_, T, K> {
+impl<K, T> Limited<'_, K, T> {
     /// Waits until an archive has counted the entry of this number as archived.
     ///
     /// # Errors
@@ -523,7 +583,7 @@ impl<T, K> Limited<'_, T, K> {
     }
 }
 
-impl<T, K> fmt::Debug for Limited<'_, T, K> {
+impl<K, T> fmt::Debug for Limited<'_, K, T> {
     fn fmt(&self, f: &mut fmt::Formatter<'_>) -> fmt::Result {
         f.debug_struct("Limited")
             .field("until", &self.0.until)

@@ -5,8 +5,8 @@ use std::ptr;
 use std::sync::atomic::{AtomicPtr, Ordering};
 use std::time::{Duration, Instant};
 
-/// Until when a call may wait for other threads: a moment, or a time from now.
-#[derive(Clone, Copy, Debug, PartialEq, Eq)]
+/// Until when a call may wait for other threads, for a payload, or for room: a moment, or a time from now.
+#[derive(Clone, Copy, Debug, PartialEq, Eq, Hash)]
 pub struct Until(u64);
 
 impl Until {
@@ -127,12 +127,12 @@ impl Times {
 
     /// The priority of a key. Those of the last keys are the same where they would be too great.
     pub fn priority_of<K: Key>(&self, key: K) -> u64 {
-        key.number().saturating_add(self.above)
+        key.to_number().saturating_add(self.above)
     }
 
     /// The key of a priority. The last keys come out as the last of them.
     pub fn key_of<K: Key>(&self, priority: u64) -> K {
-        K::of_number(match priority {
+        K::from_number(match priority {
             u64::MAX => u64::MAX,
             _ => priority.saturating_sub(self.above),
         })

@@ -66,8 +66,6 @@ errors! {
     Processor = 61,
     /// Other threads had the lock, or all members, until the deadline.
     TimedOut = 62,
-    /// The queue is closed.
-    Closed = 63,
 }
 
 impl Error {
@@ -91,11 +89,20 @@ impl std::error::Error for Error {}
 
 impl From<Error> for io::Error {
     fn from(error: Error) -> io::Error {
-        io::Error::new(io::ErrorKind::Other, error)
+        let kind = match error {
+            Error::TimedOut => io::ErrorKind::TimedOut,
+            Error::NoMemory => io::ErrorKind::OutOfMemory,
+            Error::Shut => io::ErrorKind::BrokenPipe,
+            Error::Full => io::ErrorKind::WouldBlock,
+            _ => io::ErrorKind::Other,
+        };
+        io::Error::new(kind, error)
     }
 }
 
-/// Why a payload was not pushed, and the payload. `?` turns it into its [`Error`], or an [`io::Error`].
+/// Why a payload was not pushed, and the payload. `?` turns it into its [`Error`], or an [`io::Error`], and `.map_err(Error::from)?` into
+/// any error that an `Error` turns into.
+#[derive(Clone, Copy, PartialEq, Eq)]
 pub struct NotPushed<T> {
     /// The payload.
     pub payload: T,
@@ -103,87 +110,23 @@ pub struct NotPushed<T> {
     pub error: Error,
 }
 
-impl<T> fmt::Debug for NotPushed<T> {
-    fn fmt(&self, f: &mut fmt::Formatter<'_>) -> fmt::Result {
-        f.debug_struct("NotPushed")
-            .field("error", &self.error)
-            .finish_non_exhaustive()
-    }
-}
-
-impl<T> fmt::Display for NotPushed<T> {
-    fn fmt(&self, f: &mut fmt::Formatter<'_>) -> fmt::Result {
-        write!(f, "not pushed: {}", self.error)
-    }
-}
-
-impl<T> std::error::Error for NotPushed<T> {
-    fn source(&self) -> Option<&(dyn std::error::Error + 'static)> {
-        Some(&self.error)
-    }
-}
-
 /// Why a batch ended before all of it was pushed, and what was not. `?` turns it into its [`Error`], or an [`io::Error`].
+#[derive(Clone, PartialEq, Eq)]
 pub struct NotAllPushed<K, T> {
     /// All keys and payloads that were not pushed.
-    pub payload: Vec<(K, T)>,
+    pub payloads: Vec<(K, T)>,
     /// Why the first of them was not pushed.
     pub error: Error,
     /// What was pushed before them.
     pub pushed: Pushed,
 }
 
-impl<K, T> fmt::Debug for NotAllPushed<K, T> {
-    fn fmt(&self, f: &mut fmt::Formatter<'_>) -> fmt::Result {
-        f.debug_struct("NotAllPushed")
-            .field("error", &self.error)
-            .field("pushed", &self.pushed)
-            .finish_non_exhaustive()
-    }
-}
-
-impl<K, T> fmt::Display for NotAllPushed<K, T> {
-    fn fmt(&self, f: &mut fmt::Formatter<'_>) -> fmt::Result {
-        write!(
-            f,
-            "pushed {} and no more: {}",
-            self.pushed.count, self.error
-        )
-    }
-}
-
-impl<K, T> std::error::Error for NotAllPushed<K, T> {
-    fn source(&self) -> Option<&(dyn std::error::Error + 'static)> {
-        Some(&self.error)
-    }
-}
-
 /// Why a queue was not closed, and the queue, which stays open. `?` turns it into its [`Error`], or an [`io::Error`].
-pub struct NotClosed<T, K = u64> {
+pub struct NotClosed<K, T> {
     /// The queue.
-    pub queue: TaskQueue<T, K>,
+    pub queue: TaskQueue<K, T>,
     /// Why it was not closed.
     pub error: Error,
-}
-
-impl<T, K> fmt::Debug for NotClosed<T, K> {
-    fn fmt(&self, f: &mut fmt::Formatter<'_>) -> fmt::Result {
-        f.debug_struct("NotClosed")
-            .field("error", &self.error)
-            .finish_non_exhaustive()
-    }
-}
-
-impl<T, K> fmt::Display for NotClosed<T, K> {
-    fn fmt(&self, f: &mut fmt::Formatter<'_>) -> fmt::Result {
-        write!(f, "not closed: {}", self.error)
-    }
-}
-
-impl<T, K> std::error::Error for NotClosed<T, K> {
-    fn source(&self) -> Option<&(dyn std::error::Error + 'static)> {
-        Some(&self.error)
-    }
 }
 
 /// Why a journal was not read back from its text. `?` turns it into its [`Error`], or an [`io::Error`].
@@ -227,12 +170,41 @@ macro_rules! into_errors {
     )*};
 }
 
-into_errors!(NotPushed<T>, NotAllPushed<K, T>, NotClosed<T, K>, NotReadBack<>);
+into_errors!(NotPushed<T>, NotAllPushed<K, T>, NotClosed<K, T>, NotReadBack<>);
+
+/// Texts of an error that gives something back, which needs none.
+macro_rules! texts {
+    ($Refused:ident<$($Part:ident),*>, $($field:ident),*; |$it:ident| $($text:expr),*) => {
+        impl<$($Part),*> fmt::Debug for $Refused<$($Part),*> {
+            fn fmt(&self, f: &mut fmt::Formatter<'_>) -> fmt::Result {
+                let mut text = f.debug_struct(stringify!($Refused));
+                $(text.field(stringify!($field), &self.$field);)*
+                text.finish_non_exhaustive()
+            }
+        }
+
+        impl<$($Part),*> fmt::Display for $Refused<$($Part),*> {
+            fn fmt(&self, f: &mut fmt::Formatter<'_>) -> fmt::Result {
+                let $it = self;
+                write!(f, $($text),*)
+            }
+        }
+
+        impl<$($Part),*> std::error::Error for $Refused<$($Part),*> {
+            fn source(&self) -> Option<&(dyn std::error::Error + 'static)> {
+                Some(&self.error)
+            }
+        }
+    };
+}
+
+texts!(NotPushed<T>, error; |it| "not pushed: {}", it.error);
+texts!(NotAllPushed<K, T>, error, pushed; |it| "pushed {} and no more: {}", it.pushed.count, it.error);
+texts!(NotClosed<K, T>, error; |it| "not closed: {}", it.error);
 
 /// What a pop of what is due found.
-#[derive(Clone, Copy, Debug, PartialEq, Eq)]
-#[non_exhaustive]
-pub enum Due<T, K = u64> {
+#[derive(Clone, Copy, Debug, PartialEq, Eq, Hash)]
+pub enum Due<K, T> {
     /// It took out this payload, of this key.
     Got(K, T),
     /// The first payload has this key, and stays.
@@ -241,7 +213,7 @@ pub enum Due<T, K = u64> {
     Empty,
 }
 
-impl<T, K> Due<T, K> {
+impl<K, T> Due<K, T> {
     /// The key and the payload that were taken out, if any.
     pub fn got(self) -> Option<(K, T)> {
         match self {

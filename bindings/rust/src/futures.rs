@@ -1,14 +1,16 @@
 //! Takes that wait without a thread: by a waker, on any executor.
-use crate::after;
+use crate::after::{self, locked};
 use crate::error::{Due, Error};
-use crate::key::Key;
+use crate::key::{Key, TimeKey};
 use crate::raw::Notify;
-use crate::tasks::{TaskMember, TaskQueue};
-use std::fmt;
+use crate::tasks::{Shared, TaskMember, TaskQueue};
+use std::collections::BTreeMap;
 use std::future::Future;
+use std::mem;
 use std::os::raw::c_void;
 use std::pin::Pin;
-use std::sync::{Arc, Mutex, MutexGuard, PoisonError};
+use std::sync::atomic::{AtomicU64, Ordering};
+use std::sync::{Arc, Mutex};
 use std::task::{Context, Poll, Waker};
 use std::time::Instant;
 
@@ -17,20 +19,16 @@ use std::time::Instant;
 pub struct Slot(Mutex<Option<Waker>>);
 
 impl Slot {
-    fn lock(&self) -> MutexGuard<'_, Option<Waker>> {
-        self.0.lock().unwrap_or_else(PoisonError::into_inner)
-    }
-
     /// Takes the waker out, if one is left.
     pub fn take(&self) -> Option<Waker> {
-        self.lock().take()
+        locked(&self.0).take()
     }
 
     fn set(&self, waker: &Waker) {
         let is_same = |own: &Waker| own.will_wake(waker);
-        if !self.lock().as_ref().map_or(false, is_same) {
+        if !locked(&self.0).as_ref().map_or(false, is_same) {
             let waker = waker.clone();
-            let before = self.lock().replace(waker);
+            let before = locked(&self.0).replace(waker);
             drop(before);
         }
     }
@@ -38,6 +36,22 @@ impl Slot {
     /// What the library calls for this slot, and with what.
     fn notify(self: &Arc<Slot>) -> (Notify, *mut c_void) {
         (notified, Arc::as_ptr(self) as *mut c_void)
+    }
+}
+
+/// The wakers of those who wait until entries are archived, each by the number of its entry and one of its own. Only calls of this crate
+/// archive.
+#[derive(Default)]
+pub struct Archives(Mutex<BTreeMap<(u64, u64), Waker>>, AtomicU64);
+
+impl Archives {
+    /// Wakes those whose entries are among the first so many.
+    pub fn wake(&self, archived: u64) {
+        let mut all = locked(&self.0);
+        let waiting = all.split_off(&(archived, u64::MAX));
+        let over = mem::replace(&mut *all, waiting);
+        drop(all);
+        over.into_values().for_each(after::wake_caught);
     }
 }
 
@@ -55,17 +69,18 @@ unsafe extern "C" fn notified(slot: *mut c_void) {
 }
 
 /// Takes without a thread that waits.
-impl<T: Send, K: Key> TaskMember<T, K> {
+impl<K: Key, T: Send> TaskMember<K, T> {
     /// Waits for a payload by a future, and takes the first one out, with its key.
     ///
     /// A push wakes one of those who wait, a thread or a future. A future that is dropped when it was woken wakes another, and no payload
     /// is lost with it. A poll that finds none leaves no journal entry. Wakers run after the call of the library that wakes, in the thread
     /// that pushes; where that thread waits in a call, or pushes by the library for C, in a thread of this crate, which the first poll
-    /// starts. So they may call the queue.
+    /// starts. So they may call the queue. Where a waker panics, the call goes on all the same.
     ///
     /// # Errors
     ///
-    /// Those of [`TaskMember::take`], and [`Error::NoMemory`] where that thread can't start.
+    /// Those of [`TaskMember::take`], [`Error::NoMemory`] where that thread can't start, and [`Error::AllJoined`] where the members of all others
+    /// wait for payloads: calls need the last one.
     ///
     /// ```
     /// use std::future::Future;
@@ -88,18 +103,20 @@ impl<T: Send, K: Key> TaskMember<T, K> {
     /// assert_eq!(taken, Poll::Ready(Ok((5, "five"))));
     /// # Ok::<(), flatpq::Error>(())
     /// ```
-    pub fn take_async(&mut self) -> Take<'_, T, K> {
+    pub fn take_async(&mut self) -> Take<'_, K, T> {
         Take(Taker::Member(self))
     }
 
     /// Waits by a future until the first payload is due, and takes it out, with its key. The program gives a sleep until a moment, as of its
-    /// executor's timer: `tokio::time::sleep_until(moment.into())`. Keys are times, as of [`TaskMember::take_due`].
+    /// executor's timer: `tokio::time::sleep_until(moment.into())`. What is due goes by the machine's clock: where tokio's is paused, the sleep
+    /// ends at once, and the future is polled again and again.
     ///
     /// # Errors
     ///
     /// Those of [`TaskMember::take_async`].
-    pub fn take_due_async<S, F>(&mut self, sleep: S) -> TakeDue<'_, T, K, S, F>
+    pub fn take_due_async<S, F>(&mut self, sleep: S) -> TakeDue<'_, K, T, S, F>
     where
+        K: TimeKey,
         S: FnMut(Instant) -> F,
         F: Future<Output = ()>,
     {
@@ -113,13 +130,9 @@ impl<T: Send, K: Key> TaskMember<T, K> {
     ///
     /// Those of [`TaskMember::take_async`].
     pub fn poll_take(&mut self, cx: &mut Context<'_>) -> Poll<Result<(K, T), Error>> {
-        match self.found_or_listens(u64::MAX, cx)? {
-            Due::Got(priority, payload) => {
-                let key = self.shared.times.key_of(priority);
-                Poll::Ready(Ok((key, payload)))
-            }
-            Due::Later(_) | Due::Empty => Poll::Pending,
-        }
+        let found = self.found_or_listens(u64::MAX, cx)?;
+        let taken = self.shared.keyed(found).got();
+        taken.map_or(Poll::Pending, |it| Poll::Ready(Ok(it)))
     }
 
     /// Takes the first payload out if its key is at most this one; else has the context's task woken by the next push, or when the queue is
@@ -128,13 +141,17 @@ impl<T: Send, K: Key> TaskMember<T, K> {
     /// # Errors
     ///
     /// Those of [`TaskMember::take_async`].
-    pub fn take_or_listen(&mut self, key: K, cx: &mut Context<'_>) -> Result<Due<T, K>, Error> {
+    pub fn take_or_listen(&mut self, key: K, cx: &mut Context<'_>) -> Result<Due<K, T>, Error> {
         let priority = self.shared.times.priority_of(key);
         let found = self.found_or_listens(priority, cx)?;
         Ok(self.shared.keyed(found))
     }
 
-    fn found_or_listens(&mut self, priority: u64, cx: &mut Context<'_>) -> Result<Due<T>, Error> {
+    fn found_or_listens(
+        &mut self,
+        priority: u64,
+        cx: &mut Context<'_>,
+    ) -> Result<Due<u64, T>, Error> {
         self.unless_forked()?;
         if !after::has_thread() {
             return Err(Error::NoMemory);
@@ -180,15 +197,15 @@ impl<T: Send, K: Key> TaskMember<T, K> {
     }
 }
 
-impl<T: Send, K: Key> TaskQueue<T, K> {
+impl<K: Key, T: Send> TaskQueue<K, T> {
     /// Waits for a payload by a future, as [`TaskMember::take_async`] does. A future that is polled joins, and gives that member back when
-    /// it is ready or dropped. So a queue has as many such futures at once as members, less those in use.
+    /// it is ready or dropped. A task that takes in a loop joins once, and awaits by that member: this takes half the time.
     ///
     /// # Errors
     ///
-    /// Those of [`TaskMember::take_async`], and [`Error::AllJoined`]: a program with more tasks that wait than members has some tasks take
-    /// for the others.
-    pub fn take_async(&self) -> Take<'_, T, K> {
+    /// Those of [`TaskMember::take_async`], and [`Error::AllJoined`] where no member is left. So one future less than members waits at once: a
+    /// program with more tasks that wait has some take for the others.
+    pub fn take_async(&self) -> Take<'_, K, T> {
         Take(Taker::Queue(self, None))
     }
 
@@ -196,9 +213,10 @@ impl<T: Send, K: Key> TaskQueue<T, K> {
     ///
     /// # Errors
     ///
-    /// Those of [`TaskMember::take_due_async`], and [`Error::AllJoined`].
-    pub fn take_due_async<S, F>(&self, sleep: S) -> TakeDue<'_, T, K, S, F>
+    /// Those of [`TaskQueue::take_async`].
+    pub fn take_due_async<S, F>(&self, sleep: S) -> TakeDue<'_, K, T, S, F>
     where
+        K: TimeKey,
         S: FnMut(Instant) -> F,
         F: Future<Output = ()>,
     {
@@ -206,18 +224,59 @@ impl<T: Send, K: Key> TaskQueue<T, K> {
     }
 }
 
-/// By whom a future takes.
-enum Taker<'a, T, K> {
-    Member(&'a mut TaskMember<T, K>),
-    /// By a member that it joins.
-    Queue(&'a TaskQueue<T, K>, Option<TaskMember<T, K>>),
+impl<K, T> TaskQueue<K, T> {
+    /// Waits by a future until an archive has counted the entry of this number as archived, as [`TaskQueue::wait_archived`] does. The archive
+    /// wakes, in its thread.
+    pub fn wait_archived_async(&self, number: u64) -> WaitArchived<'_, T> {
+        let own = self.shared.archives.1.fetch_add(1, Ordering::Relaxed);
+        WaitArchived(&self.shared, (number, own))
+    }
 }
 
-impl<T: Send, K: Key> Taker<'_, T, K> {
+/// A wait until an entry is archived, by [`TaskQueue::wait_archived_async`].
+#[must_use = "a future does nothing unless it is polled"]
+pub struct WaitArchived<'a, T>(&'a Shared<T>, (u64, u64));
+
+impl<T> Future for WaitArchived<'_, T> {
+    type Output = Result<(), Error>;
+
+    fn poll(self: Pin<&mut Self>, cx: &mut Context<'_>) -> Poll<Self::Output> {
+        let WaitArchived(shared, own) = *self;
+        let looks = || match Error::unless_ok(shared.wait_archived(own.0, 0)) {
+            Err(Error::TimedOut) => Poll::Pending,
+            done => Poll::Ready(done),
+        };
+        if looks().is_pending() {
+            let waker = cx.waker().clone();
+            let before = locked(&shared.archives.0).insert(own, waker);
+            drop(before);
+        }
+        // An archive that came before the waker was there is seen now.
+        looks()
+    }
+}
+
+impl<T> Drop for WaitArchived<'_, T> {
+    fn drop(&mut self) {
+        let waker = locked(&self.0.archives.0).remove(&self.1);
+        drop(waker);
+    }
+}
+
+debug_by_name!(WaitArchived<'a, T>);
+
+/// By whom a future takes.
+enum Taker<'a, K, T> {
+    Member(&'a mut TaskMember<K, T>),
+    /// By a member that it joins.
+    Queue(&'a TaskQueue<K, T>, Option<TaskMember<K, T>>),
+}
+
+impl<K: Key, T: Send> Taker<'_, K, T> {
     // Polls by the member. One that was joined is given back when that is ready.
     fn poll(
         &mut self,
-        poll: impl FnOnce(&mut TaskMember<T, K>) -> Poll<Result<(K, T), Error>>,
+        poll: impl FnOnce(&mut TaskMember<K, T>) -> Poll<Result<(K, T), Error>>,
     ) -> Poll<Result<(K, T), Error>> {
         match self {
             Taker::Member(member) => poll(member),
@@ -236,7 +295,7 @@ impl<T: Send, K: Key> Taker<'_, T, K> {
     }
 }
 
-impl<T, K> Drop for Taker<'_, T, K> {
+impl<K, T> Drop for Taker<'_, K, T> {
     fn drop(&mut self) {
         if let Taker::Member(member) = self {
             member.unlisten();
@@ -247,9 +306,9 @@ impl<T, K> Drop for Taker<'_, T, K> {
 /// A take of a payload, by [`TaskQueue::take_async`] or [`TaskMember::take_async`]. Once it is ready it takes another where it is polled
 /// again.
 #[must_use = "a future does nothing unless it is polled"]
-pub struct Take<'a, T, K = u64>(Taker<'a, T, K>);
+pub struct Take<'a, K, T>(Taker<'a, K, T>);
 
-impl<T: Send, K: Key> Future for Take<'_, T, K> {
+impl<K: Key, T: Send> Future for Take<'_, K, T> {
     type Output = Result<(K, T), Error>;
 
     fn poll(mut self: Pin<&mut Self>, cx: &mut Context<'_>) -> Poll<Self::Output> {
@@ -257,23 +316,19 @@ impl<T: Send, K: Key> Future for Take<'_, T, K> {
     }
 }
 
-impl<T, K> fmt::Debug for Take<'_, T, K> {
-    fn fmt(&self, f: &mut fmt::Formatter<'_>) -> fmt::Result {
-        f.debug_struct("Take").finish_non_exhaustive()
-    }
-}
+debug_by_name!(Take<'a, K, T>);
 
 /// A take of a payload that is due, by [`TaskQueue::take_due_async`] or [`TaskMember::take_due_async`].
 #[must_use = "a future does nothing unless it is polled"]
-pub struct TakeDue<'a, T, K, S, F> {
-    taker: Taker<'a, T, K>,
+pub struct TakeDue<'a, K, T, S, F> {
+    taker: Taker<'a, K, T>,
     sleep: S,
     // The priority that is first, and the sleep until it is due.
     timer: Option<(u64, Pin<Box<F>>)>,
 }
 
-impl<'a, T, K, S, F> TakeDue<'a, T, K, S, F> {
-    fn by(taker: Taker<'a, T, K>, sleep: S) -> TakeDue<'a, T, K, S, F> {
+impl<'a, K, T, S, F> TakeDue<'a, K, T, S, F> {
+    fn by(taker: Taker<'a, K, T>, sleep: S) -> TakeDue<'a, K, T, S, F> {
         TakeDue {
             taker,
             sleep,
@@ -283,9 +338,9 @@ impl<'a, T, K, S, F> TakeDue<'a, T, K, S, F> {
 }
 
 // Only the sleep is pinned, in a box of its own.
-impl<T, K, S, F> Unpin for TakeDue<'_, T, K, S, F> {}
+impl<K, T, S, F> Unpin for TakeDue<'_, K, T, S, F> {}
 
-impl<T: Send, K: Key, S, F> Future for TakeDue<'_, T, K, S, F>
+impl<K: Key, T: Send, S, F> Future for TakeDue<'_, K, T, S, F>
 where
     S: FnMut(Instant) -> F,
     F: Future<Output = ()>,
@@ -302,8 +357,4 @@ where
     }
 }
 
-impl<T, K, S, F> fmt::Debug for TakeDue<'_, T, K, S, F> {
-    fn fmt(&self, f: &mut fmt::Formatter<'_>) -> fmt::Result {
-        f.debug_struct("TakeDue").finish_non_exhaustive()
-    }
-}
+debug_by_name!(TakeDue<'a, K, T, S, F>);

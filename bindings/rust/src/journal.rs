@@ -152,29 +152,34 @@ impl Journal {
     }
 
     /// How many entries there are here.
+    #[must_use]
     pub fn len(&self) -> usize {
         self.0.count().0
     }
 
     /// Whether there is none.
+    #[must_use]
     pub fn is_empty(&self) -> bool {
         self.len() == 0
     }
 
     /// How many entries came before these.
+    #[must_use]
     pub fn before(&self) -> u64 {
         self.0.count().1
     }
 
     /// The entry of this index, from 0.
+    #[must_use]
     pub fn get(&self, index: usize) -> Option<Entry> {
         self.0.read(index).map(Entry::of)
     }
 
     /// All entries, the first first.
-    pub fn iter(&self) -> Entries<'_> {
+    #[must_use]
+    pub fn iter(&self) -> Iter<'_> {
         let (journal, next) = (self, 0);
-        Entries { journal, next }
+        Iter { journal, next }
     }
 
     /// Writes all entries as text, each ended by a checksum and a line feed.
@@ -194,27 +199,29 @@ impl Journal {
 
 impl fmt::Debug for Journal {
     fn fmt(&self, f: &mut fmt::Formatter<'_>) -> fmt::Result {
-        f.debug_list().entries(self).finish()
+        f.debug_struct("Journal")
+            .field("entries", &self.len())
+            .finish_non_exhaustive()
     }
 }
 
 impl<'a> IntoIterator for &'a Journal {
     type Item = Entry;
-    type IntoIter = Entries<'a>;
+    type IntoIter = Iter<'a>;
 
-    fn into_iter(self) -> Entries<'a> {
+    fn into_iter(self) -> Iter<'a> {
         self.iter()
     }
 }
 
 /// The entries of a [`Journal`].
 #[derive(Clone, Debug)]
-pub struct Entries<'a> {
+pub struct Iter<'a> {
     journal: &'a Journal,
     next: usize,
 }
 
-impl Iterator for Entries<'_> {
+impl Iterator for Iter<'_> {
     type Item = Entry;
 
     fn next(&mut self) -> Option<Entry> {
@@ -234,20 +241,20 @@ impl Iterator for Entries<'_> {
     }
 }
 
-impl ExactSizeIterator for Entries<'_> {}
+impl ExactSizeIterator for Iter<'_> {}
 
-impl FusedIterator for Entries<'_> {}
+impl FusedIterator for Iter<'_> {}
 
 /// The journal of a closed queue, and the payloads that are left, which are dropped with it.
-pub struct TaskJournal<T, K = u64> {
+pub struct TaskJournal<K, T> {
     journal: Journal,
     times: Times,
     payloads: PhantomData<Mutex<T>>,
     keys: PhantomData<fn(K) -> K>,
 }
 
-impl<T, K> TaskJournal<T, K> {
-    pub(crate) fn new(raw: RawJournal, times: Times) -> TaskJournal<T, K> {
+impl<K, T> TaskJournal<K, T> {
+    pub(crate) fn new(raw: RawJournal, times: Times) -> TaskJournal<K, T> {
         TaskJournal {
             journal: Journal(raw),
             times,
@@ -257,7 +264,7 @@ impl<T, K> TaskJournal<T, K> {
     }
 }
 
-impl<T, K: Key> TaskJournal<T, K> {
+impl<K: Key, T> TaskJournal<K, T> {
     /// Takes out the payloads that are left, each with its key, the first first. What the iterator does not take out stays.
     ///
     /// ```
@@ -268,22 +275,36 @@ impl<T, K: Key> TaskJournal<T, K> {
     /// assert_eq!(journal.len(), 1);
     /// # Ok::<(), flatpq::Error>(())
     /// ```
-    pub fn left(&mut self) -> impl Iterator<Item = (K, T)> + '_ {
-        std::iter::from_fn(move || {
-            let item = self.journal.0.take_left()?;
-            // SAFETY: all values of the queue are such payloads, and this one was taken out now.
-            let payload = unsafe { payload::payload_of(item.value) };
-            Some((self.times.key_of(item.priority), payload))
-        })
+    pub fn left(&mut self) -> Left<'_, K, T> {
+        Left(self)
     }
 }
+
+/// Takes out the payloads that are left in the journal of a closed queue ([`TaskJournal::left`]).
+#[must_use = "what is not asked for stays in the journal"]
+pub struct Left<'a, K, T>(&'a mut TaskJournal<K, T>);
+
+impl<K: Key, T> Iterator for Left<'_, K, T> {
+    type Item = (K, T);
+
+    fn next(&mut self) -> Option<(K, T)> {
+        let item = self.0.journal.0.take_left()?;
+        // SAFETY: all values of the queue are such payloads, and this one was taken out now.
+        let payload = unsafe { payload::payload_of(item.value) };
+        Some((self.0.times.key_of(item.priority), payload))
+    }
+}
+
+impl<K: Key, T> FusedIterator for Left<'_, K, T> {}
+
+debug_by_name!(Left<'a, K, T>);
 
 /// A journal of numbers that was read back from its text.
 #[derive(Debug)]
 #[non_exhaustive]
-pub struct ReadBack<T, K = u64> {
+pub struct ReadBack<K, T> {
     /// The journal, with the numbers that its entries leave.
-    pub journal: TaskJournal<T, K>,
+    pub journal: TaskJournal<K, T>,
     /// How many lines were read.
     pub lines: u64,
     /// How many bytes these lines have. What follows is a torn line.
@@ -292,7 +313,7 @@ pub struct ReadBack<T, K = u64> {
     pub is_torn: bool,
 }
 
-impl<T: Number, K: Key> TaskJournal<T, K> {
+impl<K: Key, T: Number> TaskJournal<K, T> {
     /// Reads a journal of numbers back from the text that [`Journal::write_to`] has written of one from entry 1 on, to the end of the
     /// file. Each line is checked. Memory keeps the last 65,536 entries. Keys are those of a queue without
     /// [`Options::times`](crate::Options::times).
@@ -307,13 +328,13 @@ impl<T: Number, K: Key> TaskJournal<T, K> {
     /// use flatpq::TaskJournal;
     /// use std::fs::File;
     ///
-    /// let mut read = TaskJournal::<u64>::read_from(File::open("/dev/null")?)?;
+    /// let mut read = TaskJournal::<u64, u64>::read_from(File::open("/dev/null")?)?;
     /// assert_eq!((read.lines, read.is_torn), (0, false));
     /// assert_eq!(read.journal.left().next(), None);
     /// # Ok(())
     /// # }
     /// ```
-    pub fn read_from(file: impl AsFd) -> Result<ReadBack<T, K>, NotReadBack> {
+    pub fn read_from(file: impl AsFd) -> Result<ReadBack<K, T>, NotReadBack> {
         let times = Times {
             zero: K::TIME_ZERO,
             unit: K::TIME_UNIT.max(1),
@@ -335,7 +356,7 @@ impl<T: Number, K: Key> TaskJournal<T, K> {
     }
 }
 
-impl<T, K> Deref for TaskJournal<T, K> {
+impl<K, T> Deref for TaskJournal<K, T> {
     type Target = Journal;
 
     fn deref(&self) -> &Journal {
@@ -343,16 +364,16 @@ impl<T, K> Deref for TaskJournal<T, K> {
     }
 }
 
-impl<'a, T, K> IntoIterator for &'a TaskJournal<T, K> {
+impl<'a, K, T> IntoIterator for &'a TaskJournal<K, T> {
     type Item = Entry;
-    type IntoIter = Entries<'a>;
+    type IntoIter = Iter<'a>;
 
-    fn into_iter(self) -> Entries<'a> {
+    fn into_iter(self) -> Iter<'a> {
         self.iter()
     }
 }
 
-impl<T, K> Drop for TaskJournal<T, K> {
+impl<K, T> Drop for TaskJournal<K, T> {
     fn drop(&mut self) {
         if payload::is_dropped::<T>() {
             let left = std::iter::from_fn(|| self.journal.0.take_left());
@@ -365,7 +386,7 @@ impl<T, K> Drop for TaskJournal<T, K> {
     }
 }
 
-impl<T, K> fmt::Debug for TaskJournal<T, K> {
+impl<K, T> fmt::Debug for TaskJournal<K, T> {
     fn fmt(&self, f: &mut fmt::Formatter<'_>) -> fmt::Result {
         f.debug_struct("TaskJournal")
             .field("entries", &self.journal.len())

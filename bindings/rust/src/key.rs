@@ -1,13 +1,15 @@
 //! Keys: by what payloads are ordered.
 use crate::clock;
 use std::cmp::Reverse;
+use std::num;
 use std::time::{Duration, Instant};
 
 /// By what a [`TaskQueue`](crate::TaskQueue) orders its payloads: the smallest key comes out first. The queue orders the numbers of keys,
 /// and gives back the key of a number.
 ///
-/// Integers of at most 64 bits are keys, `f32` and `f64`, [`Duration`] and [`Instant`], and [`Reverse`] of each, whose largest comes out
-/// first. A type of the program's own is one by two functions that undo each other:
+/// Integers of at most 64 bits are keys, `NonZeroU32` and the like, pairs of `u32`, `bool`, `char`, `f32` and `f64`, [`Duration`] and
+/// [`Instant`], and [`Reverse`] of each, whose largest comes out first. Those that are times are [`TimeKey`]s. A type of the program's own
+/// is a key by two functions that undo each other:
 ///
 /// ```
 /// use flatpq::{Key, TaskQueue};
@@ -17,11 +19,11 @@ use std::time::{Duration, Instant};
 ///
 /// /// The most urgent comes out first.
 /// impl Key for Urgency {
-///     fn number(self) -> u64 {
+///     fn to_number(self) -> u64 {
 ///         u64::from(u8::MAX - self.0)
 ///     }
 ///
-///     fn of_number(number: u64) -> Urgency {
+///     fn from_number(number: u64) -> Urgency {
 ///         Urgency(u8::MAX - number as u8)
 ///     }
 /// }
@@ -33,111 +35,166 @@ use std::time::{Duration, Instant};
 /// # Ok::<(), flatpq::Error>(())
 /// ```
 pub trait Key: Copy {
-    /// Of keys that are times, the number of the time 0: of the moment that [`Options::times`](crate::Options::times) says, or else of the
-    /// library's clock. Only [`TaskQueue::take_due`](crate::TaskQueue::take_due) goes by it.
+    /// The number of the key that is due at time 0. Only a [`TimeKey`] has a use for it.
     const TIME_ZERO: u64 = 0;
 
-    /// Of keys that are times, how many nanoseconds a key is later than the one before, where that option says nothing else.
+    /// How many nanoseconds a key is due later than the one before, unless [`Options::times`](crate::Options::times) says another unit. Only a
+    /// [`TimeKey`] has a use for it.
     const TIME_UNIT: u64 = 1;
 
     /// The number of the key: of a smaller key a smaller number.
-    fn number(self) -> u64;
+    fn to_number(self) -> u64;
 
-    /// The key of a number that `number` returned; also of `u64::MAX`, as which [`Options::times`](crate::Options::times) counts the last
-    /// keys.
-    fn of_number(number: u64) -> Self;
+    /// The key of a number that `to_number` returned. A [`TickKey`] has one of `u64::MAX` too.
+    fn from_number(number: u64) -> Self;
 }
+
+/// Keys that are times, at which payloads are due: [`TaskQueue::take_due`](crate::TaskQueue::take_due).
+///
+/// An [`Instant`] is a moment. An integer counts from the start that [`Options::times`](crate::Options::times) gives, and without one
+/// nanoseconds of `CLOCK_MONOTONIC`, mostly since the machine was started. Other keys are no times:
+///
+/// ```compile_fail,E0277
+/// let queue = flatpq::TaskQueue::new()?;
+/// queue.push(std::time::Duration::from_secs(1), "a delay, from when on?")?;
+/// queue.take_due()?;
+/// # Ok::<(), flatpq::Error>(())
+/// ```
+pub trait TimeKey: Key {}
+
+/// Times that count from a start: those for which a queue may be opened by [`Options::times`](crate::Options::times). Their numbers are
+/// as far apart as the times.
+///
+/// ```compile_fail,E0277
+/// use flatpq::{Options, TaskQueue};
+/// use std::time::{Duration, Instant};
+/// let options = Options::new().times(Instant::now(), Duration::from_millis(1));
+/// let queue: TaskQueue<std::cmp::Reverse<u32>, &str> = options.open()?;
+/// # Ok::<(), flatpq::Error>(())
+/// ```
+pub trait TickKey: TimeKey {}
 
 /// The bit that is turned so that negative numbers come first.
 const TOP: u64 = 1 << 63;
 
-macro_rules! unsigned {
-    ($($Number:ty),*) => {$(
+macro_rules! integers {
+    ($zero:expr; $($Number:ident, $NonZero:ident;)*) => {$(
         impl Key for $Number {
-            fn number(self) -> u64 {
-                self as u64
+            const TIME_ZERO: u64 = $zero;
+
+            fn to_number(self) -> u64 {
+                self as i64 as u64 ^ $zero
             }
 
-            fn of_number(number: u64) -> $Number {
-                number as $Number
+            fn from_number(number: u64) -> $Number {
+                (number ^ $zero) as $Number
+            }
+        }
+
+        impl TimeKey for $Number {}
+        impl TickKey for $Number {}
+
+        impl Key for num::$NonZero {
+            fn to_number(self) -> u64 {
+                self.get().to_number()
+            }
+
+            fn from_number(number: u64) -> Self {
+                Self::new(<$Number>::from_number(number)).or(Self::new(1)).expect("1 is not 0")
             }
         }
     )*};
 }
 
-macro_rules! signed {
-    ($($Number:ty),*) => {$(
-        impl Key for $Number {
-            const TIME_ZERO: u64 = TOP;
+integers!(0; u8, NonZeroU8; u16, NonZeroU16; u32, NonZeroU32; u64, NonZeroU64; usize, NonZeroUsize;);
+integers!(TOP; i8, NonZeroI8; i16, NonZeroI16; i32, NonZeroI32; i64, NonZeroI64; isize, NonZeroIsize;);
 
-            fn number(self) -> u64 {
-                self as i64 as u64 ^ TOP
+/// `false` comes out first.
+impl Key for bool {
+    fn to_number(self) -> u64 {
+        self.into()
+    }
+
+    fn from_number(number: u64) -> bool {
+        number != 0
+    }
+}
+
+impl Key for char {
+    fn to_number(self) -> u64 {
+        self.into()
+    }
+
+    fn from_number(number: u64) -> char {
+        char::from_u32(number as u32).unwrap_or(char::REPLACEMENT_CHARACTER)
+    }
+}
+
+/// By the first number, and among equal ones by the second.
+impl Key for (u32, u32) {
+    fn to_number(self) -> u64 {
+        u64::from(self.0) << 32 | u64::from(self.1)
+    }
+
+    fn from_number(number: u64) -> (u32, u32) {
+        ((number >> 32) as u32, number as u32)
+    }
+}
+
+macro_rules! floats {
+    ($($Float:ty: $Bits:ty),*) => {$(
+        /// In the total order of IEEE 754: -0 comes before 0, and a NaN before or after all other numbers, by its sign. Each comes out with the
+        /// bits that it was pushed with.
+        impl Key for $Float {
+            fn to_number(self) -> u64 {
+                const TOP: $Bits = 1 << (<$Bits>::BITS - 1);
+                let bits = self.to_bits();
+                (if bits & TOP == 0 { bits ^ TOP } else { !bits }).into()
             }
 
-            fn of_number(number: u64) -> $Number {
-                (number ^ TOP) as $Number
+            fn from_number(number: u64) -> $Float {
+                const TOP: $Bits = 1 << (<$Bits>::BITS - 1);
+                let bits = number as $Bits;
+                <$Float>::from_bits(if bits & TOP == 0 { !bits } else { bits ^ TOP })
             }
         }
     )*};
 }
 
-unsigned!(u8, u16, u32, u64, usize);
-signed!(i8, i16, i32, i64, isize);
-
-/// In the total order of IEEE 754: -0 comes before 0, and a NaN before or after all other numbers, by its sign. Each comes out with the bits
-/// that it was pushed with.
-impl Key for f64 {
-    fn number(self) -> u64 {
-        let bits = self.to_bits();
-        if bits & TOP == 0 {
-            bits ^ TOP
-        } else {
-            !bits
-        }
-    }
-
-    fn of_number(number: u64) -> f64 {
-        f64::from_bits(if number & TOP == 0 {
-            !number
-        } else {
-            number ^ TOP
-        })
-    }
-}
-
-/// As `f64`.
-impl Key for f32 {
-    fn number(self) -> u64 {
-        const TOP: u32 = 1 << 31;
-        let bits = self.to_bits();
-        u64::from(if bits & TOP == 0 { bits ^ TOP } else { !bits })
-    }
-
-    fn of_number(number: u64) -> f32 {
-        const TOP: u32 = 1 << 31;
-        let bits = number as u32;
-        f32::from_bits(if bits & TOP == 0 { !bits } else { bits ^ TOP })
-    }
-}
+floats!(f32: u32, f64: u64);
 
 /// The largest comes out first.
 impl<K: Key> Key for Reverse<K> {
-    fn number(self) -> u64 {
-        !self.0.number()
+    fn to_number(self) -> u64 {
+        !self.0.to_number()
     }
 
-    fn of_number(number: u64) -> Reverse<K> {
-        Reverse(K::of_number(!number))
+    fn from_number(number: u64) -> Reverse<K> {
+        Reverse(K::from_number(!number))
     }
 }
 
-/// By its nanoseconds. One of more than 2^64 - 1, which are 584 years, counts as one of so many, and comes out as that.
+/// By its nanoseconds. One of more than 2^64 - 1, which are 584 years, counts as one of so many, and comes out as that. A duration is no
+/// [`TimeKey`], as it says no start. To take payloads out after a delay, push each by its moment:
+///
+/// ```
+/// use flatpq::TaskQueue;
+/// use std::time::{Duration, Instant};
+///
+/// let queue = TaskQueue::new()?;
+/// let delay = Duration::from_millis(20);
+/// let due = Instant::now() + delay;
+/// queue.push(due, "after 20 milliseconds")?;
+/// assert_eq!(queue.take_due()?, (due, "after 20 milliseconds"));
+/// assert!(Instant::now() >= due);
+/// # Ok::<(), flatpq::Error>(())
+/// ```
 impl Key for Duration {
-    fn number(self) -> u64 {
+    fn to_number(self) -> u64 {
         u64::try_from(self.as_nanos()).unwrap_or(u64::MAX)
     }
 
-    fn of_number(number: u64) -> Duration {
+    fn from_number(number: u64) -> Duration {
         Duration::from_nanos(number)
     }
 }
@@ -147,15 +204,17 @@ impl Key for Duration {
 impl Key for Instant {
     const TIME_ZERO: u64 = TOP;
 
-    fn number(self) -> u64 {
+    fn to_number(self) -> u64 {
         const MOST: i128 = i64::MAX as i128;
         let nanoseconds = clock::nanoseconds(self);
-        (nanoseconds.clamp(-MOST, MOST) as i64).number()
+        (nanoseconds.clamp(-MOST, MOST) as i64).to_number()
     }
 
-    fn of_number(number: u64) -> Instant {
-        let moment = clock::moment(i64::of_number(number).into());
+    fn from_number(number: u64) -> Instant {
+        let moment = clock::moment(i64::from_number(number).into());
         // The clock has each moment that was a key.
         moment.unwrap_or_else(Instant::now)
     }
 }
+
+impl TimeKey for Instant {}

@@ -21,12 +21,13 @@
 //! ```
 //!
 //! - Calls: [`push`](TaskQueue::push), [`pop`](TaskQueue::pop) and [`peek`](TaskQueue::peek); [`take`](TaskQueue::take), which waits for a
-//!   payload; [`pop_due`](TaskQueue::pop_due) and [`take_due`](TaskQueue::take_due), where keys are times.
+//!   payload, and [`try_take`](TaskQueue::try_take), which never waits; [`pop_due`](TaskQueue::pop_due), up to a key, and where keys are times
+//!   [`take_due`](TaskQueue::take_due).
 //! - Batches, up to 64 requests under one lock: [`push_many`](TaskQueue::push_many) and [`pop_due_many`](TaskQueue::pop_due_many).
 //! - Tickets, by which a payload is removed or moved wherever it waits: [`remove`](TaskQueue::remove), [`reschedule`](TaskQueue::reschedule).
 //! - [`len`](TaskQueue::len) is exact, and so is [`peak_len`](TaskQueue::peak_len), the most that it has been. A queue may have a bound, at
 //!   which pushes wait for room ([`Options::most_items`]).
-//! - They wait for other threads as long as it takes. [`until`](TaskQueue::until) limits that: `queue.until(deadline).take()`.
+//! - All these calls wait for other threads as long as it takes. [`until`](TaskQueue::until) limits that: `queue.until(deadline).take()`.
 //! - A [`TaskMember`] moves between threads; a thread that calls the queue itself has one of its own.
 //! - A task of an executor awaits [`take_async`](TaskQueue::take_async), and an event loop has a [`Listener`], or a [`DueListener`] for what is
 //!   due.
@@ -40,10 +41,25 @@
 //!
 //! In a forked child of a process that has opened a queue each call is refused ([`Error::Forked`]), and payloads are not dropped.
 //!
-//! The library is the folder that `FLATPQ_LIB_DIR` names, or what `pkg-config` knows as `flatpq`, or an archive beside this crate.
+//! The crate links the static library: that in the folder `FLATPQ_LIB_DIR`, or else the one beside this crate, or else the one that
+//! `pkg-config` knows as `flatpq`. Where `FLATPQ_DYNAMIC` is 1 it links the shared library that `pkg-config` knows.
 #![deny(missing_docs)]
 #![deny(missing_debug_implementations)]
 #![deny(unsafe_op_in_unsafe_fn)]
+
+#[cfg(not(all(target_os = "linux", target_env = "gnu", target_arch = "x86_64")))]
+compile_error!("flatpq runs on Linux with glibc on x86-64 alone");
+
+/// A text for messages that has the name alone: payloads need none.
+macro_rules! debug_by_name {
+    ($Name:ident<$($life:lifetime,)? $($Part:ident),+>) => {
+        impl<$($life,)? $($Part),+> std::fmt::Debug for $Name<$($life,)? $($Part),+> {
+            fn fmt(&self, f: &mut std::fmt::Formatter<'_>) -> std::fmt::Result {
+                f.debug_struct(stringify!($Name)).finish_non_exhaustive()
+            }
+        }
+    };
+}
 
 mod after;
 mod batches;
@@ -63,12 +79,12 @@ pub use batches::Pushed;
 pub use calls::{Limited, Number};
 pub use clock::Until;
 pub use error::{Due, Error, NotAllPushed, NotClosed, NotPushed, NotReadBack};
-pub use futures::{Take, TakeDue};
-pub use journal::{Entries, Entry, Item, Journal, ReadBack, Request, TaskJournal};
-pub use key::Key;
+pub use futures::{Take, TakeDue, WaitArchived};
+pub use journal::{Entry, Item, Iter, Journal, Left, ReadBack, Request, TaskJournal};
+pub use key::{Key, TickKey, TimeKey};
 pub use listener::{DueListener, Listener};
 pub use options::{Keeping, Options};
-pub use tasks::{Member, Queue, TaskMember, TaskQueue};
+pub use tasks::{Drain, Member, Queue, TaskMember, TaskQueue};
 
 /// The version of the library that is linked: 10,000 times its major number, 100 times its minor number, and its patch. It goes with
 /// this crate where all but the patch are the same, and its patch is not lower.
@@ -78,6 +94,7 @@ pub use tasks::{Member, Queue, TaskMember, TaskQueue};
 /// let own = numbers.iter().fold(0, |sum, number| 100 * sum + number.parse::<u32>().unwrap());
 /// assert_eq!(flatpq::library_version() / 100, own / 100);
 /// ```
+#[must_use]
 pub fn library_version() -> u32 {
     // SAFETY: the call returns a constant.
     unsafe { raw::pq_version() }

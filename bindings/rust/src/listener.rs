@@ -1,6 +1,6 @@
 //! Takes that wait in an event loop: by a file descriptor, of an event or of a timer.
 use crate::error::{Due, Error};
-use crate::key::Key;
+use crate::key::{Key, TimeKey};
 use crate::raw;
 use crate::tasks::{TaskMember, TaskQueue};
 use std::fmt;
@@ -36,39 +36,42 @@ fn file_of(descriptor: c_int) -> io::Result<File> {
 /// let queue = flatpq::TaskQueue::new()?;
 /// let mut listener = queue.listener()?;
 /// assert!(listener.as_raw_fd() >= 0);
-/// assert_eq!(listener.take()?, None);
+/// assert_eq!(listener.try_take()?, None);
 /// queue.push(5, "five")?;
 /// // Now the descriptor is readable.
-/// while let Some((key, text)) = listener.take()? {
+/// while let Some((key, text)) = listener.try_take()? {
 ///     assert_eq!((key, text), (5, "five"));
 /// }
 /// # Ok::<(), Box<dyn std::error::Error>>(())
 /// ```
-pub struct Listener<T, K = u64> {
+pub struct Listener<K, T> {
     // The member ends first: then nothing writes to the descriptor.
-    member: TaskMember<T, K>,
+    member: TaskMember<K, T>,
     event: File,
 }
 
-impl<T: Send, K: Key> TaskQueue<T, K> {
+impl<K: Key, T: Send> TaskQueue<K, T> {
     /// Joins the queue for an event loop.
     ///
     /// # Errors
     ///
-    /// Those of [`TaskQueue::join`] as [`io::ErrorKind::Other`], and where there is no descriptor left.
-    pub fn listener(&self) -> io::Result<Listener<T, K>> {
+    /// Those of [`TaskQueue::join`], and where there is no descriptor left.
+    pub fn listener(&self) -> io::Result<Listener<K, T>> {
         let member = self.join()?;
         // SAFETY: the call makes a descriptor.
         let event = file_of(unsafe { eventfd(0, CLOSE_ON_EXEC_AND_NONBLOCKING) })?;
         Ok(Listener { member, event })
     }
 
-    /// Joins the queue for an event loop that waits for what is due. Keys are times, as of [`TaskQueue::take_due`].
+    /// Joins the queue for an event loop that waits for what is due.
     ///
     /// # Errors
     ///
     /// Those of [`TaskQueue::listener`].
-    pub fn due_listener(&self) -> io::Result<DueListener<T, K>> {
+    pub fn due_listener(&self) -> io::Result<DueListener<K, T>>
+    where
+        K: TimeKey,
+    {
         let member = self.join()?;
         // SAFETY: the call makes a descriptor.
         let timer =
@@ -77,14 +80,14 @@ impl<T: Send, K: Key> TaskQueue<T, K> {
     }
 }
 
-impl<T: Send, K: Key> Listener<T, K> {
+impl<K: Key, T: Send> Listener<K, T> {
     /// Takes the first payload out, with its key, if there is one. Else the descriptor becomes readable once there may be one, or the queue
     /// is shut. The call never waits.
     ///
     /// # Errors
     ///
-    /// Those of [`TaskMember::take`].
-    pub fn take(&mut self) -> Result<Option<(K, T)>, Error> {
+    /// Those of [`TaskMember::take`], and [`Error::AllJoined`] where the members of all others wait for payloads: calls need the last one.
+    pub fn try_take(&mut self) -> Result<Option<(K, T)>, Error> {
         let found = self.found(u64::MAX)?;
         Ok(self.member.shared.keyed(found).got())
     }
@@ -94,13 +97,13 @@ impl<T: Send, K: Key> Listener<T, K> {
     ///
     /// # Errors
     ///
-    /// Those of [`TaskMember::take`].
-    pub fn pop_due(&mut self, key: K) -> Result<Due<T, K>, Error> {
+    /// Those of [`Listener::try_take`].
+    pub fn pop_due(&mut self, key: K) -> Result<Due<K, T>, Error> {
         let found = self.found(self.member.shared.times.priority_of(key))?;
         Ok(self.member.shared.keyed(found))
     }
 
-    fn found(&mut self, priority: u64) -> Result<Due<T>, Error> {
+    fn found(&mut self, priority: u64) -> Result<Due<u64, T>, Error> {
         // The parent has the event too.
         self.member.unless_forked()?;
         // It is nonblocking, and may have nothing to read.
@@ -114,26 +117,33 @@ impl<T: Send, K: Key> Listener<T, K> {
     }
 }
 
-impl<T, K> AsFd for Listener<T, K> {
-    fn as_fd(&self) -> BorrowedFd<'_> {
-        self.event.as_fd()
-    }
+macro_rules! has_descriptor {
+    ($Type:ident, $file:ident) => {
+        impl<K, T> AsFd for $Type<K, T> {
+            fn as_fd(&self) -> BorrowedFd<'_> {
+                self.$file.as_fd()
+            }
+        }
+
+        impl<K, T> AsRawFd for $Type<K, T> {
+            fn as_raw_fd(&self) -> RawFd {
+                self.$file.as_raw_fd()
+            }
+        }
+
+        impl<K, T> fmt::Debug for $Type<K, T> {
+            fn fmt(&self, f: &mut fmt::Formatter<'_>) -> fmt::Result {
+                f.debug_struct(stringify!($Type))
+                    .field("member", &self.member)
+                    .field(stringify!($file), &self.$file)
+                    .finish()
+            }
+        }
+    };
 }
 
-impl<T, K> AsRawFd for Listener<T, K> {
-    fn as_raw_fd(&self) -> RawFd {
-        self.event.as_raw_fd()
-    }
-}
-
-impl<T, K> fmt::Debug for Listener<T, K> {
-    fn fmt(&self, f: &mut fmt::Formatter<'_>) -> fmt::Result {
-        f.debug_struct("Listener")
-            .field("member", &self.member)
-            .field("event", &self.event)
-            .finish()
-    }
-}
+has_descriptor!(Listener, event);
+has_descriptor!(DueListener, timer);
 
 /// A member with a file descriptor that is readable once the first payload is due, for event loops: poll(2), mio,
 /// `tokio::io::unix::AsyncFd`. So the loop needs no timer of its own.
@@ -149,54 +159,33 @@ impl<T, K> fmt::Debug for Listener<T, K> {
 /// let queue = TaskQueue::new()?;
 /// let mut listener = queue.due_listener()?;
 /// assert!(listener.as_raw_fd() >= 0);
-/// assert_eq!(listener.take_due()?, Due::Empty);
+/// assert_eq!(listener.try_take_due()?, Due::Empty);
 /// let later = Instant::now() + Duration::from_secs(3600);
 /// queue.push(later, "in an hour")?;
 /// // Now the descriptor is readable, and the call sets the timer.
-/// assert!(matches!(listener.take_due()?, Due::Later(_)));
+/// assert!(matches!(listener.try_take_due()?, Due::Later(_)));
 /// queue.push(Instant::now(), "now")?;
 /// // Now it is readable again.
-/// while let Due::Got(_, text) = listener.take_due()? {
+/// while let Due::Got(_, text) = listener.try_take_due()? {
 ///     assert_eq!(text, "now");
 /// }
 /// # Ok::<(), Box<dyn std::error::Error>>(())
 /// ```
-pub struct DueListener<T, K = u64> {
+pub struct DueListener<K, T> {
     // The member ends first: then nothing sets the timer.
-    member: TaskMember<T, K>,
+    member: TaskMember<K, T>,
     timer: File,
 }
 
-impl<T: Send, K: Key> DueListener<T, K> {
+impl<K: Key, T: Send> DueListener<K, T> {
     /// Takes the first payload out, with its key, if it is due. Else the descriptor becomes readable once the first payload is due, an
     /// earlier one comes, or the queue is shut, or sometimes for nothing. The call never waits.
     ///
     /// # Errors
     ///
-    /// Those of [`TaskMember::take_due`].
-    pub fn take_due(&mut self) -> Result<Due<T, K>, Error> {
+    /// Those of [`Listener::try_take`].
+    pub fn try_take_due(&mut self) -> Result<Due<K, T>, Error> {
         let found = self.member.taken_due_or_listens(self.timer.as_fd())?;
         Ok(self.member.shared.keyed(found))
-    }
-}
-
-impl<T, K> AsFd for DueListener<T, K> {
-    fn as_fd(&self) -> BorrowedFd<'_> {
-        self.timer.as_fd()
-    }
-}
-
-impl<T, K> AsRawFd for DueListener<T, K> {
-    fn as_raw_fd(&self) -> RawFd {
-        self.timer.as_raw_fd()
-    }
-}
-
-impl<T, K> fmt::Debug for DueListener<T, K> {
-    fn fmt(&self, f: &mut fmt::Formatter<'_>) -> fmt::Result {
-        f.debug_struct("DueListener")
-            .field("member", &self.member)
-            .field("timer", &self.timer)
-            .finish()
     }
 }

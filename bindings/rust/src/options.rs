@@ -1,13 +1,13 @@
 //! How a queue is opened.
 use crate::clock::Times;
 use crate::error::Error;
-use crate::key::Key;
+use crate::key::{Key, TickKey};
 use crate::raw::RawOptions;
 use crate::tasks::TaskQueue;
 use std::time::{Duration, Instant};
 
 /// What happens to the journal's older entries. An entry takes 64 bytes.
-#[derive(Clone, Copy, Debug, PartialEq, Eq)]
+#[derive(Clone, Copy, Debug, PartialEq, Eq, Hash)]
 #[non_exhaustive]
 pub enum Keeping {
     /// Memory keeps the last so many, 65,536 to 16,777,216; 0 is 65,536.
@@ -18,7 +18,7 @@ pub enum Keeping {
     Fills(u32),
 }
 
-/// How a queue is opened.
+/// How a queue is opened, and from what start keys count, where they are times ([`Options::times`]).
 ///
 /// ```
 /// use flatpq::{Error, Keeping, Options};
@@ -28,15 +28,11 @@ pub enum Keeping {
 /// assert_eq!(queue.pop(), Err(Error::JournalFull));
 /// # Ok::<(), Error>(())
 /// ```
-#[derive(Clone, Copy, Debug, Default)]
+#[derive(Clone, Copy, Debug, Default, PartialEq, Eq, Hash)]
 #[must_use]
-pub struct Options {
-    members: u32,
-    keeping: u32,
-    entries: u32,
-    times: Option<(Instant, Duration)>,
-    most_items: u64,
-    tickets: bool,
+pub struct Options<S = ()> {
+    raw: RawOptions,
+    start: S,
 }
 
 impl Options {
@@ -45,28 +41,9 @@ impl Options {
         Options::default()
     }
 
-    /// How many members there may be at once: 1 to 64; 0 is 64. More threads than that may call the queue itself.
-    pub fn members(self, members: u32) -> Options {
-        Options { members, ..self }
-    }
-
-    /// What happens to the journal's older entries.
-    pub fn keeping(self, keeping: Keeping) -> Options {
-        let (keeping, entries) = match keeping {
-            Keeping::Forgets(entries) => (0, entries),
-            Keeping::Refuses(entries) => (1, entries),
-            Keeping::Fills(entries) => (2, entries),
-        };
-        Options {
-            keeping,
-            entries,
-            ..self
-        }
-    }
-
     /// Keys are times: the key 0 is due at `start`, and each later key by a unit later, of 1 to 2^64 - 1 nanoseconds. The clock counts whole
-    /// units, so items are due less than a unit later than that. Keys that are moments ([`Instant`]) need no such option. Of unsigned keys
-    /// the last ones, as many as the clock had units at `start`, count as the very last one, and come out as that.
+    /// units, so items are due less than a unit later than that. Only a [`TickKey`] counts so: an [`Instant`] is a moment by itself. Unsigned
+    /// keys above `u64::MAX - uptime / unit`, of the time since the machine was started until `start`, all count as `u64::MAX`.
     ///
     /// ```
     /// use flatpq::Options;
@@ -79,9 +56,53 @@ impl Options {
     /// assert!(start.elapsed() >= Duration::from_millis(20));
     /// # Ok::<(), flatpq::Error>(())
     /// ```
-    pub fn times(self, start: Instant, unit: Duration) -> Options {
-        let times = Some((start, unit));
-        Options { times, ..self }
+    pub fn times(self, start: Instant, unit: Duration) -> Options<(Instant, Duration)> {
+        let (raw, start) = (self.raw, (start, unit));
+        Options { raw, start }
+    }
+
+    /// Opens a queue. Where its keys are times, they are those that [`TimeKey`](crate::TimeKey) says.
+    ///
+    /// # Errors
+    ///
+    /// [`Error::BadOption`], [`Error::NoMemory`], [`Error::Forked`], [`Error::Processor`].
+    pub fn open<K: Key, T: Send>(&self) -> Result<TaskQueue<K, T>, Error> {
+        self.opened(Times {
+            zero: K::TIME_ZERO,
+            unit: K::TIME_UNIT.max(1),
+            above: 0,
+        })
+    }
+}
+
+impl Options<(Instant, Duration)> {
+    /// Opens a queue whose keys count from the start.
+    ///
+    /// # Errors
+    ///
+    /// Those of any opening.
+    pub fn open<K: TickKey, T: Send>(&self) -> Result<TaskQueue<K, T>, Error> {
+        let (start, unit) = self.start;
+        let times = Times::since(K::TIME_ZERO, start, unit);
+        self.opened(times.ok_or(Error::BadOption)?)
+    }
+}
+
+impl<S> Options<S> {
+    /// How many members there may be at once: 1 to 64; 0 is 64. More threads than that may call the queue itself.
+    pub fn members(mut self, members: u32) -> Options<S> {
+        self.raw.members = members;
+        self
+    }
+
+    /// What happens to the journal's older entries.
+    pub fn keeping(mut self, keeping: Keeping) -> Options<S> {
+        (self.raw.keeping, self.raw.entries) = match keeping {
+            Keeping::Forgets(entries) => (0, entries),
+            Keeping::Refuses(entries) => (1, entries),
+            Keeping::Fills(entries) => (2, entries),
+        };
+        self
     }
 
     /// How many items the queue may have; 0, the default, is no bound. A push to a queue that has so many waits until a payload is taken out,
@@ -97,38 +118,22 @@ impl Options {
     /// assert_eq!((refused.error, refused.payload), (Error::Full, "six"));
     /// # Ok::<(), Error>(())
     /// ```
-    pub fn most_items(self, most_items: u64) -> Options {
-        Options { most_items, ..self }
+    pub fn most_items(mut self, most_items: u64) -> Options<S> {
+        self.raw.most_items = most_items;
+        self
     }
 
     /// Whether payloads can be removed or moved by ticket ([`TaskQueue::remove`], [`TaskQueue::reschedule`]). Pushes and pops take longer then.
-    pub fn tickets(self, tickets: bool) -> Options {
-        Options { tickets, ..self }
+    pub fn tickets(mut self, tickets: bool) -> Options<S> {
+        self.raw.tickets = tickets.into();
+        self
     }
 
-    /// Opens a queue.
-    ///
-    /// # Errors
-    ///
-    /// [`Error::BadOption`], [`Error::NoMemory`], [`Error::Forked`], [`Error::Processor`].
-    pub fn open<T: Send, K: Key>(&self) -> Result<TaskQueue<T, K>, Error> {
-        let times = match self.times {
-            None => Some(Times {
-                zero: K::TIME_ZERO,
-                unit: K::TIME_UNIT.max(1),
-                above: 0,
-            }),
-            Some((start, unit)) => Times::since(K::TIME_ZERO, start, unit),
-        };
-        let times = times.ok_or(Error::BadOption)?;
+    fn opened<K: Key, T: Send>(&self, times: Times) -> Result<TaskQueue<K, T>, Error> {
         let options = RawOptions {
-            members: self.members,
-            keeping: self.keeping,
-            entries: self.entries,
-            tickets: u32::from(self.tickets),
             time_zero: times.zero,
             time_unit: times.unit,
-            most_items: self.most_items,
+            ..self.raw
         };
         TaskQueue::opened(&options, times)
     }

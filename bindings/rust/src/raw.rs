@@ -20,7 +20,7 @@ pub type Left = unsafe extern "C" fn(*mut c_void, Item);
 pub type First = unsafe extern "C" fn(*mut MemberInside, *mut Item, u64, *mut u64) -> u32;
 
 #[repr(C)]
-#[derive(Clone, Copy, Debug, Default)]
+#[derive(Clone, Copy, Debug, Default, PartialEq, Eq, Hash)]
 pub struct RawOptions {
     pub members: u32,
     pub keeping: u32,

@@ -4,9 +4,9 @@ use crate::batches::Pushed;
 use crate::calls::{calls, found, takes, Call, Limited, Number};
 use crate::clock::{Times, Until};
 use crate::error::{Due, Error, NotAllPushed, NotClosed, NotPushed};
-use crate::futures::Slot;
+use crate::futures::{Archives, Slot};
 use crate::journal::{Item, Journal, TaskJournal};
-use crate::key::Key;
+use crate::key::{Key, TimeKey};
 use crate::options::Options;
 use crate::payload::{self, payload_of, value_of};
 use crate::raw::{self, RawMember, RawOptions, RawQueue};
@@ -14,8 +14,9 @@ use std::cell::Cell;
 use std::marker::PhantomData;
 use std::os::raw::c_void;
 use std::os::unix::io::{AsRawFd, BorrowedFd};
+use std::sync::atomic::{AtomicBool, Ordering};
 use std::sync::{Arc, Mutex};
-use std::{fmt, iter};
+use std::{fmt, iter::FusedIterator};
 
 /// What a queue and its members share. The last of them frees it, and drops the payloads that are left.
 pub struct Shared<T> {
@@ -23,29 +24,32 @@ pub struct Shared<T> {
     pub times: Times,
     /// A push may wait for room.
     pub is_bounded: bool,
+    /// A shut has returned.
+    pub is_shut: AtomicBool,
+    pub archives: Archives,
     // Payloads go from thread to thread, and none is used by two at once.
     payloads: PhantomData<Mutex<T>>,
 }
 
 impl<T> Shared<T> {
     /// What a call found, by keys.
-    pub fn keyed<K: Key>(&self, found: Due<T>) -> Due<T, K> {
+    pub fn keyed<K: Key>(&self, found: Due<u64, T>) -> Due<K, T> {
         match found {
             Due::Got(priority, payload) => Due::Got(self.times.key_of(priority), payload),
             Due::Later(priority) => Due::Later(self.times.key_of(priority)),
             Due::Empty => Due::Empty,
         }
     }
-}
 
-impl<T> Shared<T> {
     /// Waits until the entry of this number is archived.
     pub fn wait_archived(&self, number: u64, until: u64) -> u32 {
-        let wait = || self.queue.wait_archived(number, until);
-        match until {
-            0 => after::calling(wait),
-            _ => after::waiting(wait),
-        }
+        after::until(until, || self.queue.wait_archived(number, until))
+    }
+
+    fn shut(&self) -> Result<(), Error> {
+        Error::unless_ok(after::calling(|| self.queue.shut()))?;
+        self.is_shut.store(true, Ordering::Release);
+        Ok(())
     }
 }
 
@@ -68,7 +72,8 @@ impl<T> Drop for Shared<T> {
 /// ([`TaskQueue::join`]).
 ///
 /// A payload of at most eight bytes, as a number or a `Box<u32>`, lies in its item; any other, as a `Box<dyn FnOnce()>`, in memory of its own.
-/// Those that are left are dropped with the last of the queue and its members, or with the journal where the queue was closed.
+/// Those that are left are dropped with the last of the queue and its members, or with the journal where the queue was closed. Box a payload
+/// of more than some KiB: a call of a debug build needs up to 64 times its size of stack.
 ///
 /// A queue whose type is not named has keys of the type of those that are pushed, which of bare numbers is `i32`.
 ///
@@ -77,7 +82,7 @@ impl<T> Drop for Shared<T> {
 /// use std::thread;
 ///
 /// let text = String::from("get up, sleep");
-/// let queue: TaskQueue<&str> = TaskQueue::new()?;
+/// let queue: TaskQueue<u64, &str> = TaskQueue::new()?;
 /// for (priority, task) in (0..).zip(text.split(", ")) {
 ///     queue.push(priority, task)?;
 /// }
@@ -90,41 +95,53 @@ impl<T> Drop for Shared<T> {
 ///
 /// ```compile_fail,E0505
 /// let text = String::from("one two");
-/// let queue: flatpq::TaskQueue<&str> = flatpq::TaskQueue::new()?;
+/// let queue: flatpq::TaskQueue<u64, &str> = flatpq::TaskQueue::new()?;
 /// queue.push(1, &text)?;
 /// drop(text);
 /// # Ok::<(), flatpq::Error>(())
 /// ```
-pub struct TaskQueue<T, K = u64> {
-    shared: Arc<Shared<T>>,
+///
+/// # Errors
+///
+/// Each call may return
+///
+/// - [`Error::JournalFull`] and [`Error::Unarchived`], where the queue was opened so ([`Options::keeping`]), and [`Error::Exhausted`];
+/// - [`Error::Pending`], by a member that has posted a request which has no answer yet;
+/// - [`Error::NoMemory`], by the queue itself, for its thread's member;
+/// - [`Error::TimedOut`], with a deadline: other threads had the lock, or all members, until then;
+/// - [`Error::Forked`], in a forked child of a process that has opened a queue.
+pub struct TaskQueue<K, T> {
+    pub(crate) shared: Arc<Shared<T>>,
     keys: PhantomData<fn(K) -> K>,
 }
 
 /// A queue of integers by keys: as any [`TaskQueue`], and with calls that return or post numbers. Its journal has the values as they were
 /// pushed, where they are unsigned.
-pub type Queue<K = u64, V = u64> = TaskQueue<V, K>;
+pub type Queue<K = u64, V = u64> = TaskQueue<K, V>;
 
 /// A member of a [`Queue`].
-pub type Member<K = u64, V = u64> = TaskMember<V, K>;
+pub type Member<K = u64, V = u64> = TaskMember<K, V>;
 
-calls!(() TaskQueue<T, K>,);
+calls!(() TaskQueue<K, T>,);
 takes!(TaskQueue);
 
-impl<T: Send, K: Key> TaskQueue<T, K> {
+impl<K: Key, T: Send> TaskQueue<K, T> {
     /// Opens a queue for 64 members, with a journal of which memory keeps the last 65,536 entries. [`Options`] opens others.
     ///
     /// # Errors
     ///
     /// [`Error::NoMemory`], [`Error::Forked`], [`Error::Processor`].
-    pub fn new() -> Result<TaskQueue<T, K>, Error> {
+    pub fn new() -> Result<TaskQueue<K, T>, Error> {
         Options::new().open()
     }
 
-    pub(crate) fn opened(options: &RawOptions, times: Times) -> Result<TaskQueue<T, K>, Error> {
+    pub(crate) fn opened(options: &RawOptions, times: Times) -> Result<TaskQueue<K, T>, Error> {
         let shared = Shared {
             queue: RawQueue::open(options)?,
             times,
             is_bounded: options.most_items > 0,
+            is_shut: AtomicBool::new(false),
+            archives: Archives::default(),
             payloads: PhantomData,
         };
         Ok(TaskQueue {
@@ -133,13 +150,13 @@ impl<T: Send, K: Key> TaskQueue<T, K> {
         })
     }
 
-    fn call(&self) -> Call<'_, T, K> {
+    fn call(&self) -> Call<'_, K, T> {
         self.until(Until::FOREVER).0
     }
 
     /// Limits how long calls may wait for other threads, and for payloads: until a moment ([`Instant`](std::time::Instant)), for a time
     /// from now ([`Duration`](std::time::Duration)), or not at all ([`Until::NOW`]).
-    pub fn until(&self, until: impl Into<Until>) -> Limited<'_, T, K> {
+    pub fn until(&self, until: impl Into<Until>) -> Limited<'_, K, T> {
         Limited(Call {
             member: self.shared.queue.own(),
             until: until.into().time(),
@@ -149,12 +166,12 @@ impl<T: Send, K: Key> TaskQueue<T, K> {
         })
     }
 
-    /// Joins the queue, if a member is left, or an idle one that it takes over.
+    /// Joins the queue, if a member is left, or an idle one that it takes over. Leave one for calls by the queue itself, which else wait.
     ///
     /// # Errors
     ///
     /// [`Error::AllJoined`], [`Error::NoMemory`], [`Error::Forked`].
-    pub fn join(&self) -> Result<TaskMember<T, K>, Error> {
+    pub fn join(&self) -> Result<TaskMember<K, T>, Error> {
         self.join_until(Until::NOW)
     }
 
@@ -163,14 +180,10 @@ impl<T: Send, K: Key> TaskQueue<T, K> {
     /// # Errors
     ///
     /// Those of [`TaskQueue::join`].
-    pub fn join_until(&self, until: impl Into<Until>) -> Result<TaskMember<T, K>, Error> {
-        let join = |until| move || self.shared.queue.join(until);
-        let raw = match until.into().time() {
-            0 => after::calling(join(0)),
-            until => after::waiting(join(until)),
-        };
+    pub fn join_until(&self, until: impl Into<Until>) -> Result<TaskMember<K, T>, Error> {
+        let until = until.into().time();
         Ok(TaskMember {
-            raw: raw?,
+            raw: after::until(until, || self.shared.queue.join(until))?,
             number: Cell::new(0),
             posted: Item::default(),
             slot: Arc::default(),
@@ -191,19 +204,12 @@ impl<T: Send, K: Key> TaskQueue<T, K> {
     /// assert_eq!(queue.peek()?, None);
     /// # Ok::<(), flatpq::Error>(())
     /// ```
-    pub fn drain(&self) -> impl Iterator<Item = Result<(K, T), Error>> + '_ {
-        let mut is_over = false;
-        iter::from_fn(move || {
-            if is_over {
-                return None;
-            }
-            let popped = self.call().pop_up_to(u64::MAX).map(Due::got);
-            is_over = popped.is_err();
-            popped.transpose()
-        })
+    pub fn drain(&self) -> Drain<'_, K, T> {
+        Drain(Some(self))
     }
 
-    /// Takes all payloads out, and drops them: how many. So a queue that is shut gives up those that hold a member of it.
+    /// Takes all payloads out, and drops them: how many. A payload that holds a [`TaskMember`] of this queue keeps it alive: shut the queue
+    /// and clear it to free both.
     ///
     /// # Errors
     ///
@@ -213,12 +219,13 @@ impl<T: Send, K: Key> TaskQueue<T, K> {
             .try_fold(0, |count, drained| drained.map(|_| count + 1))
     }
 
-    /// Closes the queue: its journal, and the payloads that are left. Own members of threads that are in no call are taken back.
+    /// Ends the queue: its journal, and the payloads that are left. Own members of threads that are in no call are taken back. No thread that
+    /// waits is woken: [`TaskQueue::shut`] does that first.
     ///
     /// # Errors
     ///
     /// [`Error::MembersLeft`], [`Error::NoMemory`] and [`Error::Forked`], with the queue, which stays open.
-    pub fn close(self) -> Result<TaskJournal<T, K>, NotClosed<T, K>> {
+    pub fn close(self) -> Result<TaskJournal<K, T>, NotClosed<K, T>> {
         match after::calling(|| self.shared.queue.close()) {
             Ok(raw) => Ok(TaskJournal::new(raw, self.shared.times)),
             Err(error) => Err(NotClosed { queue: self, error }),
@@ -226,15 +233,15 @@ impl<T: Send, K: Key> TaskQueue<T, K> {
     }
 }
 
-impl<T, K> TaskQueue<T, K> {
+impl<K, T> TaskQueue<K, T> {
     /// Shuts the queue down for good: from now on each push is refused. Threads that wait for a payload take what is left, and then return
-    /// [`Error::Shut`].
+    /// [`Error::Shut`]. The queue stays, until [`TaskQueue::close`] ends it.
     ///
     /// # Errors
     ///
     /// [`Error::Forked`].
     pub fn shut(&self) -> Result<(), Error> {
-        Error::unless_ok(after::calling(|| self.shared.queue.shut()))
+        self.shared.shut()
     }
 
     /// Waits until an archive has counted the entry of this number as archived ([`TaskQueue::archive`]).
@@ -252,19 +259,35 @@ impl<T, K> TaskQueue<T, K> {
     }
 }
 
-impl<T, K> fmt::Debug for TaskQueue<T, K> {
-    fn fmt(&self, f: &mut fmt::Formatter<'_>) -> fmt::Result {
-        f.debug_struct("TaskQueue").finish_non_exhaustive()
+debug_by_name!(TaskQueue<K, T>);
+
+/// Takes all payloads out ([`TaskQueue::drain`]).
+#[must_use = "what is not asked for stays in the queue"]
+pub struct Drain<'a, K, T>(Option<&'a TaskQueue<K, T>>);
+
+impl<K: Key, T: Send> Iterator for Drain<'_, K, T> {
+    type Item = Result<(K, T), Error>;
+
+    fn next(&mut self) -> Option<Self::Item> {
+        let popped = self.0?.call().pop_up_to(u64::MAX).map(Due::got);
+        if !matches!(popped, Ok(Some(_))) {
+            self.0 = None;
+        }
+        popped.transpose()
     }
 }
+
+impl<K: Key, T: Send> FusedIterator for Drain<'_, K, T> {}
+
+debug_by_name!(Drain<'a, K, T>);
 
 /// A member of a [`TaskQueue`], which may move between threads. It is given back when it is dropped. It may outlive its queue.
 ///
 /// ```compile_fail,E0277
 /// fn is_sync<T: Sync>() {}
-/// is_sync::<flatpq::TaskMember<u32>>();
+/// is_sync::<flatpq::TaskMember<u64, u32>>();
 /// ```
-pub struct TaskMember<T, K = u64> {
+pub struct TaskMember<K, T> {
     raw: RawMember,
     number: Cell<u64>,
     // What it posted, where that was a push.
@@ -275,16 +298,16 @@ pub struct TaskMember<T, K = u64> {
     keys: PhantomData<fn(K) -> K>,
 }
 
-calls!(() TaskMember<T, K>, mut);
+calls!(() TaskMember<K, T>, mut);
 takes!(TaskMember mut);
 
-impl<T: Send, K: Key> TaskMember<T, K> {
-    fn call(&mut self) -> Call<'_, T, K> {
+impl<K: Key, T: Send> TaskMember<K, T> {
+    fn call(&mut self) -> Call<'_, K, T> {
         self.until(Until::FOREVER).0
     }
 
     /// Limits how long calls may wait, as [`TaskQueue::until`] does.
-    pub fn until(&mut self, until: impl Into<Until>) -> Limited<'_, T, K> {
+    pub fn until(&mut self, until: impl Into<Until>) -> Limited<'_, K, T> {
         Limited(Call {
             member: self.raw.inside(),
             until: until.into().time(),
@@ -315,7 +338,7 @@ impl<T: Send, K: Key> TaskMember<T, K> {
         &mut self,
         priority: u64,
         (notify, context): (raw::Notify, *mut c_void),
-    ) -> Result<Due<T>, Error> {
+    ) -> Result<Due<u64, T>, Error> {
         let (member, mut item, mut number) = (self.raw.inside(), Item::default(), 0);
         after::calling(|| {
             // SAFETY: the member is there, and in this call alone; as the caller says.
@@ -329,7 +352,10 @@ impl<T: Send, K: Key> TaskMember<T, K> {
     }
 
     // Takes the first payload out if it is due; else the member listens by this timer.
-    pub(crate) fn taken_due_or_listens(&mut self, timer: BorrowedFd<'_>) -> Result<Due<T>, Error> {
+    pub(crate) fn taken_due_or_listens(
+        &mut self,
+        timer: BorrowedFd<'_>,
+    ) -> Result<Due<u64, T>, Error> {
         let (member, timer) = (self.raw.inside(), timer.as_raw_fd());
         let (mut item, mut number) = (Item::default(), 0);
         after::calling(|| {
@@ -342,7 +368,7 @@ impl<T: Send, K: Key> TaskMember<T, K> {
     }
 }
 
-impl<T, K> TaskMember<T, K> {
+impl<K, T> TaskMember<K, T> {
     /// The place of the member, by which journal entries name it: 0 to 2079, or `u32::MAX` in a forked child.
     pub fn place(&self) -> u32 {
         // SAFETY: the member is there.
@@ -355,7 +381,7 @@ impl<T, K> TaskMember<T, K> {
     ///
     /// [`Error::Forked`].
     pub fn shut(&self) -> Result<(), Error> {
-        Error::unless_ok(after::calling(|| self.shared.queue.shut()))
+        self.shared.shut()
     }
 
     pub(crate) fn unless_forked(&self) -> Result<(), Error> {
@@ -389,7 +415,7 @@ impl<T, K> TaskMember<T, K> {
 
 /// Posts of numbers, for programs that never wait. [`Member::poll`] gets the answer. Each is refused by [`Error::Pending`] until then, and
 /// by the errors of each call.
-impl<T: Number, K: Key> TaskMember<T, K> {
+impl<K: Key, T: Number> TaskMember<K, T> {
     /// Posts a push, for the next thread that combines.
     ///
     /// # Errors
@@ -413,7 +439,7 @@ impl<T: Number, K: Key> TaskMember<T, K> {
         self.post(0, Item { priority, value })
     }
 
-    /// Posts a pop.
+    /// Posts a pop. Where the member is dropped before it has polled for the answer, that may take a number out which nobody gets.
     ///
     /// # Errors
     ///
@@ -465,7 +491,7 @@ impl<T: Number, K: Key> TaskMember<T, K> {
     }
 }
 
-impl<T, K> fmt::Debug for TaskMember<T, K> {
+impl<K, T> fmt::Debug for TaskMember<K, T> {
     fn fmt(&self, f: &mut fmt::Formatter<'_>) -> fmt::Result {
         f.debug_struct("TaskMember")
             .field("place", &self.place())

@@ -8,13 +8,13 @@ use std::task::{Context, Poll, Wake, Waker};
 use std::thread::{self, Thread};
 use std::time::{Duration, Instant};
 
-fn bounded<T: Send>(most_items: u64) -> TaskQueue<T> {
+fn bounded<T: Send>(most_items: u64) -> TaskQueue<u64, T> {
     Options::new().most_items(most_items).open().unwrap()
 }
 
 #[test]
 fn payloads_are_counted() {
-    let queue: TaskQueue<String> = TaskQueue::new().unwrap();
+    let queue: TaskQueue<u64, String> = TaskQueue::new().unwrap();
     let mut member = queue.join().unwrap();
     assert_eq!((queue.len(), queue.is_empty()), (Ok(0), Ok(true)));
     queue.push(5, "five".to_string()).unwrap();
@@ -77,7 +77,7 @@ fn a_full_queue_refuses() {
     let refused = until.push_many([(3, "three"), (4, "four")]).unwrap_err();
     assert_eq!((refused.pushed.count, refused.pushed.number), (1, 4));
     assert_eq!(
-        (refused.error, refused.payload),
+        (refused.error, refused.payloads),
         (Error::Full, vec![(4, "four")])
     );
     assert!(Error::Full.to_string().contains("full"));

@@ -178,7 +178,7 @@ fn each_thread_has_a_member_of_its_own() {
 
 #[test]
 fn more_threads_than_members_call() {
-    let queue: TaskQueue<u64> = Options::new().members(2).open().unwrap();
+    let queue: TaskQueue<u64, u64> = Options::new().members(2).open().unwrap();
     let queue = &queue;
     let sum: u64 = thread::scope(|scope| {
         let threads: Vec<_> = (0..16)
@@ -214,7 +214,7 @@ type Job = Box<dyn FnOnce() + Send>;
 fn a_close_takes_back_own_members() {
     let (jobs, received) = mpsc::channel::<Job>();
     let pool = thread::spawn(move || received.into_iter().for_each(|job| job()));
-    let pushes = |queue: TaskQueue<u32>, key: u64| {
+    let pushes = |queue: TaskQueue<u64, u32>, key: u64| {
         let (done, has_done) = mpsc::channel();
         let job: Job = Box::new(move || {
             queue.push(key, 1).unwrap();
@@ -241,7 +241,7 @@ fn a_close_takes_back_own_members() {
 #[test]
 fn a_close_after_a_scope_succeeds() {
     for _ in 0..300 {
-        let queue: TaskQueue<u32> = Options::new().members(4).open().unwrap();
+        let queue: TaskQueue<u64, u32> = Options::new().members(4).open().unwrap();
         thread::scope(|scope| {
             let queue = &queue;
             (0..3).for_each(|it| drop(scope.spawn(move || queue.push(it, 1).unwrap())));
@@ -255,7 +255,7 @@ thread_local! {
 }
 
 /// Pushes as its thread ends.
-struct Late(Arc<TaskQueue<u32>>);
+struct Late(Arc<TaskQueue<u64, u32>>);
 
 impl Drop for Late {
     fn drop(&mut self) {
@@ -274,4 +274,26 @@ fn a_thread_that_ends_calls_still() {
     });
     assert_eq!(queue.pop(), Ok(Some((5, 5))));
     assert_eq!(queue.pop(), Ok(Some((6, 6))));
+}
+
+/// One that polls gets what is left in a shut queue, and then learns that nothing comes.
+#[test]
+fn a_poll_sees_the_end() {
+    let queue = Queue::new().unwrap();
+    let mut member = queue.join().unwrap();
+    let past = Instant::now();
+    assert_eq!(queue.try_take_due(), Ok(Due::Empty));
+    queue.push_many([(1, 10), (2, 20), (3, 30)]).unwrap();
+    member.shut().unwrap();
+    assert_eq!(queue.try_take(), Ok(Some((1, 10))));
+    assert_eq!(member.try_take_due(), Ok(Due::Got(2, 20)));
+    assert_eq!(queue.until(past).take(), Ok(Some((3, 30))));
+    assert_eq!(queue.until(past).take(), Err(Error::Shut));
+    assert_eq!(queue.until(past).take_due(), Err(Error::Shut));
+    assert_eq!(member.try_take(), Err(Error::Shut));
+    assert_eq!(queue.try_take_due(), Err(Error::Shut));
+    // It listens no longer.
+    assert!(!member.unlisten());
+    drop(member);
+    assert!(queue.close().is_ok());
 }

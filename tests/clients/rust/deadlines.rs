@@ -25,11 +25,11 @@ extern "C" fn stop(_: i32) {
     }
 }
 
-type Tasks = TaskQueue<String>;
+type Tasks = TaskQueue<u64, String>;
 
 /// Runs this while the thread is stopped with the lock in its hand. It tries to stop it there until it has.
-fn stopped(caller: &JoinHandle<()>, looking: &mut TaskMember<String>, run: impl FnOnce()) {
-    let is_held = |it: &mut TaskMember<String>| it.combine() == Err(Error::TimedOut);
+fn stopped(caller: &JoinHandle<()>, looking: &mut TaskMember<u64, String>, run: impl FnOnce()) {
+    let is_held = |it: &mut TaskMember<u64, String>| it.combine() == Err(Error::TimedOut);
     loop {
         STOPS.store(true, SeqCst);
         // SAFETY: the thread runs until it is joined, and the handler is there.
@@ -60,7 +60,7 @@ fn text(refused: NotPushed<String>) -> Error {
     refused.error
 }
 
-fn all_time_out(queue: &Tasks, member: &mut TaskMember<String>) {
+fn all_time_out(queue: &Tasks, member: &mut TaskMember<u64, String>) {
     let (pair, began) = (|| (1, "text".to_string()), Instant::now());
     times_out(|at| queue.until(at).push(1, "text".to_string()).map_err(text));
     times_out(|at| member.until(at).push(1, "text".to_string()).map_err(text));
@@ -73,7 +73,7 @@ fn all_time_out(queue: &Tasks, member: &mut TaskMember<String>) {
     times_out(|at| {
         let pushed = queue.until(at).push_many([pair(), pair()]);
         pushed.map_err(|refused| {
-            assert_eq!(refused.payload, [pair(), pair()]);
+            assert_eq!(refused.payloads, [pair(), pair()]);
             refused.error
         })
     });

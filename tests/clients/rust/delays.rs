@@ -67,7 +67,7 @@ const CASES: &[(&str, &[Step])] = &[
 
 /// A queue, and the tickets of what went in.
 struct Delays {
-    queue: TaskQueue<&'static str>,
+    queue: TaskQueue<u64, &'static str>,
     tickets: HashMap<&'static str, u64>,
 }
 
@@ -128,7 +128,7 @@ const MOMENT: Duration = Duration::from_millis(20);
 /// The last delay is removed, for which a service waits that is shut: it ends then.
 #[test]
 fn a_removal_of_the_last_ends_a_service_that_is_shut() {
-    let queue: TaskQueue<u32, Instant> = Options::new().tickets(true).open().unwrap();
+    let queue: TaskQueue<Instant, u32> = Options::new().tickets(true).open().unwrap();
     let late = Instant::now() + 5000 * MOMENT;
     let tickets = [1, 2].map(|payload| queue.push(late, payload).unwrap());
     thread::scope(|threads| {
@@ -147,7 +147,7 @@ fn a_removal_of_the_last_ends_a_service_that_is_shut() {
 /// Resets wake who waits, and what is reset to a later time doesn't come out at the old one.
 #[test]
 fn a_reset_to_now_wakes_one_who_waits() {
-    let queue: TaskQueue<u32, Instant> = Options::new().tickets(true).open().unwrap();
+    let queue: TaskQueue<Instant, u32> = Options::new().tickets(true).open().unwrap();
     let (soon, late) = (Instant::now() + 3 * MOMENT, Instant::now() + 5000 * MOMENT);
     let tickets = [(soon, 1), (late, 2)].map(|(due, payload)| queue.push(due, payload).unwrap());
     thread::scope(|threads| {

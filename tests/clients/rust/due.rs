@@ -1,19 +1,19 @@
 //! A delay queue: a payload comes out once it is due and not before. What an earlier push, a deadline and a shut do to a thread that waits is
 //! in `expected.rs`.
-use flatpq::{Due, Error, Key, Options, TaskQueue};
+use flatpq::{Due, Error, Key, Options, TaskQueue, TickKey, TimeKey};
 use std::thread;
 use std::time::{Duration, Instant};
 
 const UNIT: Duration = Duration::from_millis(1);
 
 /// Keys count milliseconds from a moment.
-fn timed<K: Key>(start: Instant) -> TaskQueue<u32, K> {
+fn timed<K: TickKey>(start: Instant) -> TaskQueue<K, u32> {
     Options::new().times(start, UNIT).open().unwrap()
 }
 
 /// These keys are 20, 0 and 10 units after the start, and one that is an hour later.
-fn come_in_time<K: Key + PartialEq + std::fmt::Debug>(keys: [K; 4]) {
-    let start = Instant::now() + 200 * UNIT;
+fn come_in_time<K: TickKey + PartialEq + std::fmt::Debug>(keys: [K; 4]) {
+    let start = Instant::now() + 1000 * UNIT;
     let queue = timed(start);
     let [twenty, zero, ten, late] = keys;
     queue.push(late, 9).unwrap();
@@ -34,7 +34,7 @@ fn come_in_time<K: Key + PartialEq + std::fmt::Debug>(keys: [K; 4]) {
 fn keys_count_from_a_moment() {
     come_in_time([20_u64, 0, 10, 3_600_000]);
     come_in_time([20_i32, 0, 10, 3_600_000]);
-    come_in_time([20, 0, 10, 3_600_000].map(Duration::from_nanos));
+    come_in_time([20, 0, 10, 3_600_000].map(Micros));
 }
 
 /// So the last key may stand for never.
@@ -54,19 +54,22 @@ struct Micros(u64);
 impl Key for Micros {
     const TIME_UNIT: u64 = 1000;
 
-    fn number(self) -> u64 {
+    fn to_number(self) -> u64 {
         self.0
     }
 
-    fn of_number(number: u64) -> Micros {
+    fn from_number(number: u64) -> Micros {
         Micros(number)
     }
 }
 
+impl TimeKey for Micros {}
+impl TickKey for Micros {}
+
 #[test]
 fn a_type_of_keys_has_its_unit() {
     let queue = TaskQueue::new().unwrap();
-    let now = Instant::now().number() ^ 1 << 63;
+    let now = Instant::now().to_number() ^ 1 << 63;
     let soon = Micros(now / 1000 + 5000);
     queue.push(soon, "soon").unwrap();
     queue.push(Micros(0), "past").unwrap();
@@ -74,10 +77,10 @@ fn a_type_of_keys_has_its_unit() {
     let began = Instant::now();
     assert_eq!(queue.take_due(), Ok((soon, "soon")));
     assert!(began.elapsed() < 1000 * UNIT);
-    assert!(Instant::now().number() ^ 1 << 63 >= soon.0 * 1000);
+    assert!(Instant::now().to_number() ^ 1 << 63 >= soon.0 * 1000);
 }
 
-type Timers = TaskQueue<u32, Instant>;
+type Timers = TaskQueue<Instant, u32>;
 
 /// Workers wait for what is due in a minute, and the queue is shut. Once the last payload was taken out they return at once.
 #[test]
@@ -86,7 +89,14 @@ fn workers_go_once_a_shut_queue_is_empty() {
         |queue| queue.pop().unwrap().map(|(_, it)| it),
         |queue| queue.take().ok().map(|(_, it)| it),
         |queue| queue.drain().map(|it| it.unwrap().1).last(),
-        |queue| queue.listener().unwrap().take().unwrap().map(|(_, it)| it),
+        |queue| {
+            queue
+                .listener()
+                .unwrap()
+                .try_take()
+                .unwrap()
+                .map(|(_, it)| it)
+        },
     ];
     for take in takes {
         let queue = TaskQueue::new().unwrap();

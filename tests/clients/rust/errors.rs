@@ -1,6 +1,6 @@
 //! Each refusal comes where the documents say, changes nothing, and is passed on by `?`. All that is public has a text for the message of a
 //! panic.
-use flatpq::{Error, Keeping, Options, Pushed, Queue, TaskQueue, Until};
+use flatpq::{Due, Error, Keeping, NotPushed, Options, Pushed, Queue, TaskQueue, Until};
 use std::error::Error as _;
 use std::fmt::Debug;
 use std::io;
@@ -21,10 +21,13 @@ fn openings_are_refused() {
         options.keeping(Keeping::Fills(1_048_577)),
         options.keeping(Keeping::Forgets(65_535)),
         options.keeping(Keeping::Refuses(16_777_217)),
-        options.times(Instant::now(), Duration::ZERO),
-        options.times(Instant::now(), Duration::MAX),
     ] {
         assert_eq!(opened(refused).unwrap_err(), Error::BadOption);
+    }
+    for unit in [Duration::ZERO, Duration::MAX] {
+        let options = options.times(Instant::now(), unit);
+        let opened: Result<Queue, Error> = options.open();
+        assert_eq!(opened.unwrap_err(), Error::BadOption);
     }
 }
 
@@ -39,7 +42,7 @@ fn a_full_journal_stays_full() {
     assert_eq!(queue.pop_due(9), Err(Error::JournalFull));
     assert_eq!(queue.take(), Err(Error::JournalFull));
     let refused = queue.push_many([(3, 4), (5, 6)]).unwrap_err();
-    assert_eq!(refused.payload, [(3, 4), (5, 6)]);
+    assert_eq!(refused.payloads, [(3, 4), (5, 6)]);
     assert_eq!(
         (refused.error, refused.pushed),
         (Error::JournalFull, Pushed::default())
@@ -67,7 +70,7 @@ fn a_batch_has_the_number_of_its_first_entry() {
     assert_eq!(member.push_many([]).unwrap(), Pushed::default());
     let refused = member.push_many((1..8).map(|it| (it, it))).unwrap_err();
     assert_eq!(
-        (refused.error, refused.payload.len()),
+        (refused.error, refused.payloads.len()),
         (Error::JournalFull, 3)
     );
     assert_eq!(
@@ -88,7 +91,7 @@ fn a_refused_batch_ends_with_its_iterator() {
     });
     let refused = queue.push_many(payloads).unwrap_err();
     assert_eq!(
-        (refused.error, refused.payload),
+        (refused.error, refused.payloads),
         (Error::Shut, vec![(1, 1), (2, 2)])
     );
 }
@@ -154,15 +157,15 @@ fn members_hold_a_queue_open() {
     );
 }
 
-fn pushed(queue: &TaskQueue<String>) -> Result<u64, Error> {
+fn pushed(queue: &TaskQueue<u64, String>) -> Result<u64, Error> {
     Ok(queue.push(1, "text".to_string())?)
 }
 
-fn pushed_in_a_box(queue: &TaskQueue<String>) -> Result<u64, Box<dyn std::error::Error>> {
+fn pushed_in_a_box(queue: &TaskQueue<u64, String>) -> Result<u64, Box<dyn std::error::Error>> {
     Ok(queue.join()?.push(1, "text".to_string())?)
 }
 
-fn closed(queue: TaskQueue<String>) -> Result<usize, Error> {
+fn closed(queue: TaskQueue<u64, String>) -> Result<usize, Error> {
     Ok(queue.close()?.left().count())
 }
 
@@ -193,7 +196,7 @@ fn begins(value: &impl Debug, name: &str) {
 #[test]
 fn all_that_is_public_has_a_text() {
     struct Silent;
-    let queue: TaskQueue<Silent, i8> = TaskQueue::new().unwrap();
+    let queue: TaskQueue<i8, Silent> = TaskQueue::new().unwrap();
     begins(&queue, "TaskQueue");
     begins(&queue.take_async(), "Take");
     begins(&queue.take_due_async(|_| std::future::ready(())), "TakeDue");
@@ -202,8 +205,9 @@ fn all_that_is_public_has_a_text() {
     let mut member = queue.join().unwrap();
     begins(&member, "TaskMember { place: ");
     member.push(1, Silent).unwrap();
-    begins(&queue.archive(0).unwrap(), "[Entry { number: 1");
-    begins(&queue.archive(0).unwrap().iter(), "Entries");
+    begins(&queue.archive(0).unwrap(), "Journal { entries: 1");
+    begins(&queue.drain(), "Drain");
+    begins(&queue.archive(0).unwrap().iter(), "Iter");
     let refused = queue.close().unwrap_err();
     begins(&refused, "NotClosed { error: MembersLeft");
     member.shut().unwrap();
@@ -212,4 +216,37 @@ fn all_that_is_public_has_a_text() {
     drop(member);
     begins(&refused.queue.close().unwrap(), "TaskJournal { entries: 1");
     begins(&Options::new(), "Options");
+}
+
+#[test]
+fn they_are_compared_and_cloned_where_payloads_are() {
+    let queue = Queue::new().unwrap();
+    assert_eq!(queue.push(1, 2), Ok(1));
+    assert_eq!(queue.push_many([(3, 4)]).map(|it| it.count), Ok(1));
+    queue.shut().unwrap();
+    let error = Error::Shut;
+    assert_eq!(queue.push(5, 6), Err(NotPushed { payload: 6, error }));
+    let refused = queue.push_many([(5, 6)]);
+    assert_eq!(refused.clone(), refused);
+    // There are three cases, and no other.
+    let found = match queue.pop_due(2).unwrap() {
+        Due::Got(key, number) => [key, number],
+        Due::Later(key) => [key, 0],
+        Due::Empty => [0, 0],
+    };
+    assert_eq!(found, [1, 2]);
+}
+
+#[test]
+fn their_kinds_are_those_of_io() {
+    use io::ErrorKind::{BrokenPipe, Other, OutOfMemory, TimedOut, WouldBlock};
+    for (error, kind) in [
+        (Error::TimedOut, TimedOut),
+        (Error::NoMemory, OutOfMemory),
+        (Error::Shut, BrokenPipe),
+        (Error::Full, WouldBlock),
+        (Error::AllJoined, Other),
+    ] {
+        assert_eq!(io::Error::from(error).kind(), kind);
+    }
 }

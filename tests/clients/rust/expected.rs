@@ -8,18 +8,18 @@ use std::time::{Duration, Instant};
 
 const MOMENT: Duration = Duration::from_millis(30);
 
-type Delays = TaskQueue<u32, Instant>;
+type Delays = TaskQueue<Instant, u32>;
 
 fn delays() -> Delays {
     TaskQueue::new().unwrap()
 }
 
-fn numbers() -> TaskQueue<u32, i64> {
+fn numbers() -> TaskQueue<i64, u32> {
     TaskQueue::new().unwrap()
 }
 
 /// The payloads that are left, in the order in which they come out.
-fn drained(queue: &TaskQueue<u32, i64>) -> Vec<u32> {
+fn drained(queue: &TaskQueue<i64, u32>) -> Vec<u32> {
     queue.drain().map(|it| it.unwrap().1).collect()
 }
 

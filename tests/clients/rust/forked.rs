@@ -36,7 +36,7 @@ impl Drop for Counted {
 }
 
 /// Whether each call is refused. A child does not panic.
-fn is_refused(queue: TaskQueue<Counted>, mut own: TaskMember<Counted>) -> bool {
+fn is_refused(queue: TaskQueue<u64, Counted>, mut own: TaskMember<u64, Counted>) -> bool {
     let refused = Some(Error::Forked);
     let before = DROPS.load(Relaxed);
     let back = queue.push(1, Counted).err();
@@ -50,7 +50,7 @@ fn is_refused(queue: TaskQueue<Counted>, mut own: TaskMember<Counted>) -> bool {
         && queue.join().err() == refused
         && queue.join_until(Until::FOREVER).err() == refused
         && queue.listener().is_err()
-        && TaskQueue::<u32>::new().err() == refused
+        && TaskQueue::<u64, u32>::new().err() == refused
         && queue.shut().err() == refused
         && own.push(1, Counted).err().map(|it| it.error) == refused
         && own.pop_due(1).err() == refused
@@ -115,9 +115,9 @@ fn children_are_refused_and_none_hangs() {
 fn a_child_takes_no_event() {
     let queue = TaskQueue::new().unwrap();
     let mut listener = queue.listener().unwrap();
-    assert_eq!(listener.take(), Ok(None));
+    assert_eq!(listener.try_take(), Ok(None));
     queue.push(5, 50).unwrap();
-    assert!(forked(|| listener.take() == Err(Error::Forked)));
+    assert!(forked(|| listener.try_take() == Err(Error::Forked)));
     let (descriptor, events) = (listener.as_raw_fd(), 1);
     let mut polled = Polled {
         descriptor,
@@ -126,5 +126,5 @@ fn a_child_takes_no_event() {
     };
     // SAFETY: it is one, and borrowed for the call.
     assert_eq!(unsafe { poll(&mut polled, 1, 0) }, 1);
-    assert_eq!(listener.take(), Ok(Some((5, 50))));
+    assert_eq!(listener.try_take(), Ok(Some((5, 50))));
 }

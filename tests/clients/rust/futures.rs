@@ -121,7 +121,7 @@ fn a_member_that_listens_no_longer_has_no_waker() {
 /// The sleep until the old time never ends.
 #[test]
 fn a_move_to_now_wakes() {
-    let queue: TaskQueue<u32, Instant> = Options::new().tickets(true).open().unwrap();
+    let queue: TaskQueue<Instant, u32> = Options::new().tickets(true).open().unwrap();
     let ticket = queue.push(Instant::now() + LONG, 1).unwrap();
     let mut taker = queue.join().unwrap();
     let counted = Counted::new();
@@ -135,7 +135,7 @@ fn a_move_to_now_wakes() {
 
 #[test]
 fn a_future_of_the_queue_joins_while_it_waits() {
-    let queue: TaskQueue<String> = Options::new().members(2).open().unwrap();
+    let queue: TaskQueue<u64, String> = Options::new().members(2).open().unwrap();
     let counted = Counted::new();
     let mut takes = [queue.take_async(), queue.take_async(), queue.take_async()];
     assert!(polled(&mut takes[0], &counted).is_pending());
@@ -222,6 +222,30 @@ fn a_shut_ends_all() {
     assert_eq!(run(second), Err(Error::Shut));
 }
 
+/// By archives that have counted its entry, and no other; of one that was dropped no waker is left.
+#[test]
+fn an_archive_wakes_those_whose_entries_it_has_counted() {
+    let queue: Queue = Queue::new().unwrap();
+    queue.push_many((0..3).map(|it| (it, it))).unwrap();
+    let counted = [(); 3].map(|()| Counted::new());
+    let mut waits = [1, 2, 3].map(|number| queue.wait_archived_async(number));
+    for (wait, counted) in waits.iter_mut().zip(&counted) {
+        assert!(polled(wait, counted).is_pending() && polled(wait, counted).is_pending());
+    }
+    let [mut first, second, mut third] = waits;
+    drop(second);
+    assert_eq!(Arc::strong_count(&counted[1]), 1);
+    assert_eq!(queue.archive(2).unwrap().len(), 1);
+    assert_eq!([0, 1, 2].map(|it| counted[it].wakes()), [1, 0, 0]);
+    assert_eq!(polled(&mut first, &counted[0]), Poll::Ready(Ok(())));
+    assert!(polled(&mut third, &counted[2]).is_pending());
+    thread::scope(|scope| {
+        scope.spawn(|| queue.archive(3).unwrap());
+        assert_eq!(run(third), Ok(()));
+    });
+    assert_eq!(run(queue.wait_archived_async(3)), Ok(()));
+}
+
 /// A thread that carries out two pushes wakes two tasks.
 #[test]
 fn as_many_tasks_are_woken_as_are_pushed_for() {
@@ -296,7 +320,7 @@ impl Future for Sleep {
 #[test]
 fn what_is_due_is_taken_by_the_program_s_own_timer() {
     const UNIT: Duration = Duration::from_millis(5);
-    let queue: TaskQueue<u32, Instant> = TaskQueue::new().unwrap();
+    let queue: TaskQueue<Instant, u32> = TaskQueue::new().unwrap();
     let start = Instant::now();
     let asked = Mutex::new(Vec::new());
     let sleep = |moment| {

@@ -118,7 +118,7 @@ fn a_queue_of_payloads_has_keys_and_tokens() {
     assert_eq!((entry.number, entry.serial), (1, 1));
 }
 
-fn read_back(name: &str, text: &str) -> Result<ReadBack<u64>, NotReadBack> {
+fn read_back(name: &str, text: &str) -> Result<ReadBack<u64, u64>, NotReadBack> {
     let path = std::env::temp_dir().join(format!("flatpq-{name}-{}", std::process::id()));
     let mut options = File::options();
     let mut file = options
@@ -154,7 +154,7 @@ fn a_journal_is_read_back() {
     let wanted = NotReadBack { line, bytes, error };
     let damaged = format!("{WRITTEN}4 0 4 pop got 6 8 12345678\n");
     assert_eq!(read_back("refused", &damaged).unwrap_err(), wanted);
-    let folder = TaskJournal::<u64>::read_from(File::open("/").unwrap());
+    let folder = TaskJournal::<u64, u64>::read_from(File::open("/").unwrap());
     assert_eq!(folder.map_err(Error::from).err(), Some(Error::NotRead));
 }
 

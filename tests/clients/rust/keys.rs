@@ -3,6 +3,7 @@
 use flatpq::{Due, Key, TaskQueue};
 use std::cmp::{Ordering, Reverse};
 use std::fmt::Debug;
+use std::num::{NonZeroI8, NonZeroIsize, NonZeroU32, NonZeroU64};
 use std::ops::Neg;
 use std::thread;
 use std::time::{Duration, Instant};
@@ -10,39 +11,39 @@ use std::time::{Duration, Instant};
 /// These keys, which ascend, come out in their order, by each call, and of a key that is there twice the payloads in the order of their
 /// pushes.
 fn are_in_order<K: Key + Debug>(keys: &[K]) {
-    let numbers: Vec<u64> = keys.iter().map(|key| key.number()).collect();
+    let numbers: Vec<u64> = keys.iter().map(|key| key.to_number()).collect();
     assert!(numbers.windows(2).all(|pair| pair[0] < pair[1]), "{keys:?}");
-    let queue: TaskQueue<u32, K> = TaskQueue::new().unwrap();
+    let queue: TaskQueue<K, u32> = TaskQueue::new().unwrap();
     for turn in 0..3 {
         keys.iter()
             .rev()
             .for_each(|key| assert!(queue.push(*key, turn).is_ok()));
     }
     for (at, number) in numbers.iter().enumerate() {
-        assert_eq!(queue.peek().unwrap().map(K::number), Some(*number));
+        assert_eq!(queue.peek().unwrap().map(K::to_number), Some(*number));
         let (key, turn) = queue.pop().unwrap().unwrap();
-        assert_eq!((key.number(), turn), (*number, 0));
+        assert_eq!((key.to_number(), turn), (*number, 0));
         if at > 0 {
             let found = queue.pop_due(keys[at - 1]).unwrap();
-            assert!(matches!(found, Due::Later(key) if key.number() == *number));
+            assert!(matches!(found, Due::Later(key) if key.to_number() == *number));
         }
         for turn in 1..3 {
             let found = queue.pop_due(keys[at]).unwrap();
-            assert!(matches!(found, Due::Got(key, it) if (key.number(), it) == (*number, turn)));
+            assert!(matches!(found, Due::Got(key, it) if (key.to_number(), it) == (*number, turn)));
         }
     }
     assert!(matches!(queue.peek(), Ok(None)));
     let pairs = keys.iter().rev().map(|key| (*key, 3));
     assert_eq!(queue.push_many(pairs).unwrap().count, keys.len());
     let mut journal = queue.close().unwrap();
-    let left: Vec<u64> = journal.left().map(|(key, _)| key.number()).collect();
+    let left: Vec<u64> = journal.left().map(|(key, _)| key.to_number()).collect();
     assert_eq!(left, numbers);
 }
 
 /// Each key is that of its number, by what makes one of it that can be compared.
 fn come_back<K: Key, B: PartialEq + Debug>(keys: &[K], bits: impl Fn(K) -> B) {
     for key in keys {
-        assert_eq!(bits(K::of_number(key.number())), bits(*key));
+        assert_eq!(bits(K::from_number(key.to_number())), bits(*key));
     }
 }
 
@@ -70,6 +71,22 @@ fn integers_are_in_order() {
         i64: [i64::MIN, i64::MIN + 1, -(1 << 33), -(1 << 32), -2, -1, 0, 1, 1 << 32, i64::MAX],
         isize: [isize::MIN, -1, 0, isize::MAX],
     }
+}
+
+#[test]
+fn other_keys_are_in_order() {
+    integers! {
+        bool: [false, true],
+        char: ['\0', 'a', 'z', '\u{d7ff}', '\u{e000}', char::MAX],
+        (u32, u32): [(0, 0), (0, 1), (0, u32::MAX), (1, 0), (u32::MAX, 0), (u32::MAX, u32::MAX)],
+        NonZeroU32: [1, 2, u32::MAX].map(|it| NonZeroU32::new(it).unwrap()),
+        NonZeroU64: [1, 2, u64::MAX].map(|it| NonZeroU64::new(it).unwrap()),
+        NonZeroI8: [i8::MIN, -1, 1, i8::MAX].map(|it| NonZeroI8::new(it).unwrap()),
+        NonZeroIsize: [isize::MIN, -1, 1, isize::MAX].map(|it| NonZeroIsize::new(it).unwrap()),
+    }
+    // Those of numbers that no key has, as of a text that another program wrote.
+    assert_eq!(char::from_number(0xd800), char::REPLACEMENT_CHARACTER);
+    assert_eq!(NonZeroU64::from_number(0).get(), 1);
 }
 
 /// These positive keys and their opposites are in the total order of their type, and come out in it.
@@ -130,7 +147,7 @@ fn durations_are_in_order() {
     are_in_order(&keys);
     come_back(&keys, |key| key);
     for longer in [longest + Duration::from_nanos(1), Duration::MAX] {
-        assert_eq!(Duration::of_number(longer.number()), longest);
+        assert_eq!(Duration::from_number(longer.to_number()), longest);
     }
 }
 
@@ -152,17 +169,17 @@ fn moments_are_in_order() {
     are_in_order(&keys);
     come_back(&keys, |key| key);
     // They are the same numbers in each thread.
-    let numbers = |keys: [Instant; 8]| keys.map(Key::number);
+    let numbers = |keys: [Instant; 8]| keys.map(Key::to_number);
     let others = thread::spawn(move || numbers(keys)).join().unwrap();
     assert_eq!(numbers(keys), others);
     // Those that are further away than 292 years count as such.
     let far = 24 * 366 * 300 * HOUR;
     let (first, last) = (now - far, now + far);
-    assert_eq!((first.number(), last.number()), (1, u64::MAX));
-    assert_eq!((first - far).number(), first.number());
-    let moment = Instant::of_number(last.number());
+    assert_eq!((first.to_number(), last.to_number()), (1, u64::MAX));
+    assert_eq!((first - far).to_number(), first.to_number());
+    let moment = Instant::from_number(last.to_number());
     assert!(moment < last && moment > now + far / 2);
-    let moment = Instant::of_number(first.number());
+    let moment = Instant::from_number(first.to_number());
     assert!(moment > first && moment < now - far / 2);
 }
 
@@ -186,11 +203,11 @@ struct Version {
 }
 
 impl Key for Version {
-    fn number(self) -> u64 {
+    fn to_number(self) -> u64 {
         u64::from(self.minor) << 8 | u64::from(self.patch)
     }
 
-    fn of_number(number: u64) -> Version {
+    fn from_number(number: u64) -> Version {
         let [patch, minor, ..] = number.to_le_bytes();
         Version { patch, minor }
     }

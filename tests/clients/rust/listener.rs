@@ -32,21 +32,21 @@ fn is_readable(listener: &impl AsFd, milliseconds: c_int) -> bool {
 fn a_push_and_a_shut_make_it_readable() {
     let queue = TaskQueue::new().unwrap();
     let mut listener = queue.listener().unwrap();
-    assert!(listener.take() == Ok(None) && !is_readable(&listener, 0));
+    assert!(listener.try_take() == Ok(None) && !is_readable(&listener, 0));
     queue.push(5, 50).unwrap();
     queue.push(6, 60).unwrap();
     assert!(is_readable(&listener, 0));
-    assert_eq!(listener.take(), Ok(Some((5, 50))));
+    assert_eq!(listener.try_take(), Ok(Some((5, 50))));
     assert_eq!(listener.pop_due(5), Ok(Due::Later(6)));
     assert!(!is_readable(&listener, 0));
     queue.push(4, 40).unwrap();
     assert!(is_readable(&listener, 0));
     assert_eq!(listener.pop_due(5), Ok(Due::Got(4, 40)));
-    assert_eq!(listener.take(), Ok(Some((6, 60))));
+    assert_eq!(listener.try_take(), Ok(Some((6, 60))));
     assert!(listener.pop_due(9) == Ok(Due::Empty) && !is_readable(&listener, 0));
     queue.shut().unwrap();
     assert!(is_readable(&listener, 0));
-    assert_eq!(listener.take(), Err(Error::Shut));
+    assert_eq!(listener.try_take(), Err(Error::Shut));
     assert_eq!(queue.close().unwrap_err().error, Error::MembersLeft);
 }
 
@@ -55,25 +55,25 @@ fn a_timer_is_readable_once_the_first_is_due() {
     let queue = TaskQueue::new().unwrap();
     let mut listener = queue.due_listener().unwrap();
     let last = Instant::now() + Duration::from_secs(3600);
-    assert!(listener.take_due() == Ok(Due::Empty) && !is_readable(&listener, 0));
+    assert!(listener.try_take_due() == Ok(Due::Empty) && !is_readable(&listener, 0));
     queue.push(last, String::from("last")).unwrap();
     assert!(is_readable(&listener, 60_000));
-    assert_eq!(listener.take_due(), Ok(Due::Later(last)));
+    assert_eq!(listener.try_take_due(), Ok(Due::Later(last)));
     queue.push(last, String::from("same")).unwrap();
     assert!(!is_readable(&listener, 10));
     let first = Instant::now() + Duration::from_millis(1500);
     queue.push(first, String::from("first")).unwrap();
     assert!(is_readable(&listener, 60_000));
-    assert_eq!(listener.take_due(), Ok(Due::Later(first)));
+    assert_eq!(listener.try_take_due(), Ok(Due::Later(first)));
     assert!(is_readable(&listener, 60_000) && Instant::now() >= first);
-    assert_eq!(listener.take_due(), Ok(Due::Got(first, "first".into())));
-    assert!(listener.take_due() == Ok(Due::Later(last)) && !is_readable(&listener, 10));
+    assert_eq!(listener.try_take_due(), Ok(Due::Got(first, "first".into())));
+    assert!(listener.try_take_due() == Ok(Due::Later(last)) && !is_readable(&listener, 10));
     queue.shut().unwrap();
     assert!(is_readable(&listener, 60_000));
-    assert!(listener.take_due() == Ok(Due::Later(last)) && !is_readable(&listener, 10));
+    assert!(listener.try_take_due() == Ok(Due::Later(last)) && !is_readable(&listener, 10));
     assert_eq!(queue.clear(), Ok(2));
     assert!(is_readable(&listener, 60_000));
-    assert_eq!(listener.take_due(), Err(Error::Shut));
+    assert_eq!(listener.try_take_due(), Err(Error::Shut));
 }
 
 #[test]
@@ -84,7 +84,7 @@ fn timers_and_threads_get_all() {
         let mut listener = queue.due_listener().unwrap();
         let mut sum = 0;
         loop {
-            match listener.take_due() {
+            match listener.try_take_due() {
                 Ok(Due::Got(moment, number)) => {
                     assert!(moment <= Instant::now());
                     sum += number;
@@ -122,7 +122,7 @@ fn loops_and_threads_get_all() {
         let mut listener = queue.listener().unwrap();
         let mut sum = 0;
         loop {
-            match listener.take() {
+            match listener.try_take() {
                 Ok(Some((_, number))) => sum += number,
                 Ok(None) => assert!(is_readable(&listener, 60_000)),
                 Err(error) => {

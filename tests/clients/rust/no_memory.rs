@@ -1,5 +1,5 @@
-//! Where memory is refused to a push, it says so and changes nothing; and goes on once there is memory again. The only test of its
-//! process, whose address space it limits.
+//! Where memory is refused to a push, it says so and changes nothing; and goes on once there is memory again. A batch of pops asks for little.
+//! The only test of its process, whose address space it limits.
 use flatpq::{Error, NotPushed, TaskQueue};
 use std::fs;
 
@@ -36,7 +36,7 @@ fn limit_to(soft: u64) -> u64 {
 }
 
 /// The first number whose push is refused comes back; and then it is pushed. The first payload has the number 0.
-fn comes_back<T: Send>(queue: &TaskQueue<T>, of: fn(u64) -> T, number_of: fn(T) -> u64) {
+fn comes_back<T: Send>(queue: &TaskQueue<u64, T>, of: fn(u64) -> T, number_of: fn(T) -> u64) {
     let before = limit_to(in_use() + MORE);
     let push = |number| queue.push(1, of(number)).err();
     let refused = (0..u64::MAX).find_map(|number| Some((number, push(number)?)));
@@ -47,9 +47,19 @@ fn comes_back<T: Send>(queue: &TaskQueue<T>, of: fn(u64) -> T, number_of: fn(T) 
     assert_eq!(queue.pop().unwrap().map(|(_, it)| number_of(it)), Some(0));
 }
 
+/// It asks for room for as many payloads as 64 KiB hold, or for one.
+fn a_batch_asks_for_little() {
+    let queue: TaskQueue<u64, [u64; 1 << 17]> = TaskQueue::new().unwrap();
+    let before = limit_to(in_use() + MORE);
+    let popped = queue.pop_due_many(5, usize::MAX);
+    limit_to(before);
+    assert!(popped.unwrap().is_empty());
+}
+
 /// In the item itself, and in blocks of their own.
 #[test]
 fn a_push_without_memory_is_refused() {
+    a_batch_asks_for_little();
     comes_back(&TaskQueue::new().unwrap(), |it| it, |it| it);
     comes_back(&TaskQueue::new().unwrap(), |it| [it; 64], |it| it[0]);
 }

@@ -73,7 +73,7 @@ impl Drops {
 }
 
 /// A queue that has the first so many payloads, each of its number as its key.
-fn filled(drops: &'static Drops, count: usize) -> TaskQueue<Counted> {
+fn filled(drops: &'static Drops, count: usize) -> TaskQueue<u64, Counted> {
     let queue = TaskQueue::new().unwrap();
     let mut member = queue.join().unwrap();
     (0..count).for_each(|it| assert!(member.push(it as u64, drops.payload(it)).is_ok()));
@@ -107,7 +107,7 @@ fn each_refusal_gives_back() {
     let pair = |it| (0, drops.payload(it));
     let back = full.push_many([pair(4), pair(5)]).unwrap_err();
     assert!(back.error == Error::Shut && drops.are(1..4));
-    assert_eq!(back.payload.len(), 2);
+    assert_eq!(back.payloads.len(), 2);
     drop(back);
     assert!(drops.are(1..6));
     drop(full);
@@ -188,7 +188,7 @@ fn a_queue_that_is_dropped_drops_them() {
 }
 
 /// A payload that calls another queue where it is dropped.
-struct Calling(Arc<TaskQueue<u64>>, u64);
+struct Calling(Arc<TaskQueue<u64, u64>>, u64);
 
 impl Drop for Calling {
     fn drop(&mut self) {
@@ -277,11 +277,11 @@ fn a_drop_that_panics_leaves_none() {
 struct Silent;
 
 impl Key for Silent {
-    fn number(self) -> u64 {
+    fn to_number(self) -> u64 {
         7
     }
 
-    fn of_number(_: u64) -> Silent {
+    fn from_number(_: u64) -> Silent {
         panic!("it does not come back")
     }
 }
@@ -289,7 +289,7 @@ impl Key for Silent {
 #[test]
 fn a_key_that_panics_costs_its_payload_alone() {
     let drops = Drops::of(2);
-    let queue: TaskQueue<Counted, Silent> = TaskQueue::new().unwrap();
+    let queue: TaskQueue<Silent, Counted> = TaskQueue::new().unwrap();
     let mut member = queue.join().unwrap();
     (0..2).for_each(|it| assert!(member.push(Silent, drops.payload(it)).is_ok()));
     assert!(catch_unwind(AssertUnwindSafe(|| member.pop().is_ok())).is_err());
@@ -298,7 +298,7 @@ fn a_key_that_panics_costs_its_payload_alone() {
     assert!(drops.are(0..2));
 }
 
-fn works(queue: &TaskQueue<Counted>, drops: &'static Drops, numbers: std::ops::Range<usize>) {
+fn works(queue: &TaskQueue<u64, Counted>, drops: &'static Drops, numbers: std::ops::Range<usize>) {
     for number in numbers {
         queue
             .push(number as u64 % 7, drops.payload(number))
@@ -354,7 +354,7 @@ impl Drop for Empty {
 
 /// Payloads come out as they went in: by a member, by the queue, and out of the journal.
 fn come_out<T: Clone + PartialEq + std::fmt::Debug + Send + 'static>(payloads: &[T]) {
-    let queue: TaskQueue<T, usize> = Options::new().members(2).open().unwrap();
+    let queue: TaskQueue<usize, T> = Options::new().members(2).open().unwrap();
     let mut member = queue.join().unwrap();
     for (key, payload) in payloads.iter().cycle().take(3 * payloads.len()).enumerate() {
         member.push(key, payload.clone()).unwrap();
@@ -427,7 +427,7 @@ fn empty_payloads_and_closures_come_out() {
     assert_eq!(EMPTIES.load(Ordering::SeqCst), 1);
     drop(queue);
     assert_eq!(EMPTIES.load(Ordering::SeqCst), 3);
-    let queue: TaskQueue<Box<dyn FnOnce() -> usize + Send>> = TaskQueue::new().unwrap();
+    let queue: TaskQueue<u64, Box<dyn FnOnce() -> usize + Send>> = TaskQueue::new().unwrap();
     let text = "text".to_string();
     queue.push(2, Box::new(move || text.len())).unwrap();
     queue.push(1, Box::new(|| 1)).unwrap();
@@ -439,7 +439,7 @@ fn empty_payloads_and_closures_come_out() {
 #[test]
 fn payloads_borrow() {
     let text = "some words that stay".to_string();
-    let queue: TaskQueue<&str> = TaskQueue::new().unwrap();
+    let queue: TaskQueue<u64, &str> = TaskQueue::new().unwrap();
     queue.push_many((0..).zip(text.split(' '))).unwrap();
     let other = thread::scope(|scope| scope.spawn(|| queue.pop()).join().unwrap());
     assert_eq!(other, Ok(Some((0, "some"))));
@@ -448,7 +448,7 @@ fn payloads_borrow() {
 
 struct Job {
     _sign: Arc<()>,
-    _own: TaskMember<Job>,
+    _own: TaskMember<u64, Job>,
 }
 
 /// A queue that is shut gives up those that hold a member of it.
@@ -470,7 +470,7 @@ fn a_payload_that_holds_a_member_is_dropped() {
 /// Payloads in blocks of their own are freed, also those that need no drop; valgrind and the address sanitizer see whether they are.
 #[test]
 fn plain_payloads_in_blocks_are_freed_with_their_queue() {
-    let queue: TaskQueue<[u64; 4], usize> = TaskQueue::new().unwrap();
+    let queue: TaskQueue<usize, [u64; 4]> = TaskQueue::new().unwrap();
     let mut member = queue.join().unwrap();
     for key in 0..100 {
         member.push(key, [7; 4]).unwrap();

@@ -2,7 +2,7 @@
 //! call is under way meanwhile, so that none of it panics or waits for ever.
 use flatpq::{Due, Error, Member, Options, Queue, TaskQueue};
 use std::future::Future;
-use std::panic::{catch_unwind, panic_any, AssertUnwindSafe};
+use std::panic::panic_any;
 use std::pin::Pin;
 use std::sync::{mpsc, Arc, Mutex};
 use std::task::{Context, Poll, Wake, Waker};
@@ -40,7 +40,7 @@ fn waits(member: &mut Member, waker: &Waker) {
     assert_eq!(polled, Poll::Pending);
 }
 
-type Run = TaskQueue<Arc<Task>>;
+type Run = TaskQueue<u64, Arc<Task>>;
 type Running = Pin<Box<dyn Future<Output = ()> + Send>>;
 
 /// A task of an executor whose run queue is a queue: a wake pushes it there.
@@ -132,13 +132,12 @@ fn a_waker_runs_its_task() {
 }
 
 #[test]
-fn a_waker_that_panics_leaves_the_member_to_its_thread() {
+fn a_waker_that_panics_loses_no_ticket() {
     let queue = Queue::new().unwrap();
     let mut member = queue.join().unwrap();
     waits(&mut member, &waker(|| panic!("a waker panics")));
-    let push = AssertUnwindSafe(|| queue.push(1, 2));
-    assert!(catch_unwind(push).is_err());
-    assert_eq!(queue.push(3, 4).unwrap(), 2);
+    assert_eq!(queue.push(1, 2), Ok(1));
+    assert_eq!(queue.push(3, 4), Ok(2));
     assert_eq!(member.pop(), Ok(Some((1, 2))));
 }
 
@@ -196,7 +195,7 @@ fn a_waker_drops_the_last_of_its_queue() {
     });
 }
 
-/// Its panic's own drop panics, so it may not run in the thread that wakes all.
+/// Its panic's own drop panics.
 #[test]
 fn a_waker_whose_panic_panics_stops_no_other() {
     struct Bomb;

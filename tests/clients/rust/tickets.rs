@@ -5,7 +5,7 @@ use std::sync::atomic::{AtomicU32, AtomicU64, Ordering};
 use std::thread;
 use std::time::Duration;
 
-fn with_tickets<T: Send>() -> TaskQueue<T, i32> {
+fn with_tickets<T: Send>() -> TaskQueue<i32, T> {
     Options::new().tickets(true).open().unwrap()
 }
 
@@ -62,7 +62,7 @@ fn each_refusal_changes_nothing() {
 #[test]
 fn neither_needs_room() {
     let options = Options::new().tickets(true).most_items(1);
-    let queue: TaskQueue<u32> = options.open().unwrap();
+    let queue: TaskQueue<u64, u32> = options.open().unwrap();
     let ticket = queue.push(5, 50).unwrap();
     assert_eq!(
         queue.until(Until::NOW).push(6, 60).unwrap_err().error,
@@ -80,7 +80,7 @@ fn neither_needs_room() {
 
 #[test]
 fn journals_have_both() {
-    let queue: TaskQueue<u64> = Options::new().tickets(true).open().unwrap();
+    let queue: TaskQueue<u64, u64> = Options::new().tickets(true).open().unwrap();
     let ticket = queue.push(5, 1).unwrap();
     let moved = queue.reschedule(ticket, 9).unwrap().unwrap();
     queue.remove(moved).unwrap();
@@ -127,7 +127,7 @@ impl Records {
         }
     }
 
-    fn fill<'a>(&'a self, queue: &TaskQueue<Counted<'a>, i32>) {
+    fn fill<'a>(&'a self, queue: &TaskQueue<i32, Counted<'a>>) {
         for (number, ticket) in self.tickets.iter().enumerate() {
             let pushed = queue
                 .push(number as i32 % 9, Counted(number, self))

@@ -102,8 +102,8 @@ static void check_sleeper(int which, const content *it) {
     if (thread->call == TAKES && (has_item || is_full || ends)) {
         fail("thread %d sleeps in a take, and there are %llu items%s", which, count, shut);
     }
-    if (thread->call == TAKES_DUE && ends) {
-        fail("thread %d sleeps in a take of what is due, and the queue is shut and empty", which);
+    if ((thread->call == TAKES_DUE || thread->call == LISTENS_FOR_DUE) && ends) {
+        fail("thread %d waits for what is due, and the queue is shut and empty", which);
     }
     if (thread->call == PUSHES && queue->most_items != 0
         && (it->count < queue->most_items || it->is_shut || is_full)) {
@@ -114,18 +114,18 @@ static void check_sleeper(int which, const content *it) {
     }
 }
 
-/* Those that take what is due: one of them, at least, is awake in time. */
-static void check_watched(const content *it) {
+/* Of those that wait for what is due in this way one, at least, is awake in time. */
+static void check_watched(const content *it, enum call call) {
     uint64_t watched = PQ_FOREVER;
     int has_any = 0;
     for (int i = 0; i < fiber_count; i++) {
-        if (fibers[i].call == TAKES_DUE && fibers[i].state == ON_WORD) {
+        if (fibers[i].call == call && fibers[i].state == ON_WORD) {
             has_any = 1;
             watched = fibers[i].until < watched ? fibers[i].until : watched;
         }
     }
     if (has_any && it->first.kind == KIND_FIRST && watched > it->due) {
-        fail("the first item is due at %llu, and those that take what is due sleep until %llu", (unsigned long long)it->due,
+        fail("the first item is due at %llu, and those that wait for what is due sleep until %llu", (unsigned long long)it->due,
              (unsigned long long)watched);
     }
 }
@@ -158,7 +158,8 @@ void check_settled(void) {
     if (!observe(&it)) {
         return;
     }
-    check_watched(&it);
+    check_watched(&it, TAKES_DUE);
+    check_watched(&it, LISTENS_FOR_DUE);
     for (int i = 0; i < fiber_count; i++) {
         if (fibers[i].state == ON_WORD) {
             check_sleeper(i, &it);

@@ -14,7 +14,7 @@ enum { MOST_FIBERS = 8, MOST_TIMERS = 8, MOST_LATE = 8 };
 enum { BEGIN = 1000000 };
 
 /* In which call a thread of a scenario is: check.c knows by it whether it could go on. */
-enum call { NO_CALL, CALLS, TAKES, TAKES_DUE, PUSHES, LISTENS_FOR, HAS_ALARM, AWAITS };
+enum call { NO_CALL, CALLS, TAKES, TAKES_DUE, PUSHES, LISTENS_FOR, LISTENS_FOR_DUE, HAS_ALARM, AWAITS };
 enum state { READY, ON_MUTEX, ON_WORD, NAPS, SLEEPS, ENDED };
 
 /* A thread of a scenario. */

@@ -24,15 +24,14 @@ static void notify(void *context) {
 }
 
 /* Takes, or begins to listen. The call ends the earlier listening: notify may run until then, and of the new one from then on. */
-static pq_code begin_listening(int which, uint64_t priority) {
-    pq_item item = { 0, 0 };
+static pq_code begin_listening(int which, uint64_t priority, pq_item *first) {
     uint64_t entry = 0;
     pq_code code;
     may_notify[which] = 1;
     notified[which] = 0;
     check_call_begins(LISTENS_FOR, PQ_NOW, priority);
-    code = pq_take_or_listen(used[which], priority, &item, &entry, notify, &notified[which]);
-    check_call_ends(PQ_POP, code, item, code == PQ_OK ? entry : 0);
+    code = pq_take_or_listen(used[which], priority, first, &entry, notify, &notified[which]);
+    check_call_ends(PQ_POP, code, *first, code == PQ_OK ? entry : 0);
     if (code != PQ_EMPTY && code != PQ_NOT_DUE) {
         may_notify[which] = 0;
     }
@@ -46,25 +45,41 @@ void sleep_at(const uint32_t *at, uint32_t seen, uint64_t until) {
     }
 }
 
+/* Sleeps until it is notified, or this time. After a notify within its own call it naps: another thread may have the lock for long. */
+static void await_notify(int which, enum call call, uint64_t priority, uint64_t until) {
+    const uint64_t soon = 100000;
+    const int was_notified = (int)notified[which];
+    check_call_begins(call, PQ_FOREVER, priority);
+    sleep_at(&notified[which], 0, until);
+    check_call_begins(NO_CALL, PQ_FOREVER, 0);
+    if (was_notified) {
+        block(NAPS, NULL, now + soon);
+    }
+}
+
 /* Takes, or listens until it is notified, up to this priority. */
 static pq_code listen_until(int which, uint64_t priority, uint64_t until) {
-    const uint64_t soon = 100000;
-    for (;;) {
-        pq_code code = begin_listening(which, priority);
-        int was_own = notified[which] != 0; /* or another's, which came before this call returned */
-        if (code != PQ_EMPTY && code != PQ_NOT_DUE) {
-            return code;
+    pq_item first = { 0, 0 };
+    pq_code code;
+    do {
+        code = begin_listening(which, priority, &first);
+        if (code == PQ_EMPTY || code == PQ_NOT_DUE) {
+            await_notify(which, LISTENS_FOR, priority, until);
         }
-        check_call_begins(LISTENS_FOR, PQ_FOREVER, priority);
-        sleep_at(&notified[which], 0, until);
-        check_call_begins(NO_CALL, PQ_FOREVER, 0);
-        if (!notified[which]) {
-            return code;
+    } while ((code == PQ_EMPTY || code == PQ_NOT_DUE) && notified[which]);
+    return code;
+}
+
+/* Takes what is due, or listens until it is notified, or the first item is due. */
+static void listen_due(int which, const uint64_t *numbers) {
+    pq_code code;
+    do {
+        pq_item first = { PQ_FOREVER, 0 };
+        code = begin_listening(which, now, &first);
+        if (code == PQ_EMPTY || code == PQ_NOT_DUE) {
+            await_notify(which, LISTENS_FOR_DUE, 0, first.priority < numbers[0] ? first.priority : numbers[0]);
         }
-        if (was_own) {
-            block(NAPS, NULL, now + soon);
-        }
-    }
+    } while ((code == PQ_EMPTY || code == PQ_NOT_DUE) && now < numbers[0]);
 }
 
 static void listen(int which, const uint64_t *numbers) {
@@ -77,7 +92,8 @@ static void listen_all(int which, const uint64_t *numbers) {
 }
 
 static void listen_once(int which, const uint64_t *numbers) {
-    (void)begin_listening(which, numbers[0]);
+    pq_item first = { 0, 0 };
+    (void)begin_listening(which, numbers[0], &first);
     check_call_begins(NO_CALL, PQ_FOREVER, 0);
 }
 
@@ -139,6 +155,7 @@ static void alarm_until(int which, const uint64_t *numbers) {
 const word listener_words[] = {
     { "listen", listen },
     { "listen-all", listen_all },
+    { "listen-due", listen_due },
     { "listen-once", listen_once },
     { "listen-refused", listen_refused },
     { "unlisten", unlisten },

@@ -88,7 +88,8 @@ static pq_code take_or_listen(wait *it, uint64_t priority, void (*notify)(void *
     } else if (code == PQ_EMPTY || code == PQ_SHUT) {
         member->has_left = 0;
     }
-    if (it->was_woken && code != PQ_OK) {
+    /* A wake that came within a call which takes an item is another's. */
+    if (it->was_woken && (code != PQ_OK || it->is_notified)) {
         flatpq_owe(member->queue, 1);
     } else if (passes_on && code == PQ_NOT_DUE) {
         flatpq_pass_on(member->queue, it->answer->item.priority);

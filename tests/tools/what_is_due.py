@@ -1,7 +1,7 @@
-"""Two models of threads that wait for what is due, of which tests/tools/wakes tries every schedule: in the library one of them watches for the
-first item, and the others sleep until they are woken; in Rattle each watches by itself. Does a thread sleep beside an item that is due?
+"""A model of threads that wait for what is due in Rattle, where each watches the clock by itself, of which tests/tools/wakes tries every schedule:
+does a thread sleep beside an item that is due?
 
-Written by hand, after library/waiting.c, and due.rt of crates/flat_queue.
+Written by hand, after due.rt of crates/flat_queue.
 """
 from collections import namedtuple
 
@@ -13,11 +13,11 @@ def put(items, index, one):
 
 
 # Takers of what is due, the items' times that are there, those that are still pushed or, of two times, moved from one to the other, those
-# announced, the events, who is still to be woken, until when the one that watches sleeps, 0 where none does, and the time.
-Due = namedtuple("Due", "takers items pushes waiters events wakes watched now")
+# announced, the events, who is still to be woken, and the time.
+Due = namedtuple("Due", "takers items pushes waiters events wakes now")
 NOW = Due._fields.index("now")
-# `until` is when one wakes by itself, 0 where it doesn't; `watches` what it has put down.
-Sleeper = namedtuple("Sleeper", "at seen found until watches slept", defaults=(0, 0, 0, 0, False))
+# `until` is when one wakes by itself, 0 where it doesn't.
+Sleeper = namedtuple("Sleeper", "at seen found until slept", defaults=(0, 0, 0, False))
 # Each taker takes one item, and the first goes at a time of its own where it has taken none; the items, by when they are due.
 DUE_CASES = {
     "two takers, two items": (2, (1, 2), 0),
@@ -29,14 +29,11 @@ DUE_CASES = {
 DUE_FAULTS = [
     "one that slept and takes an item wakes nobody",
     "one that is late wakes nobody",
-    "one that watched leaves its mark",
-    "one leaves an earlier item to the one that watches",
-    "one that is to look leaves that to the one that watches",
     "a move wakes nobody",
 ]
-TAKES, GOES, MARKS, EARLIER, NO_LOOK, MOVES = DUE_FAULTS
-# When the first goes, the fault, and whether each watches the clock by itself, as in Rattle, and none leaves that to another.
-Rule = namedtuple("Rule", "deadline fault each")
+TAKES, GOES, MOVES = DUE_FAULTS
+# When the first goes, and the fault.
+Rule = namedtuple("Rule", "deadline fault")
 LAST = 2
 
 
@@ -69,16 +66,13 @@ def due_steps(state, rule):
 
 def due_taker_steps(state, i, it, rule):
     """Yields each state to which a step of this taker of what is due leads."""
-    deadline, fault, each = rule
+    deadline, fault = rule
     moved = lambda taker, **more: state._replace(takers=put(state.takers, i, taker), **more)
     is_late = 0 < deadline <= state.now
     if it.at == "announce":
         yield moved(it._replace(at="look", seen=state.events), waiters=state.waiters + 1)
     elif it.at == "look":
-        leaves = state.watched > state.now and not is_late and (not it.slept or fault == NO_LOOK)
-        if leaves:
-            yield moved(it._replace(at="sleep", found=0))
-        elif state.items and state.items[0] <= state.now:
+        if state.items and state.items[0] <= state.now:
             ended = moved(Sleeper("done"), items=state.items[1:], waiters=state.waiters - 1)
             yield due_woken(ended) if it.slept and fault != TAKES else ended
         elif is_late:
@@ -87,20 +81,14 @@ def due_taker_steps(state, i, it, rule):
         else:
             yield moved(it._replace(at="sleep", found=state.items[0] if state.items else 0))
     elif it.at == "sleep":
-        watches = it.found if it.found and (not state.watched or it.found < state.watched and fault != EARLIER) else 0
-        times = [time for time in (it.found if each else watches, deadline) if time]
-        until = min(times) if times else 0
-        if each:
-            yield moved(it._replace(at="falls asleep", until=until, slept=True))
-        else:
-            yield moved(it._replace(at="falls asleep", until=until, watches=watches, slept=True), watched=watches or state.watched)
+        times = [time for time in (it.found, deadline) if time]
+        yield moved(it._replace(at="falls asleep", until=min(times) if times else 0, slept=True))
     elif it.at == "falls asleep":
         yield moved(it._replace(at="asleep" if state.events == it.seen else "awake"))
     elif it.at == "asleep" and it.until and it.until <= state.now:
         yield moved(it._replace(at="awake"))
     elif it.at == "awake":
-        mark = 0 if state.watched == it.watches and it.watches and fault != MARKS else state.watched
-        yield moved(Sleeper("announce", slept=True), waiters=state.waiters - 1, watched=mark)
+        yield moved(Sleeper("announce", slept=True), waiters=state.waiters - 1)
 
 
 def due_waits(state):
@@ -123,16 +111,10 @@ def is_lost(first, nexts, waits_on):
     return False, len(known)
 
 
-def due_lost(case, fault, each=False):
+def due_lost(case, fault):
     takers, items, deadline = case
-    first = Due((Sleeper("announce"),) * takers, (), items, 0, 0, 0, 0, 0)
-    return is_lost(first, lambda state: due_steps(state, Rule(deadline, fault, each)), due_waits)
-
-
-MODELS = {
-    "due": (DUE_CASES, DUE_FAULTS, due_lost),
-    "due, each by the clock": (DUE_CASES, [TAKES, GOES, MOVES], lambda case, fault: due_lost(case, fault, each=True)),
-}
+    first = Due((Sleeper("announce"),) * takers, (), items, 0, 0, 0, 0)
+    return is_lost(first, lambda state: due_steps(state, Rule(deadline, fault)), due_waits)
 
 
 def first_lost(cases, looks):
@@ -149,7 +131,6 @@ def first_lost(cases, looks):
 def tried():
     """Yields of each design, the right one first, its name, the first case in which an item is lost, how many states were looked at,
     and whether that is as it should be."""
-    for name, (cases, faults, looks) in MODELS.items():
-        for fault in [DESIGN, *faults]:
-            case, count = first_lost(cases, lambda case: looks(case, fault))
-            yield f"{name}, {fault}", case, count, bool(case) == (fault != DESIGN)
+    for fault in [DESIGN, *DUE_FAULTS]:
+        case, count = first_lost(DUE_CASES, lambda case: due_lost(case, fault))
+        yield f"due, {fault}", case, count, bool(case) == (fault != DESIGN)

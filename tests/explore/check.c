@@ -1,0 +1,210 @@
+/*
+ * What holds at each return of a call, whenever nobody can run, and at the end of each execution.
+ */
+#include "explore.h"
+
+static const uint64_t us = 1000;
+
+pq_queue *queue;
+enum ending ending;
+int loses;
+/* Its member asks the proved queue, and owes nothing, as no request is posted then. */
+static pq_member *observer;
+static done all[MOST_DONE];
+static int count_done, heard_end;
+
+void check_begin(pq_options options, int is_observed) {
+    options.members += options.members != 0 && is_observed;
+    ending = STANDS;
+    loses = count_done = heard_end = 0;
+    observer = NULL;
+    if (pq_open(&options, &queue) != PQ_OK || (is_observed && pq_join(queue, PQ_NOW, &observer) != PQ_OK)) {
+        fail("no queue");
+    }
+}
+
+void check_call_begins(enum call call, uint64_t limit, uint64_t number) {
+    me->calls++;
+    me->call = call;
+    me->limit = limit;
+    me->number = number;
+    me->late_naps = 0;
+}
+
+/* A call that may wait gives up at its deadline, and not before. */
+void check_call_ends(uint32_t request, pq_code code, pq_item item, uint64_t number) {
+    const int takes = me->call == TAKES || me->call == TAKES_DUE;
+    const int gives_up = code == PQ_TIMED_OUT || (takes && (code == PQ_EMPTY || code == PQ_NOT_DUE)) || (me->call == PUSHES && code == PQ_FULL);
+    if (gives_up && me->limit != PQ_NOW && now < me->limit) {
+        fail("a call gives up (%s) at %llu, and its deadline is %llu", pq_code_text(code), (unsigned long long)now, (unsigned long long)me->limit);
+    }
+    heard_end |= code == PQ_SHUT && request == PQ_POP;
+    me->call = NO_CALL;
+    me->limit = PQ_FOREVER;
+    if (count_done < MOST_DONE && (code == PQ_OK || number != 0)) {
+        const done it = { request, code, item, number };
+        all[count_done++] = it;
+    }
+}
+
+/*
+ * Whenever nobody can run.
+ */
+
+/* What the proved queue has. */
+typedef struct content {
+    uint64_t count, due; /* when the first item is due */
+    core_answer first;
+    int is_shut;
+} content;
+
+/* 0: that can't be seen. */
+static int observe(content *it) {
+    uint64_t peak;
+    uint32_t owes;
+    if (observer == NULL || ending != STANDS || posts != 0) {
+        return 0;
+    }
+    if (pq_core_try_count(&observer->proved, &it->count, &peak, &owes) != PQ_OK
+        || pq_core_try_pop_or_look(&observer->proved, 0, 0, &it->first) != PQ_OK) {
+        return 0;
+    }
+    it->is_shut = (int)queue->is_shut;
+    it->due = it->count > 0 ? flatpq_due_time(queue, it->first.item.priority) : PQ_FOREVER;
+    return 1;
+}
+
+int is_journal_full(void) {
+    content it;
+    return observe(&it) && it.first.kind == KIND_JOURNAL_FULL;
+}
+
+static void check_members(void) {
+    if (ending == FREED || queue->first == NULL) {
+        return;
+    }
+    if (queue->is_closed) {
+        fail("the queue is closed, and a thread waits for a member");
+    }
+    for (own *it = queue->owns; it != NULL && !refuses_barriers; it = it->next_of_queue) {
+        if (it->busy == 0 && it->kept == 0 && it->taken != TAKEN) {
+            fail("a member is idle, and a thread waits for one");
+        }
+    }
+}
+
+/* A thread that sleeps in a call by which it could go on. */
+static void check_sleeper(int which, const content *it) {
+    const fiber *thread = &fibers[which];
+    const int has_item = it->first.kind == KIND_FIRST, is_full = it->first.kind == KIND_JOURNAL_FULL, ends = it->is_shut && it->count == 0;
+    const char *shut = it->is_shut ? ", and the queue is shut" : "";
+    const unsigned long long count = it->count, first = it->first.item.priority;
+    if (thread->call == TAKES && (has_item || is_full || ends)) {
+        fail("thread %d sleeps in a take, and there are %llu items%s", which, count, shut);
+    }
+    if ((thread->call == TAKES_DUE || thread->call == LISTENS_FOR_DUE) && ends) {
+        fail("thread %d waits for what is due, and the queue is shut and empty", which);
+    }
+    if (thread->call == PUSHES && queue->most_items != 0
+        && (it->count < queue->most_items || it->is_shut || is_full)) {
+        fail("thread %d waits for room, and there are %llu items of %llu%s", which, count, (unsigned long long)queue->most_items, shut);
+    }
+    if (thread->call == LISTENS_FOR && ((has_item && it->first.item.priority <= thread->number) || ends)) {
+        fail("thread %d listens, is not notified, and there are %llu items, the first of priority %llu%s", which, count, first, shut);
+    }
+}
+
+/* Of those that wait for what is due in this way one, at least, is awake in time. */
+static void check_watched(const content *it, enum call call) {
+    uint64_t watched = PQ_FOREVER;
+    int has_any = 0;
+    for (int i = 0; i < fiber_count; i++) {
+        if (fibers[i].call == call && fibers[i].state == ON_WORD) {
+            has_any = 1;
+            watched = fibers[i].until < watched ? fibers[i].until : watched;
+        }
+    }
+    if (has_any && it->first.kind == KIND_FIRST && watched > it->due) {
+        fail("the first item is due at %llu, and those that wait for what is due sleep until %llu", (unsigned long long)it->due,
+             (unsigned long long)watched);
+    }
+}
+
+static void check_alarm(int which, const content *it) {
+    const uint64_t soon = 200 * us; /* an alarm that found the lock held is rung then */
+    const uint64_t latest = (it->due > now ? it->due : now) + soon;
+    if ((it->first.kind == KIND_FIRST && fibers[which].until > latest) || (it->is_shut && it->count == 0)) {
+        fail("the alarm of thread %d is set for %llu, and the first item is due at %llu", which, (unsigned long long)fibers[which].until,
+             (unsigned long long)it->due);
+    }
+}
+
+static void check_awaiting(int which) {
+    const fiber *it = &fibers[which];
+    if (it->call == AWAITS && it->state == ON_WORD && (ending == FREED || queue->is_closed || queue->archived >= it->number)) {
+        fail("thread %d waits for an entry that is archived, or at a queue that has ended", which);
+    }
+}
+
+void check_settled(void) {
+    content it;
+    for (int i = 0; i < fiber_count; i++) {
+        if (fibers[i].state == NAPS) {
+            return;
+        }
+        check_awaiting(i);
+    }
+    check_members();
+    if (!observe(&it)) {
+        return;
+    }
+    check_watched(&it, TAKES_DUE);
+    check_watched(&it, LISTENS_FOR_DUE);
+    for (int i = 0; i < fiber_count; i++) {
+        if (fibers[i].state == ON_WORD) {
+            check_sleeper(i, &it);
+        } else if (fibers[i].state == SLEEPS && fibers[i].call == HAS_ALARM) {
+            check_alarm(i, &it);
+        }
+    }
+}
+
+/*
+ * The end.
+ */
+
+/* Those that still wait are to end. */
+void check_shut_at_end(void) {
+    int waits = 0;
+    for (int i = 0; i < fiber_count; i++) {
+        waits |= fibers[i].state != ENDED;
+    }
+    if (waits && ending == STANDS && pq_shut(queue) != PQ_OK) {
+        fail("the queue is not shut");
+    }
+}
+
+void check_end(void) {
+    pq_journal *journal;
+    pq_code code;
+    if (ending == FREED) {
+        return;
+    }
+    pq_give_back(observer);
+    if (ending == CLOSED) {
+        pq_free(queue, NULL, NULL);
+        return;
+    }
+    if (queue->concerned != 0 || queue->alarm_count != 0 || queue->staying != 0 || queue->first != NULL || queue->takers.first != NULL
+        || queue->timers.first != NULL || queue->listeners.first != NULL || queue->alarms.first != NULL || queue->producers.first != NULL) {
+        fail("threads have ended, and something of them is left in the queue: concerned %u, alarms %u, staying %u", queue->concerned,
+             queue->alarm_count, queue->staying);
+    }
+    code = pq_close(queue, &journal);
+    if (code != PQ_OK) {
+        fail("the queue is not closed: %s", pq_code_text(code));
+    }
+    check_journal(journal, all, count_done, heard_end);
+    pq_journal_free(journal);
+    pq_free(queue, NULL, NULL);
+}

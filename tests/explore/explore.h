@@ -1,0 +1,127 @@
+/*
+ * What the sources of the explorer share. run says what it does.
+ */
+#ifndef EXPLORE_H
+#define EXPLORE_H
+
+#include "inside.h"
+#include "points.h"
+
+#include <ucontext.h>
+
+enum { MOST_FIBERS = 8, MOST_TIMERS = 8, MOST_LATE = 8 };
+/* When an execution begins, in nanoseconds. */
+enum { BEGIN = 1000000 };
+
+/* In which call a thread of a scenario is: check.c knows by it whether it could go on. */
+enum call { NO_CALL, CALLS, TAKES, TAKES_DUE, PUSHES, LISTENS_FOR, LISTENS_FOR_DUE, HAS_ALARM, AWAITS };
+enum state { READY, ON_MUTEX, ON_WORD, NAPS, SLEEPS, ENDED };
+
+/* A thread of a scenario. */
+typedef struct fiber {
+    enum state state;
+    enum call call;
+    uint64_t until;  /* when it goes on by itself; PQ_FOREVER: never */
+    uint64_t limit;  /* the deadline of its call */
+    uint64_t number; /* the entry of AWAITS; the bound of LISTENS_FOR */
+    uint64_t calls;  /* that it has begun */
+    const void *at;  /* the mutex or the word for which it waits */
+    int priority;    /* of a random schedule */
+    int found_held;  /* it spins */
+    int late_naps;   /* since the deadline of its call */
+    int late_count;
+    struct {
+        uint32_t *at, value;
+    } late[MOST_LATE];  /* stores that it has made, and others do not see yet */
+    const void *at_end; /* what it set for the destructor of its key */
+    thread owns;        /* what the library keeps of each thread */
+    pace paces;
+    char *stack;
+    ucontext_t context;
+} fiber;
+
+/* scheduler.c: fibers, and virtual time. `me` is NULL outside of all fibers. */
+extern fiber *me, fibers[MOST_FIBERS];
+extern int fiber_count;
+extern uint64_t now, timers[MOST_TIMERS];
+int index_of(const fiber *it);
+uint64_t next_time(void); /* when the first of those that sleep goes on; PQ_FOREVER: none does */
+int is_ready(const fiber *it);
+void pass_time(uint64_t to);
+void block(enum state state, const void *at, uint64_t until);
+void wake_word(const void *word);
+void execute(void);
+void fail(const char *why, ...) __attribute__((format(printf, 1, 2), noreturn));
+void print_trace(void);
+
+/* search.c: which fiber goes on. */
+extern int is_random, is_redundant;
+uint64_t next_random(void);
+fiber *choose_fiber(fiber *mine, const void *at, enum access access, int *choice);
+int choose_costly(void); /* whether this, which costs a preemption, happens now */
+void search_resumes(int which);
+void search_steps(int which, const void *at, enum access access);
+void want(int choice);
+void print_replay(void);
+
+/* races.c: which steps can change places. */
+void races_begin(void);
+void races_note(int of, const void *at, enum access access, int choice);
+void races_enable(int woken, int by);
+int races_depend(const void *at, enum access access, const void *other, enum access as);
+
+/* system.c, proved.c */
+extern int has_late_stores, refuses_barriers, refuses_keys, is_held, posts;
+void system_begin(void);
+void proved_begin(void);
+void end_thread(void); /* the destructor of its key runs */
+
+/* scenario.c: what is played. */
+typedef struct scenario {
+    const char *name;
+    char *opening, *threads[MOST_FIBERS];
+    int count, holds; /* the lock is held around each proved call */
+} scenario;
+extern scenario played;
+void scenario_read(const char *name, const char *text);
+void scenario_begin(void);
+void scenario_run(int which);
+
+/* requests.c, listeners.c, members.c: what a thread can do, by a word and up to three numbers. One that is left out is PQ_FOREVER. */
+typedef struct word {
+    const char *text;
+    void (*does)(int which, const uint64_t *numbers);
+} word;
+extern const word request_words[], listener_words[], member_words[];
+extern pq_member *used[MOST_FIBERS]; /* the member of each thread */
+extern uint32_t posted[MOST_FIBERS]; /* what it posted; UINT32_MAX: that was refused */
+void requests_begin(void);
+void listeners_begin(void);
+void members_begin(void);
+void put(uint64_t priority);
+void use_members(int joined);
+void give_back(int which);
+void sleep_at(const uint32_t *at, uint32_t seen, uint64_t until);
+
+/* check.c, journal.c: what holds whenever nobody can run, and at the end of each execution. */
+typedef struct done {
+    uint32_t request;
+    pq_code code;
+    pq_item item;
+    uint64_t number;
+} done;
+enum { MOST_DONE = 64 };
+extern pq_queue *queue;
+extern enum ending { STANDS, CLOSED, FREED } ending; /* what the scenario has done to its queue */
+extern int loses;                                    /* a pop that was posted is given back, so no call returns its item */
+void check_begin(pq_options options, int is_observed);
+void check_call_begins(enum call call, uint64_t limit, uint64_t number);
+void check_call_ends(uint32_t request, pq_code code, pq_item item, uint64_t number);
+void check_settled(void);
+void check_end(void);
+void check_shut_at_end(void);
+int is_journal_full(void);
+void end_observing(void);
+void check_journal(const pq_journal *journal, const done *all, int count, int heard_end);
+
+#endif

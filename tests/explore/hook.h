@@ -1,0 +1,75 @@
+/*
+ * Included before each unchanged source of the library (-include). Each atomic access, lock, system call and proved call in it becomes a point,
+ * at which the scheduler may let another thread go on.
+ */
+#ifndef EXPLORE_HOOK_H
+#define EXPLORE_HOOK_H
+
+#include <sched.h>
+#include <stdlib.h>
+#include <sys/syscall.h>
+#include <sys/timerfd.h>
+#include <unistd.h>
+
+#include "points.h"
+
+#define POINT(what, at, access) scheduler_point(what, (const void *)(at), access, __FILE__, __LINE__)
+
+#define __atomic_load_n(p, o)                        \
+    ({                                               \
+        POINT("load " #p, p, READS);                  \
+        __auto_type seen_now = __atomic_load_n(p, o); \
+        system_forward(p, sizeof seen_now, (void *)&seen_now); \
+        seen_now;                                    \
+    })
+/* Of the relaxed stores those of a record's owner are delayed, which a barrier is to order (own.c). */
+#define IS_OF_OWNER(text) (__builtin_strstr(text, "busy") != NULL || __builtin_strstr(text, "kept") != NULL)
+#define __atomic_store_n(p, v, o)                                                      \
+    (POINT("store " #p, p, WRITES), (o) == __ATOMIC_SEQ_CST                              \
+         ? (system_drain(), __atomic_store_n(p, v, __ATOMIC_SEQ_CST))                   \
+         : system_store((uint32_t *)(p), sizeof *(p), (uint32_t)(v), IS_OF_OWNER(#p)))
+#define __atomic_exchange_n(p, v, o) (POINT("exchange " #p, p, WRITES), system_drain(), __atomic_exchange_n(p, v, o))
+#define __atomic_fetch_add(p, v, o) (POINT("add " #p, p, WRITES), system_drain(), __atomic_fetch_add(p, v, o))
+#define __atomic_fetch_sub(p, v, o) (POINT("sub " #p, p, WRITES), system_drain(), __atomic_fetch_sub(p, v, o))
+#define __atomic_compare_exchange_n(p, e, v, w, s, f) \
+    (POINT("compare " #p, p, WRITES), system_drain(), __atomic_compare_exchange_n(p, e, v, w, s, f))
+#define __atomic_thread_fence(o) (POINT("fence", NULL, NOTHING), system_drain(), __atomic_thread_fence(o))
+#define pthread_mutex_lock(m) (POINT("lock " #m, m, LOCKS), system_lock(m))
+#define pthread_mutex_trylock(m) (POINT("trylock " #m, m, TRIES_LOCK), system_try_lock(m))
+#define pthread_mutex_unlock(m) (POINT("unlock " #m, m, UNLOCKS), system_unlock(m))
+#define pthread_mutex_destroy(m) system_destroy(m)
+#define pthread_key_create(k, f) system_key(k, f)
+#define pthread_setspecific(k, v) system_set(v)
+#define syscall(...) system_call(__FILE__, __LINE__, __VA_ARGS__)
+#define clock_gettime(c, t) system_clock(t)
+#define sched_yield() (POINT("yield", NULL, NOTHING), 0)
+#define timerfd_settime(t, f, a, b) system_set_timer(t, a)
+#define free(p) (POINT("free " #p, p, FREES), free(p))
+
+/* A proved call is one step. Where a scenario holds the lock, others may find it held before that step and after it. */
+#define FIRST(first, ...) first
+#define TRIES(call, ...) \
+    (POINT(#call, &proved_core, WRITES), proved_begins(FIRST(__VA_ARGS__), 1) ? proved_ends(call) : LOCK_HELD)
+#define STEPS(call, ...) (POINT(#call, &proved_core, WRITES), proved_begins(FIRST(__VA_ARGS__), 0), (call))
+#define pq_core_step_call(m, r, p, v, posts, a)                                             \
+    (POINT("pq_core_step_call", &proved_core, WRITES), proved_begins(m, 1)                    \
+         ? proved_ends(pq_core_step_call(m, r, p, v, posts, a))                              \
+         : (posts) ? proved_posted(pq_core_post(m, r, p, v), HAS_POSTED) : LOCK_HELD)
+#define pq_core_post(...) proved_posted(STEPS(pq_core_post(__VA_ARGS__), __VA_ARGS__), PQ_OK)
+#define pq_core_step_answer(...) proved_answered(TRIES(pq_core_step_answer(__VA_ARGS__), __VA_ARGS__))
+#define pq_core_look(...) proved_answered(STEPS(pq_core_look(__VA_ARGS__), __VA_ARGS__))
+#define pq_core_step_take(...) proved_looked(TRIES(pq_core_step_take(__VA_ARGS__), __VA_ARGS__))
+#define pq_core_try_pop_or_look(...) TRIES(pq_core_try_pop_or_look(__VA_ARGS__), __VA_ARGS__)
+#define pq_core_try_remove(...) TRIES(pq_core_try_remove(__VA_ARGS__), __VA_ARGS__)
+#define pq_core_try_reschedule(...) TRIES(pq_core_try_reschedule(__VA_ARGS__), __VA_ARGS__)
+#define pq_core_try_count(...) TRIES(pq_core_try_count(__VA_ARGS__), __VA_ARGS__)
+#define pq_core_try_push_within(...) TRIES(pq_core_try_push_within(__VA_ARGS__), __VA_ARGS__)
+#define pq_core_try_push_many(...) TRIES(pq_core_try_push_many(__VA_ARGS__), __VA_ARGS__)
+#define pq_core_try_pop_many(...) TRIES(pq_core_try_pop_many(__VA_ARGS__), __VA_ARGS__)
+#define pq_core_try_round(...) TRIES(pq_core_try_round(__VA_ARGS__), __VA_ARGS__)
+#define pq_core_archive(...) TRIES(pq_core_archive(__VA_ARGS__), __VA_ARGS__)
+#define pq_core_end_take(...) STEPS(pq_core_end_take(__VA_ARGS__), __VA_ARGS__)
+#define pq_core_wakes_owed(...) STEPS(pq_core_wakes_owed(__VA_ARGS__), __VA_ARGS__)
+#define pq_core_shut(...) STEPS(pq_core_shut(__VA_ARGS__), __VA_ARGS__)
+
+#endif

@@ -1,0 +1,109 @@
+/*
+ * The journal of an execution against a queue of sorted items, and against what the calls returned.
+ */
+#include "explore.h"
+
+#include <string.h>
+
+enum { MOST_ITEMS = 64 };
+
+static struct {
+    pq_item item;
+    uint64_t ticket;
+} model[MOST_ITEMS];
+static size_t size;
+
+static int comes_before(size_t one, size_t other) {
+    const uint64_t key = model[one].item.priority, than = model[other].item.priority;
+    return key < than || (key == than && model[one].ticket < model[other].ticket);
+}
+
+/* Where the item of an entry stands: `size` where it is not there. */
+static size_t place_of(const pq_entry *entry) {
+    size_t at = 0;
+    if (entry->request == PQ_PUSH || entry->request == PQ_REMOVE || entry->request == PQ_RESCHEDULE) {
+        while (at < size && model[at].ticket != entry->ticket) {
+            at++;
+        }
+        return at;
+    }
+    for (size_t i = 1; i < size; i++) {
+        at = comes_before(i, at) ? i : at;
+    }
+    return at;
+}
+
+static void follow(size_t number, const pq_entry *entry) {
+    const size_t at = place_of(entry);
+    if (entry->request == PQ_PUSH) {
+        if (size == MOST_ITEMS) {
+            fail("a scenario has more than %d items", MOST_ITEMS);
+        }
+        model[size].item = entry->item;
+        model[size++].ticket = entry->number;
+    } else if (at >= size) {
+        if (entry->reply != PQ_EMPTY) {
+            fail("entry %zu finds an item, and there is none", number);
+        }
+    } else if (entry->reply != PQ_OK || memcmp(&entry->item, &model[at].item, sizeof entry->item) != 0) {
+        fail("entry %zu does not find the item that is there", number);
+    } else if (entry->request == PQ_RESCHEDULE) {
+        model[at].item.priority = entry->priority;
+        model[at].ticket = entry->number;
+    } else if (entry->request != PQ_PEEK) {
+        model[at] = model[--size];
+    }
+}
+
+/* A call returned this entry, and no other did. */
+static void check_done(const pq_journal *journal, const done *all, int which) {
+    const done *it = &all[which];
+    pq_entry entry;
+    if (it->number == 0 || it->request > PQ_RESCHEDULE) {
+        return;
+    }
+    for (int i = 0; i < which; i++) {
+        if (all[i].number == it->number && all[i].request <= PQ_RESCHEDULE) {
+            fail("two calls have entry %llu", (unsigned long long)it->number);
+        }
+    }
+    if (it->number > pq_count(journal, NULL) || pq_read(journal, it->number - 1, &entry) != PQ_OK || entry.request != it->request
+        || (it->code == PQ_OK && it->request != PQ_RESCHEDULE && memcmp(&entry.item, &it->item, sizeof entry.item) != 0)) {
+        fail("a call returned entry %llu, which is not of it", (unsigned long long)it->number);
+    }
+}
+
+/* An item that is out was returned once. */
+static void check_returned(const pq_entry *entry, const done *all, int count) {
+    int returned = 0;
+    if ((entry->request != PQ_POP && entry->request != PQ_REMOVE) || entry->reply != PQ_OK) {
+        return;
+    }
+    for (int i = 0; i < count; i++) {
+        returned += all[i].number == entry->number && all[i].code == PQ_OK;
+    }
+    if (returned != 1) {
+        fail("entry %llu took an item out, and %d calls returned it", (unsigned long long)entry->number, returned);
+    }
+}
+
+void check_journal(const pq_journal *journal, const done *all, int count, int heard_end) {
+    const size_t lines = pq_count(journal, NULL);
+    size = 0;
+    for (size_t i = 0; i < lines; i++) {
+        pq_entry entry;
+        if (pq_read(journal, i, &entry) != PQ_OK) {
+            fail("entry %zu is not read", i + 1);
+        }
+        follow(i + 1, &entry);
+        if (count < MOST_DONE && loses == 0) {
+            check_returned(&entry, all, count);
+        }
+    }
+    if (heard_end && size > 0) {
+        fail("a thread heard that nothing is left, and %zu items are", size);
+    }
+    for (int i = 0; i < count; i++) {
+        check_done(journal, all, i);
+    }
+}

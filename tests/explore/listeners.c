@@ -1,0 +1,165 @@
+/*
+ * Words of scenarios: members that listen, and alarms.
+ */
+#include "explore.h"
+
+#include <string.h>
+
+static uint32_t notified[MOST_FIBERS], may_notify[MOST_FIBERS];
+
+void listeners_begin(void) {
+    memset(notified, 0, sizeof notified);
+    memset(may_notify, 0, sizeof may_notify);
+}
+
+static void notify(void *context) {
+    uint32_t *it = context;
+    scheduler_point("notify", it, WRITES, __FILE__, __LINE__);
+    if (!may_notify[it - notified]) {
+        fail("member %d is notified, and does not listen, or was notified already", (int)(it - notified));
+    }
+    may_notify[it - notified] = 0;
+    *it = 1;
+    wake_word(it);
+}
+
+/* Takes, or begins to listen. The call ends the earlier listening: notify may run until then, and of the new one from then on. */
+static pq_code begin_listening(int which, uint64_t priority, pq_item *first) {
+    uint64_t entry = 0;
+    pq_code code;
+    may_notify[which] = 1;
+    notified[which] = 0;
+    check_call_begins(LISTENS_FOR, PQ_NOW, priority);
+    code = pq_take_or_listen(used[which], priority, first, &entry, notify, &notified[which]);
+    check_call_ends(PQ_POP, code, *first, code == PQ_OK ? entry : 0);
+    if (code != PQ_EMPTY && code != PQ_NOT_DUE) {
+        may_notify[which] = 0;
+    }
+    return code;
+}
+
+void sleep_at(const uint32_t *at, uint32_t seen, uint64_t until) {
+    scheduler_point("wait", at, READS, __FILE__, __LINE__);
+    while (*at == seen && until > now) {
+        block(ON_WORD, at, until);
+    }
+}
+
+/* Sleeps until it is notified, or this time. After a notify within its own call it naps: another thread may have the lock for long. */
+static void await_notify(int which, enum call call, uint64_t priority, uint64_t until) {
+    const uint64_t soon = 100000;
+    const int was_notified = (int)notified[which];
+    check_call_begins(call, PQ_FOREVER, priority);
+    sleep_at(&notified[which], 0, until);
+    check_call_begins(NO_CALL, PQ_FOREVER, 0);
+    if (was_notified) {
+        block(NAPS, NULL, now + soon);
+    }
+}
+
+/* Takes, or listens until it is notified, up to this priority. */
+static pq_code listen_until(int which, uint64_t priority, uint64_t until) {
+    pq_item first = { 0, 0 };
+    pq_code code;
+    do {
+        code = begin_listening(which, priority, &first);
+        if (code == PQ_EMPTY || code == PQ_NOT_DUE) {
+            await_notify(which, LISTENS_FOR, priority, until);
+        }
+    } while ((code == PQ_EMPTY || code == PQ_NOT_DUE) && notified[which]);
+    return code;
+}
+
+/* Takes what is due, or listens until it is notified, or the first item is due. */
+static void listen_due(int which, const uint64_t *numbers) {
+    pq_code code;
+    do {
+        pq_item first = { PQ_FOREVER, 0 };
+        code = begin_listening(which, now, &first);
+        if (code == PQ_EMPTY || code == PQ_NOT_DUE) {
+            await_notify(which, LISTENS_FOR_DUE, 0, first.priority < numbers[0] ? first.priority : numbers[0]);
+        }
+    } while ((code == PQ_EMPTY || code == PQ_NOT_DUE) && now < numbers[0]);
+}
+
+static void listen(int which, const uint64_t *numbers) {
+    (void)listen_until(which, numbers[0], numbers[1]);
+}
+
+static void listen_all(int which, const uint64_t *numbers) {
+    while (listen_until(which, numbers[0], numbers[1]) == PQ_OK) {
+    }
+}
+
+static void listen_once(int which, const uint64_t *numbers) {
+    pq_item first = { 0, 0 };
+    (void)begin_listening(which, numbers[0], &first);
+    check_call_begins(NO_CALL, PQ_FOREVER, 0);
+}
+
+/* The member has a request posted: the call is refused, and ends the listening. */
+static void listen_refused(int which, const uint64_t *numbers) {
+    pq_item item;
+    if (posted[which] == UINT32_MAX) {
+        return;
+    }
+    if (pq_take_or_listen(used[which], numbers[0], &item, NULL, notify, &notified[which]) != PQ_PENDING) {
+        fail("a member that has posted takes");
+    }
+    may_notify[which] = 0;
+}
+
+static void unlisten(int which, const uint64_t *numbers) {
+    int had = (int)notified[which], listened;
+    check_call_begins(CALLS, PQ_NOW, 0);
+    listened = pq_unlisten(used[which]);
+    check_call_begins(NO_CALL, PQ_FOREVER, 0);
+    may_notify[which] = 0;
+    if (listened && (had || notified[which])) {
+        fail("a member was notified, and unlisten says that it was not");
+    }
+}
+
+static pq_code begin_alarm(int which) {
+    pq_item item = { 0, 0 };
+    uint64_t entry = 0;
+    pq_code code;
+    check_call_begins(CALLS, PQ_NOW, 0);
+    code = pq_take_due_or_listen(used[which], which, &item, &entry);
+    check_call_ends(PQ_POP, code, item, code == PQ_OK ? entry : 0);
+    return code;
+}
+
+static void alarm_once(int which, const uint64_t *numbers) {
+    (void)begin_alarm(which);
+}
+
+/* Takes what is due, or waits for its timer, up to this time. */
+static void alarm_until(int which, const uint64_t *numbers) {
+    pq_code code;
+    while ((code = begin_alarm(which)) == PQ_EMPTY || code == PQ_NOT_DUE) {
+        check_call_begins(HAS_ALARM, PQ_FOREVER, 0);
+        scheduler_point("wait for the timer", &timers[which], READS, __FILE__, __LINE__);
+        while (timers[which] > now) {
+            block(SLEEPS, &timers[which], timers[which]);
+        }
+        timers[which] = PQ_FOREVER;
+        check_call_begins(NO_CALL, PQ_FOREVER, 0);
+        if (now >= numbers[0]) {
+            unlisten(which, numbers);
+            return;
+        }
+    }
+}
+
+const word listener_words[] = {
+    { "listen", listen },
+    { "listen-all", listen_all },
+    { "listen-due", listen_due },
+    { "listen-once", listen_once },
+    { "listen-refused", listen_refused },
+    { "unlisten", unlisten },
+    { "alarm", alarm_until },
+    { "alarm-once", alarm_once },
+    { NULL, NULL },
+};

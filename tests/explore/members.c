@@ -1,0 +1,170 @@
+/*
+ * Words of scenarios: members, archives, the ends of queues, and what threads do to wait for each other.
+ */
+#include "explore.h"
+
+static uint32_t told;
+
+void members_begin(void) {
+    told = 0;
+}
+
+/* So many threads use a member that is joined for them, and the others their own. */
+void use_members(int joined) {
+    for (int i = 0; i < MOST_FIBERS; i++) {
+        used[i] = pq_own(queue);
+        if (i < joined && i < played.count && pq_join(queue, PQ_NOW, &used[i]) != PQ_OK) {
+            fail("no member");
+        }
+    }
+}
+
+void give_back(int which) {
+    if (used[which] != pq_own(queue)) {
+        pq_give_back(used[which]);
+        used[which] = pq_own(queue);
+    }
+}
+
+static void join(int which, const uint64_t *numbers) {
+    pq_member *made;
+    pq_code code;
+    give_back(which);
+    check_call_begins(AWAITS, numbers[0], UINT64_MAX);
+    code = pq_join(queue, numbers[0], &made);
+    check_call_begins(NO_CALL, PQ_FOREVER, 0);
+    if (code == PQ_OK) {
+        used[which] = made;
+    } else if (code != PQ_CLOSED && code != PQ_ALL_JOINED) {
+        fail("a join returns %s", pq_code_text(code));
+    }
+}
+
+static void leave(int which, const uint64_t *numbers) {
+    pq_leave(queue);
+}
+
+static void archive(int which, const uint64_t *numbers) {
+    pq_journal *journal;
+    if (pq_archive(used[which], numbers[0], PQ_FOREVER, &journal) == PQ_OK) {
+        pq_journal_free(journal);
+    }
+}
+
+static void await_archived(int which, const uint64_t *numbers) {
+    pq_code code;
+    check_call_begins(AWAITS, numbers[1], numbers[0]);
+    code = pq_wait_archived(queue, numbers[0], numbers[1]);
+    check_call_begins(NO_CALL, PQ_FOREVER, 0);
+    if (code == PQ_CLOSED && ending != FREED && queue->archived >= numbers[0]) {
+        fail("a wait until an entry is archived returns %s", pq_code_text(code));
+    }
+}
+
+/*
+ * Ends.
+ */
+
+static void shut(int which, const uint64_t *numbers) {
+    (void)pq_shut(queue);
+}
+
+static pq_code close_once(void) {
+    pq_journal *journal;
+    pq_code code = pq_close(queue, &journal);
+    if (code == PQ_OK) {
+        ending = CLOSED;
+        pq_journal_free(journal);
+    }
+    return code;
+}
+
+static void close_queue(int which, const uint64_t *numbers) {
+    (void)close_once();
+}
+
+static void close_at_last(int which, const uint64_t *numbers) {
+    while (close_once() == PQ_MEMBERS_LEFT) {
+        block(NAPS, NULL, now + 1000000);
+    }
+}
+
+static void close_alone(int which, const uint64_t *numbers) {
+    pq_code code = close_once();
+    if (code != PQ_OK) {
+        fail("a close beside no other thread returns %s", pq_code_text(code));
+    }
+}
+
+/* May call the queue. */
+static void left(void *context, pq_item item) {
+    (void)context;
+    if (pq_push(pq_own(queue), item, PQ_NOW, NULL) != PQ_CLOSED) {
+        fail("a queue that is freed takes a push");
+    }
+}
+
+static void free_queue(int which, const uint64_t *numbers) {
+    give_back(which);
+    ending = FREED;
+    pq_free(queue, left, NULL);
+}
+
+/*
+ * Among the threads.
+ */
+
+static void sleep_to(int which, const uint64_t *numbers) {
+    if (numbers[0] > now) {
+        block(SLEEPS, NULL, numbers[0]);
+    }
+}
+
+/* Something is to be done after this: nothing is settled meanwhile. */
+static void nap(int which, const uint64_t *numbers) {
+    block(NAPS, NULL, now + numbers[0] - BEGIN);
+}
+
+static void tell(int which, const uint64_t *numbers) {
+    scheduler_point("tell", &told, WRITES, __FILE__, __LINE__);
+    told++;
+    wake_word(&told);
+}
+
+/* Until so many have told. */
+static void hear(int which, const uint64_t *numbers) {
+    for (uint32_t seen = 0; seen < numbers[0]; seen++) {
+        sleep_at(&told, seen, PQ_FOREVER);
+    }
+}
+
+/* Until this thread sleeps in a call, or has ended. */
+static void await_sleep(int which, const uint64_t *numbers) {
+    const fiber *it = &fibers[numbers[0]];
+    while (it->state != ENDED && it->state != SLEEPS && (it->state != ON_WORD || it->call == NO_CALL)) {
+        block(NAPS, NULL, now + 1000);
+    }
+}
+
+static void give_member_back(int which, const uint64_t *numbers) {
+    give_back(which);
+}
+
+const word member_words[] = {
+    { "join", join },
+    { "give-back", give_member_back },
+    { "leave", leave },
+    { "archive", archive },
+    { "await-archived", await_archived },
+    { "shut", shut },
+    { "close", close_queue },
+    { "close-at-last", close_at_last },
+    { "close-alone", close_alone },
+    { "free", free_queue },
+    { "sleep", sleep_to },
+    { "nap", nap },
+    { "tell", tell },
+    { "hear", hear },
+    { "await-sleep", await_sleep },
+    { NULL, NULL },
+};

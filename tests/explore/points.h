@@ -1,0 +1,39 @@
+/*
+ * What the library calls at its points, in place of the system and around the proved calls (hook.h).
+ */
+#ifndef EXPLORE_POINTS_H
+#define EXPLORE_POINTS_H
+
+#include <pthread.h>
+#include <sys/timerfd.h>
+#include <time.h>
+#include "core.h"
+
+/* What the step after a point does to the word there. FREES: to each word of the block. NOTHING: others see nothing of it. */
+enum access { NOTHING, READS, WRITES, LOCKS, TRIES_LOCK, UNLOCKS, FREES };
+
+void scheduler_point(const char *what, const void *at, enum access access, const char *file, int line);
+
+/* system.c: what the library calls instead of the system. */
+void system_drain(void); /* the stores that this thread has delayed are made */
+void system_store(uint32_t *at, size_t size, uint32_t value, int may_be_late);
+void system_forward(const void *at, size_t size, void *value); /* a thread sees its own delayed stores */
+int system_lock(pthread_mutex_t *mutex);
+int system_try_lock(pthread_mutex_t *mutex);
+int system_unlock(pthread_mutex_t *mutex);
+int system_destroy(pthread_mutex_t *mutex);
+long system_call(const char *file, int line, long number, ...);
+int system_clock(struct timespec *now);
+int system_set_timer(int timer, const struct itimerspec *at);
+int system_key(pthread_key_t *key, void (*ends)(void *));
+int system_set(const void *value);
+
+/* proved.c: what surrounds a proved call. */
+extern const char proved_core; /* stands for all that a proved call reads and writes */
+int proved_begins(const void *handle, int may_hold); /* 0: another thread holds the queue's lock */
+pq_code proved_ends(pq_code code);
+pq_code proved_posted(pq_code code, pq_code as);
+pq_code proved_answered(pq_code code);
+pq_code proved_looked(pq_code code);
+
+#endif

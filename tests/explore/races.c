@@ -1,0 +1,139 @@
+/*
+ * Which steps of an execution can change places: a preemption is tried only before a step that a later step of another thread depends on, and
+ * that is not ordered before it by the steps between (dynamic partial-order reduction, Flanagan and Godefroid 2005; bounded by preemptions,
+ * Coons, Musuvathi and McKinley 2013: where a thread blocks each other is tried, and before such a step each other too).
+ *
+ * Steps depend on each other where they touch the same word, and one of them writes it. All proved calls touch one word. That a thread unlocks
+ * is never before that another locks, so that race is between the two that lock.
+ */
+#include "explore.h"
+
+#include <malloc.h>
+#include <string.h>
+
+enum { SLOTS = 1 << 12 };
+
+typedef struct moment {
+    uint32_t of[MOST_FIBERS]; /* how many steps of each thread came before */
+} moment;
+
+/* A word, and the last step of each thread that read it, and the last that wrote it. */
+typedef struct slot {
+    uintptr_t at;
+    unsigned epoch; /* of which execution it is */
+    int writer, write_choice;
+    uint32_t write_step;
+    uint32_t read_steps[MOST_FIBERS];
+    int read_choices[MOST_FIBERS];
+    moment writes, all;
+} slot;
+
+static slot slots[SLOTS], *listed[SLOTS];
+static int listed_count;
+static unsigned epoch;
+static moment moments[MOST_FIBERS];
+
+void races_begin(void) {
+    epoch++;
+    listed_count = 0;
+    memset(moments, 0, sizeof moments);
+}
+
+static slot *find(uintptr_t at) {
+    unsigned i = (unsigned)((at * 0x9e3779b97f4a7c15u) >> 52);
+    while (slots[i].epoch == epoch && slots[i].at != at) {
+        i = (i + 1) % SLOTS;
+    }
+    if (slots[i].epoch != epoch) {
+        if (listed_count + 1 == SLOTS) {
+            fail("an execution has more than %d words", SLOTS);
+        }
+        memset(&slots[i], 0, sizeof slots[i]);
+        slots[i].at = at;
+        slots[i].epoch = epoch;
+        slots[i].writer = -1;
+        listed[listed_count++] = &slots[i];
+    }
+    return &slots[i];
+}
+
+static void join(moment *to, const moment *from) {
+    for (int i = 0; i < MOST_FIBERS; i++) {
+        to->of[i] = to->of[i] > from->of[i] ? to->of[i] : from->of[i];
+    }
+}
+
+/* Whether it was not the same thread, and nothing orders its step before this thread's next. */
+static int is_race(int of, int other, uint32_t step) {
+    return other != of && step > moments[of].of[other];
+}
+
+static void read_word(int of, slot *it, int choice) {
+    if (it->writer >= 0 && is_race(of, it->writer, it->write_step)) {
+        want(it->write_choice);
+    }
+    join(&moments[of], &it->writes);
+    it->read_steps[of] = moments[of].of[of];
+    it->read_choices[of] = choice;
+    join(&it->all, &moments[of]);
+}
+
+static void write_word(int of, slot *it, int choice) {
+    if (it->writer >= 0 && is_race(of, it->writer, it->write_step)) {
+        want(it->write_choice);
+    }
+    for (int i = 0; i < fiber_count; i++) {
+        if (it->read_steps[i] > 0 && is_race(of, i, it->read_steps[i])) {
+            want(it->read_choices[i]);
+        }
+    }
+    join(&moments[of], &it->all);
+    it->writer = of;
+    it->write_step = moments[of].of[of];
+    it->write_choice = choice;
+    memset(it->read_steps, 0, sizeof it->read_steps);
+    it->writes = it->all = moments[of];
+}
+
+static void free_block(int of, const void *at, int choice) {
+    uintptr_t from = (uintptr_t)at, to = from + (at != NULL ? malloc_usable_size((void *)at) : 0);
+    for (int i = 0; i < listed_count; i++) {
+        if (listed[i]->at >= from && listed[i]->at < to) {
+            write_word(of, listed[i], choice);
+        }
+    }
+}
+
+/* A thread makes a step. This choice, if any, was made before it. */
+void races_note(int of, const void *at, enum access access, int choice) {
+    const uintptr_t word = (uintptr_t)at, unlocks = word + 1;
+    moments[of].of[of]++;
+    if (access == READS) {
+        read_word(of, find(word), choice);
+    } else if (access == WRITES) {
+        write_word(of, find(word), choice);
+    } else if (access == LOCKS) {
+        write_word(of, find(word), choice);
+        join(&moments[of], &find(unlocks)->all);
+    } else if (access == UNLOCKS) {
+        write_word(of, find(unlocks), choice);
+    } else if (access == TRIES_LOCK) {
+        write_word(of, find(word), choice);
+        write_word(of, find(unlocks), choice);
+    } else if (access == FREES) {
+        free_block(of, at, choice);
+    }
+}
+
+/* A thread has gone on only since another woke it. */
+void races_enable(int woken, int by) {
+    join(&moments[woken], &moments[by]);
+}
+
+/* Whether steps with these accesses depend on each other. */
+int races_depend(const void *at, enum access access, const void *other, enum access as) {
+    if (access == NOTHING || as == NOTHING) {
+        return 0;
+    }
+    return access == FREES || as == FREES || (at == other && (access != READS || as != READS));
+}

@@ -1,0 +1,195 @@
+/*
+ * Words of scenarios: requests, takes and posts. Each says to check.c what its call came to.
+ */
+#include "explore.h"
+
+#include <string.h>
+
+static const pq_item none = { 0, 0 };
+pq_member *used[MOST_FIBERS];
+uint32_t posted[MOST_FIBERS];
+static uint64_t ticket, value;
+
+void requests_begin(void) {
+    ticket = value = 0;
+}
+
+static pq_item new_item(uint64_t priority) {
+    const pq_item made = { priority, ++value };
+    return made;
+}
+
+/* Pushes before the threads begin. */
+void put(uint64_t priority) {
+    uint64_t entry = 0;
+    pq_code code = pq_push(used[0], new_item(priority), PQ_NOW, &entry);
+    ticket = code == PQ_OK && ticket == 0 ? entry : ticket;
+}
+
+static void push(int which, const uint64_t *numbers) {
+    const pq_item item = new_item(numbers[0]);
+    const int was_full = is_journal_full();
+    uint64_t entry = 0;
+    pq_code code;
+    check_call_begins(PUSHES, numbers[1], 0);
+    code = pq_push(used[which], item, numbers[1], &entry);
+    check_call_ends(PQ_PUSH, code, item, entry);
+    if (was_full && code != PQ_JOURNAL_FULL && code != PQ_SHUT && code != PQ_TIMED_OUT && code != PQ_CLOSED) {
+        fail("the journal is full, and a push returns %s", pq_code_text(code));
+    }
+    if (refuses_keys && code != PQ_NO_MEMORY) {
+        fail("a thread whose end nobody sees to has a member");
+    }
+    ticket = code == PQ_OK && ticket == 0 ? entry : ticket;
+}
+
+/* So many items of one priority. */
+static void push_many(int which, const uint64_t *numbers) {
+    enum { MOST = 8 };
+    pq_item items[MOST];
+    size_t count = 0, carried;
+    while (count < numbers[1] && count < MOST) {
+        items[count++] = new_item(numbers[0]);
+    }
+    check_call_begins(PUSHES, numbers[2], 0);
+    (void)!pq_push_many(used[which], items, count, numbers[2], &carried, NULL);
+    check_call_begins(NO_CALL, PQ_FOREVER, 0);
+}
+
+typedef pq_code taking(pq_member *member, pq_item *item, uint64_t until, uint64_t *number);
+
+static pq_code take_by(taking *takes, enum call call, int which, uint64_t until) {
+    const uint64_t late = 60000;
+    pq_item item = none;
+    uint64_t entry = 0;
+    pq_code code;
+    check_call_begins(call, until, 0);
+    code = takes(used[which], &item, until, &entry);
+    check_call_ends(PQ_POP, code, item, code == PQ_OK || call == CALLS ? entry : 0);
+    if (call == TAKES_DUE && code == PQ_NOT_DUE && until != PQ_NOW && item.priority <= until && item.priority + late <= now) {
+        fail("a take returns %s at %llu, and the item was due at %llu", pq_code_text(code), (unsigned long long)now, (unsigned long long)item.priority);
+    }
+    return code;
+}
+
+static void pop(int which, const uint64_t *numbers) {
+    (void)take_by(pq_pop, CALLS, which, numbers[0]);
+}
+
+static void take(int which, const uint64_t *numbers) {
+    (void)take_by(pq_take, TAKES, which, numbers[0]);
+}
+
+static void take_all(int which, const uint64_t *numbers) {
+    while (take_by(pq_take, TAKES, which, numbers[0]) == PQ_OK) {
+    }
+}
+
+static void take_due(int which, const uint64_t *numbers) {
+    (void)take_by(pq_take_due, TAKES_DUE, which, numbers[0]);
+}
+
+static void take_due_all(int which, const uint64_t *numbers) {
+    while (take_by(pq_take_due, TAKES_DUE, which, numbers[0]) == PQ_OK) {
+    }
+}
+
+static void peek(int which, const uint64_t *numbers) {
+    pq_item item;
+    (void)!pq_peek(used[which], &item, numbers[0], NULL);
+}
+
+static void pop_due(int which, const uint64_t *numbers) {
+    pq_item item = none;
+    uint64_t entry = 0;
+    pq_code code;
+    check_call_begins(CALLS, numbers[1], 0);
+    code = pq_pop_due(used[which], numbers[0], &item, numbers[1], &entry);
+    check_call_ends(PQ_POP, code, item, code == PQ_OK ? entry : 0);
+}
+
+static void remove_first(int which, const uint64_t *numbers) {
+    pq_item item = none;
+    uint64_t entry = 0;
+    pq_code code;
+    check_call_begins(CALLS, numbers[0], 0);
+    code = pq_remove(used[which], ticket, &item, numbers[0], &entry);
+    check_call_ends(PQ_REMOVE, code, item, entry);
+}
+
+static void move_first(int which, const uint64_t *numbers) {
+    uint64_t entry = 0;
+    pq_code code;
+    check_call_begins(CALLS, numbers[1], 0);
+    code = pq_reschedule(used[which], ticket, numbers[0], numbers[1], &entry);
+    check_call_ends(PQ_RESCHEDULE, code, none, entry);
+}
+
+static void count_items(int which, const uint64_t *numbers) {
+    uint64_t size;
+    (void)!pq_size(used[which], numbers[0], &size, NULL);
+}
+
+/*
+ * Posts.
+ */
+
+static void post(int which, uint32_t request, pq_item item) {
+    posted[which] = pq_post(used[which], request, item) == PQ_OK ? request : UINT32_MAX;
+    loses += posted[which] == PQ_POP;
+}
+
+static void post_push(int which, const uint64_t *numbers) {
+    post(which, PQ_PUSH, new_item(numbers[0]));
+}
+
+static void post_pop(int which, const uint64_t *numbers) {
+    post(which, PQ_POP, none);
+}
+
+static void post_peek(int which, const uint64_t *numbers) {
+    post(which, PQ_PEEK, none);
+}
+
+/* Has the answer to what was posted: it combines until then. */
+static void answer(int which, const uint64_t *numbers) {
+    pq_item item = none;
+    uint64_t number = 0;
+    pq_code code = PQ_PENDING;
+    if (posted[which] == UINT32_MAX) {
+        return;
+    }
+    while ((code = pq_poll(used[which], &item, &number)) == PQ_PENDING) {
+        if (pq_combine(used[which]) != PQ_OK) {
+            block(NAPS, NULL, now + 1000);
+        }
+    }
+    loses -= posted[which] == PQ_POP;
+    check_call_begins(CALLS, PQ_FOREVER, 0);
+    check_call_ends(posted[which], code, item, posted[which] == PQ_POP ? number : 0);
+}
+
+static void combine(int which, const uint64_t *numbers) {
+    (void)pq_combine(used[which]);
+}
+
+const word request_words[] = {
+    { "push", push },
+    { "push-many", push_many },
+    { "pop", pop },
+    { "take", take },
+    { "take-all", take_all },
+    { "take-due", take_due },
+    { "take-due-all", take_due_all },
+    { "peek", peek },
+    { "pop-due", pop_due },
+    { "remove", remove_first },
+    { "move", move_first },
+    { "size", count_items },
+    { "post-push", post_push },
+    { "post-pop", post_pop },
+    { "post-peek", post_peek },
+    { "answer", answer },
+    { "combine", combine },
+    { NULL, NULL },
+};

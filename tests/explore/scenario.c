@@ -1,0 +1,156 @@
+/*
+ * A scenario is a line of text: the queue, and what each of a few threads does.
+ *
+ *     tickets bound=1 item=3 | push 5 1ms | take, size
+ *
+ * Of the queue: members=N (joined ones, one a thread where it is left out), own=N (threads use their own members, of so many), tickets, bound=N,
+ * entries=N (its journal fills; else it has 48), forgets, item=PRIORITY (it is there, and `remove` and `move` mean the first), held (the lock
+ * is held around each proved call), unobserved (the scenario ends the queue), no-barriers, no-keys (the system refuses them), fences.
+ * The tables of requests.c, listeners.c and members.c have the words of threads. A time is in us or ms from the beginning. A deadline may be
+ * `now`; one that is left out is for ever.
+ */
+#include "explore.h"
+
+#include <stdlib.h>
+#include <string.h>
+
+enum { MOST_TEXT = 200, FORGOTTEN = 65536 }; /* entries that a journal has at least which forgets */
+
+scenario played;
+
+static uint64_t time_or_number(const char *text) {
+    char *unit;
+    uint64_t number = strtoull(text, &unit, 10);
+    if (strcmp(text, "now") == 0) {
+        return PQ_NOW;
+    }
+    if (strcmp(unit, "ms") == 0 || strcmp(unit, "us") == 0) {
+        return BEGIN + number * (*unit == 'm' ? 1000000 : 1000);
+    }
+    if (unit == text || *unit != 0) {
+        fail("'%s' is no number", text);
+    }
+    return number;
+}
+
+void scenario_read(const char *name, const char *text) {
+    char *left = strdup(text), *part = strsep(&left, "|");
+    played.name = name;
+    played.opening = part;
+    played.holds = strstr(part, "held") != NULL;
+    while ((part = strsep(&left, "|")) != NULL) {
+        if (played.count == MOST_FIBERS) {
+            fail("a scenario has at most %d threads", MOST_FIBERS);
+        }
+        played.threads[played.count++] = part + strspn(part, " ");
+    }
+}
+
+typedef struct opening {
+    pq_options options;
+    uint32_t own;
+    uint64_t items[4];
+    int item_count, is_unobserved;
+} opening;
+
+static void read_number(opening *it, const char *name, uint64_t number) {
+    if (strcmp(name, "members") == 0) {
+        it->options.members = (uint32_t)number;
+    } else if (strcmp(name, "own") == 0) {
+        it->own = (uint32_t)number;
+    } else if (strcmp(name, "entries") == 0) {
+        it->options.entries = (uint32_t)number;
+    } else if (strcmp(name, "bound") == 0) {
+        it->options.most_items = number;
+    } else if (strcmp(name, "item") == 0 && it->item_count < 4) {
+        it->items[it->item_count++] = number;
+    } else {
+        fail("no queue has '%s='", name);
+    }
+}
+
+static void read_option(opening *it, char *text) {
+    const char *name = strsep(&text, "=");
+    if (text != NULL) {
+        read_number(it, name, time_or_number(text));
+    } else if (strcmp(name, "tickets") == 0) {
+        it->options.tickets = 1;
+    } else if (strcmp(name, "forgets") == 0) {
+        it->options.entries = FORGOTTEN;
+        it->options.keeping = PQ_FORGETS;
+    } else if (strcmp(name, "no-barriers") == 0) {
+        refuses_barriers = 1;
+    } else if (strcmp(name, "no-keys") == 0) {
+        refuses_keys = 1;
+    } else if (strcmp(name, "unobserved") == 0) {
+        it->is_unobserved = 1;
+    } else if (strcmp(name, "fences") == 0) {
+        flatpq_special = FENCES;
+    } else if (strcmp(name, "held") != 0) {
+        fail("no queue is '%s'", name);
+    }
+}
+
+/* Copies a text, of which strsep takes parts. */
+static char *copied(char *to, const char *text) {
+    if (strlen(text) >= MOST_TEXT) {
+        fail("a text is longer than %d", MOST_TEXT);
+    }
+    return strcpy(to, text);
+}
+
+/* Opens the queue, joins members, and puts items in. */
+void scenario_begin(void) {
+    char text[MOST_TEXT], *part, *left = copied(text, played.opening);
+    opening it = { .options = { .keeping = PQ_FILLS, .entries = 48 } };
+    uint32_t joined;
+    flatpq_special = 0;
+    flatpq_may_spin = 1;
+    while ((part = strsep(&left, " ")) != NULL) {
+        if (*part != 0) {
+            read_option(&it, part);
+        }
+    }
+    joined = it.own > 0 ? 0 : it.options.members != 0 ? it.options.members : (uint32_t)played.count;
+    it.options.members = it.own + joined;
+    check_begin(it.options, !it.is_unobserved);
+    use_members((int)joined);
+    for (int i = 0; i < it.item_count; i++) {
+        put(it.items[i]);
+    }
+}
+
+static void do_word(int which, char **words, int count) {
+    const word *const tables[] = { request_words, listener_words, member_words };
+    uint64_t numbers[] = { PQ_FOREVER, PQ_FOREVER, PQ_FOREVER };
+    for (int i = 1; i < count; i++) {
+        numbers[i - 1] = time_or_number(words[i]);
+    }
+    for (int i = 0; i < 3; i++) {
+        for (const word *it = tables[i]; it->text != NULL; it++) {
+            if (strcmp(it->text, words[0]) == 0) {
+                it->does(which, numbers);
+                return;
+            }
+        }
+    }
+    fail("no thread does '%s'", words[0]);
+}
+
+/* Does what a thread does. At last it gives back a member that was joined for it. */
+void scenario_run(int which) {
+    enum { MOST_WORDS = 4 };
+    char text[MOST_TEXT], *part, *left = copied(text, played.threads[which]);
+    while ((part = strsep(&left, ",")) != NULL) {
+        char *words[MOST_WORDS], *it;
+        int count = 0;
+        while ((it = strsep(&part, " ")) != NULL && count < MOST_WORDS) {
+            words[count] = it;
+            count += *it != 0;
+        }
+        if (count > 0) {
+            do_word(which, words, count);
+        }
+    }
+    give_back(which);
+}

@@ -1,0 +1,322 @@
+/*
+ * The threads of a scenario are fibers of one thread, and one of them runs at a time: search.c chooses at each point which one. Time is virtual.
+ * It passes while nobody can run, where a thread spins, and where a schedule chooses that.
+ */
+#include "explore.h"
+
+#include <signal.h>
+#include <stdarg.h>
+#include <stdio.h>
+#include <stdlib.h>
+#include <string.h>
+#include <unistd.h>
+
+#ifdef IS_SANITIZED
+#include <sanitizer/common_interface_defs.h>
+#endif
+
+enum { STACK = 1 << 18, MOST_STEPS = 20000 };
+
+fiber *me, fibers[MOST_FIBERS];
+int fiber_count;
+uint64_t now, timers[MOST_TIMERS];
+static ucontext_t outside;
+static thread first_thread;
+static pace first_pace;
+
+static struct step {
+    int fiber, line;
+    const char *what, *file;
+    uint64_t now;
+} steps[MOST_STEPS];
+static int step_count;
+
+/*
+ * Failures.
+ */
+
+void print_trace(void) {
+    int shown = -1;
+    print_replay();
+    for (int i = 0; i < step_count; i++) {
+        const struct step *it = &steps[i];
+        const char *file = strrchr(it->file, '/');
+        if (it->fiber != shown) {
+            printf("  -- thread %d (%s) at %llu ns\n", it->fiber, played.threads[it->fiber], (unsigned long long)it->now);
+            shown = it->fiber;
+        }
+        printf("     %s:%d %.70s\n", file != NULL ? file + 1 : it->file, it->line, it->what);
+    }
+    fflush(stdout);
+}
+
+void fail(const char *why, ...) {
+    static const char *const states[] = { "ready", "on a mutex", "on a word", "naps", "sleeps", "ended" };
+    va_list all;
+    va_start(all, why);
+    printf("FAILED %s: ", played.name);
+    vprintf(why, all);
+    printf("\n");
+    va_end(all);
+    for (int i = 0; i < fiber_count; i++) {
+        printf("  thread %d (%s): %s, until %llu\n", i, played.threads[i], states[fibers[i].state], (unsigned long long)fibers[i].until);
+    }
+    print_trace();
+    _exit(1);
+}
+
+/* A sanitizer found something. */
+static void dies(void) {
+    printf("FAILED %s: see below\n", played.name);
+    print_trace();
+}
+
+static void crashes(int signal) {
+    dies();
+    _exit(signal);
+}
+
+/*
+ * Switching.
+ */
+
+int index_of(const fiber *it) {
+    return (int)(it - fibers);
+}
+
+static void arrive(void *fake) {
+#ifdef IS_SANITIZED
+    __sanitizer_finish_switch_fiber(fake, NULL, NULL);
+#else
+    (void)fake;
+#endif
+}
+
+/* Says to AddressSanitizer which stack is next: that of a fiber, or where it is NULL the first one. */
+static void depart(const fiber *from, const fiber *to, void **fake) {
+#ifdef IS_SANITIZED
+    static void *stack;
+    static size_t size;
+    if (stack == NULL) {
+        pthread_attr_t attributes;
+        pthread_getattr_np(pthread_self(), &attributes);
+        pthread_attr_getstack(&attributes, &stack, &size);
+        pthread_attr_destroy(&attributes);
+    }
+    __sanitizer_start_switch_fiber(from != NULL && from->state == ENDED ? NULL : fake, to != NULL ? to->stack : stack, to != NULL ? STACK : size);
+#else
+    (void)from, (void)to, (void)fake;
+#endif
+}
+
+/* Lets this fiber go on, or where it is NULL the explorer. */
+static void switch_to(fiber *to) {
+    fiber *from = me;
+    void *fake = NULL;
+    if (from == to) {
+        return;
+    }
+    if (from != NULL) {
+        from->owns = flatpq_thread;
+        from->paces = flatpq_pace;
+    }
+    if (to != NULL) {
+        flatpq_thread = to->owns;
+        flatpq_pace = to->paces;
+        search_resumes(index_of(to));
+    }
+    me = to;
+    depart(from, to, &fake);
+    swapcontext(from != NULL ? &from->context : &outside, to != NULL ? &to->context : &outside);
+    arrive(fake);
+}
+
+int is_ready(const fiber *it) {
+    if (it->state == ON_MUTEX) {
+        return *(const int *)it->at == 0;
+    }
+    return it->state == READY || (it->state != ENDED && it->until <= now);
+}
+
+uint64_t next_time(void) {
+    uint64_t next = PQ_FOREVER;
+    for (int i = 0; i < fiber_count; i++) {
+        const fiber *it = &fibers[i];
+        if (it->state != READY && it->state != ON_MUTEX && it->state != ENDED && it->until > now && it->until < next) {
+            next = it->until;
+        }
+    }
+    return next;
+}
+
+void pass_time(uint64_t to) {
+    now = to;
+    search_steps(-1, &now, WRITES);
+}
+
+/* Has others go on until this fiber can, or the explorer where nobody ever can. */
+static void run_others(void) {
+    fiber *mine = me;
+    int choice;
+    for (;;) {
+        fiber *next = choose_fiber(NULL, NULL, NOTHING, &choice);
+        if (next != NULL) {
+            next->state = READY;
+            switch_to(next);
+            return;
+        }
+        if (is_held && next_time() == PQ_FOREVER) {
+            fail("nobody can go on, and the queue's lock is held");
+        }
+        me = NULL;
+        check_settled();
+        me = mine;
+        if (next_time() == PQ_FOREVER) {
+            switch_to(NULL);
+            return;
+        }
+        pass_time(next_time());
+    }
+}
+
+void block(enum state state, const void *at, uint64_t until) {
+    fiber *mine = me;
+    if (mine == NULL) {
+        fail("nobody can go on, and the library waits");
+    }
+    mine->state = state;
+    mine->at = at;
+    mine->until = until;
+    run_others();
+    mine->at = NULL;
+}
+
+void wake_word(const void *word) {
+    for (int i = 0; i < fiber_count; i++) {
+        if (fibers[i].state == ON_WORD && fibers[i].at == word) {
+            fibers[i].state = READY;
+            if (me != NULL) {
+                races_enable(i, index_of(me));
+            }
+        }
+    }
+}
+
+static void record(const char *what, const char *file, int line) {
+    const struct step it = { index_of(me), line, what, file, now };
+    steps[step_count++] = it;
+    if (step_count == MOST_STEPS) {
+        fail("no end after %d steps", MOST_STEPS);
+    }
+}
+
+/* A step of this thread comes next. Outside of an execution nothing happens. */
+void scheduler_point(const char *what, const void *at, enum access access, const char *file, int line) {
+    fiber *next;
+    int choice = -1, mine;
+    if (me == NULL) {
+        return;
+    }
+    mine = index_of(me);
+    if (is_random && has_late_stores && next_random() % 4 == 0) {
+        system_drain(); /* a processor makes a delayed store some time */
+    }
+    if (is_random || access != NOTHING) {
+        next = choose_fiber(me, at, access, &choice);
+        if (next != me) {
+            next->state = READY;
+            switch_to(next);
+        }
+    }
+    record(what, file, line);
+    if (!is_random) {
+        races_note(mine, at, access, choice);
+        search_steps(mine, at, access);
+    }
+}
+
+/*
+ * Executions.
+ */
+
+static void enter(int number) {
+    arrive(NULL);
+    scenario_run(number);
+    end_thread();
+    if (flatpq_thread.owns != NULL) {
+        fail("thread %d has ended, and its list of members is lost", number);
+    }
+    me->state = ENDED;
+    run_others();
+    abort();
+}
+
+static void make_fiber(int number) {
+    fiber *it = &fibers[number];
+    char *stack = it->stack != NULL ? it->stack : malloc(STACK);
+    memset(it, 0, sizeof *it);
+    it->until = it->limit = PQ_FOREVER;
+    it->owns = first_thread;
+    it->paces = first_pace;
+    it->priority = (int)(next_random() % 1000);
+    it->stack = stack;
+    getcontext(&it->context);
+    it->context.uc_stack.ss_sp = stack;
+    it->context.uc_stack.ss_size = STACK;
+    makecontext(&it->context, (void (*)(void))enter, 1, number);
+}
+
+static void begin(void) {
+    static int is_known;
+    if (!is_known) {
+        is_known = 1;
+        first_thread = flatpq_thread;
+        first_pace = flatpq_pace;
+#ifdef IS_SANITIZED
+        __sanitizer_set_death_callback(dies);
+#endif
+        signal(SIGABRT, crashes);
+        signal(SIGSEGV, crashes);
+    }
+    flatpq_thread = first_thread;
+    flatpq_pace = first_pace;
+    step_count = fiber_count = 0;
+    now = BEGIN;
+    for (int i = 0; i < MOST_TIMERS; i++) {
+        timers[i] = PQ_FOREVER;
+    }
+    races_begin();
+    system_begin();
+    proved_begin();
+    requests_begin();
+    listeners_begin();
+    members_begin();
+}
+
+/* Plays a schedule: until all have ended or sleep for ever, and once more after a shut. */
+void execute(void) {
+    begin();
+    scenario_begin();
+    while (fiber_count < played.count) {
+        make_fiber(fiber_count++);
+    }
+    for (int round = 0; round < 2; round++) {
+        thread kept = flatpq_thread;
+        int choice;
+        fiber *first = choose_fiber(NULL, NULL, NOTHING, &choice);
+        if (first != NULL) {
+            first->state = READY;
+            switch_to(first);
+        }
+        flatpq_thread = kept;
+        if (round == 0) {
+            check_shut_at_end();
+        }
+    }
+    for (int i = 0; i < fiber_count; i++) {
+        if (fibers[i].state != ENDED) {
+            fail("thread %d never ends", i);
+        }
+    }
+    check_end();
+}

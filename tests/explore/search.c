@@ -1,0 +1,300 @@
+/*
+ * Which schedules are played: all with 0, then 1, 2 and 3 preemptions, depth first over the choices of the last one; then random ones, by
+ * priorities that change at a few points (PCT, Burckhardt et al. 2010).
+ *
+ * Where a thread blocks, each that can go on is tried, at no cost. Before a step each other that can go on, or that sleeps until the next time,
+ * costs a preemption. It is tried where a later step of another thread may change places with that step (races.c). A schedule that preempts
+ * a thread, and resumes it before a step that depends on its next one, is as one that preempts it a step later: no more choices are made in it.
+ * This pays: with up to 2 preemptions it played 4,782 schedules in place of 32,876 (own), and 9,314 of 204,114 (close-beside-a-join).
+ *
+ * usage: explore [-b PREEMPTIONS] [-n RANDOM SCHEDULES] [-s SEED] [-t SECONDS] [-r SCHEDULE] NAME SCENARIO
+ */
+#include "explore.h"
+
+#include <stdio.h>
+#include <stdlib.h>
+#include <string.h>
+#include <time.h>
+#include <unistd.h>
+
+enum { MOST_CHOICES = 20000, MOST_CHANGES = 6 };
+
+int is_random, is_redundant;
+static int bound, preempted;
+static struct {
+    int chosen, of, is_wanted;
+} choices[MOST_CHOICES];
+static int choice_count, choice_known;
+static uint64_t seed, random_state, points, points_before = 200, change_at[MOST_CHANGES];
+static int lowest_priority;
+/* Of a thread that was preempted: its next step, until another step depends on it. */
+static struct {
+    int is_set;
+    const void *at;
+    enum access access;
+} waits_with[MOST_FIBERS];
+
+uint64_t next_random(void) {
+    uint64_t it = random_state += 0x9e3779b97f4a7c15u;
+    it = (it ^ it >> 30) * 0xbf58476d1ce4e5b9u;
+    it = (it ^ it >> 27) * 0x94d049bb133111ebu;
+    return it ^ it >> 31;
+}
+
+void print_replay(void) {
+    if (is_random) {
+        printf("  replay: --scenario %s --replay %s/%llu\n", played.name, SUM, (unsigned long long)seed);
+        return;
+    }
+    printf("  replay: --scenario %s --replay %s/b%d/", played.name, SUM, bound);
+    for (int i = 0; i < choice_count; i++) {
+        if (choices[i].chosen > 0) {
+            printf("%d:%d,", i, choices[i].chosen);
+        }
+    }
+    printf("\n");
+}
+
+/* Some step races with that after this choice. */
+void want(int choice) {
+    if (choice >= 0) {
+        choices[choice].is_wanted = 1;
+    }
+}
+
+/* One of so many, the first by itself; *index is where that is recorded, or -1. */
+static int choose(int count, int costs, int is_wanted, int *index) {
+    int i = choice_count, chosen = 0;
+    *index = -1;
+    if (count < 2 || is_redundant || (costs && preempted >= bound)) {
+        return 0;
+    }
+    if (i == MOST_CHOICES) {
+        fail("an execution has more than %d choices", MOST_CHOICES);
+    }
+    if (i < choice_known) {
+        chosen = choices[i].chosen < count ? choices[i].chosen : 0;
+        choices[i].is_wanted |= is_wanted;
+    } else {
+        choices[i].is_wanted = is_wanted;
+    }
+    choices[i].chosen = chosen;
+    choices[i].of = count;
+    choice_count++;
+    preempted += costs && chosen > 0;
+    *index = i;
+    return chosen;
+}
+
+int choose_costly(void) {
+    int index;
+    return is_random ? next_random() % 64 == 0 : choose(2, 1, 1, &index);
+}
+
+static fiber *first_by_priority(void) {
+    fiber *best = NULL;
+    for (int i = 0; i < fiber_count; i++) {
+        if (is_ready(&fibers[i]) && (best == NULL || fibers[i].priority > best->priority)) {
+            best = &fibers[i];
+        }
+    }
+    return best;
+}
+
+static fiber *choose_at_random(fiber *mine) {
+    points += mine != NULL;
+    for (int i = 0; i < MOST_CHANGES && mine != NULL; i++) {
+        if (points != change_at[i]) {
+            continue;
+        }
+        if (next_random() % 6 == 0 && next_time() != PQ_FOREVER) {
+            pass_time(next_time());
+        } else {
+            mine->priority = --lowest_priority;
+        }
+    }
+    return first_by_priority();
+}
+
+/* Who else may go on: those that can, and where one is preempted those that sleep until the next time. */
+static int others(const fiber *mine, fiber **found, int *ready) {
+    uint64_t next = mine != NULL ? next_time() : PQ_FOREVER;
+    int count = 0;
+    for (int i = 0; i < fiber_count; i++) {
+        if (&fibers[i] != mine && is_ready(&fibers[i])) {
+            found[count++] = &fibers[i];
+        }
+    }
+    *ready = count;
+    for (int i = 0; i < fiber_count && next != PQ_FOREVER; i++) {
+        const fiber *it = &fibers[i];
+        if (it != mine && it->state != ENDED && !is_ready(it) && it->state != ON_MUTEX && it->until == next) {
+            found[count++] = &fibers[i];
+        }
+    }
+    return count;
+}
+
+/* Who goes on before the step of this fiber, or where it is NULL, as one has blocked: NULL where nobody can. */
+fiber *choose_fiber(fiber *mine, const void *at, enum access access, int *choice) {
+    fiber *found[MOST_FIBERS + 1];
+    int ready, count, chosen;
+    *choice = -1;
+    if (is_random) {
+        return choose_at_random(mine);
+    }
+    found[0] = mine;
+    count = (mine != NULL) + others(mine, found + (mine != NULL), &ready);
+    if (count == 0) {
+        return NULL;
+    }
+    chosen = choose(count, mine != NULL, mine == NULL, choice);
+    if (mine != NULL && chosen > 0) {
+        int i = index_of(mine);
+        waits_with[i].is_set = 1;
+        waits_with[i].at = at;
+        waits_with[i].access = access;
+        if (chosen > ready) {
+            pass_time(next_time());
+        }
+    }
+    return found[chosen];
+}
+
+/* A fiber goes on that was preempted, or had blocked. */
+void search_resumes(int which) {
+    is_redundant |= waits_with[which].is_set;
+    waits_with[which].is_set = 0;
+}
+
+/* A step was made. */
+void search_steps(int which, const void *at, enum access access) {
+    for (int i = 0; i < fiber_count; i++) {
+        if (i != which && waits_with[i].is_set && races_depend(waits_with[i].at, waits_with[i].access, at, access)) {
+            waits_with[i].is_set = 0;
+        }
+    }
+}
+
+static void begin_random(void) {
+    random_state = seed * 0x2545f4914f6cdd1du + 1;
+    has_late_stores = (int)(seed % 2);
+    lowest_priority = -1;
+    points = 0;
+    for (int i = 0; i < MOST_CHANGES; i++) {
+        /* (with fewer changes in most executions) */
+        change_at[i] = (uint64_t)i <= seed % MOST_CHANGES ? 1 + next_random() % points_before : 0;
+    }
+}
+
+static void play(void) {
+    choice_count = preempted = is_redundant = has_late_stores = 0;
+    memset(waits_with, 0, sizeof waits_with);
+    if (is_random) {
+        begin_random();
+    }
+    execute();
+    if (is_random) {
+        points_before = points > 20 ? points : 20;
+    }
+}
+
+/* Sets the next schedule: 0 where there is none. */
+static int next_schedule(void) {
+    while (choice_count > 0) {
+        int last = choice_count - 1;
+        if (choices[last].is_wanted && choices[last].chosen + 1 < choices[last].of) {
+            choices[last].chosen++;
+            choice_known = choice_count;
+            return 1;
+        }
+        choice_count--;
+    }
+    return 0;
+}
+
+static double seconds(void) {
+    struct timespec it;
+    clock_gettime(CLOCK_PROCESS_CPUTIME_ID, &it);
+    return (double)it.tv_sec + (double)it.tv_nsec / 1e9;
+}
+
+/* Plays a schedule as it was printed. */
+static int replay(const char *text) {
+    const size_t length = strlen(SUM);
+    if (strncmp(text, SUM, length) != 0 || text[length] != '/') {
+        printf("FAILED %s: that schedule is of other sources than these, %s\n", played.name, SUM);
+        return 1;
+    }
+    text += length + 1;
+    is_random = *text != 'b';
+    if (is_random) {
+        seed = strtoull(text, NULL, 10);
+    } else {
+        bound = atoi(text + 1);
+        for (const char *at = strchr(text, '/'); at != NULL && at[1] != 0; at = strchr(at + 1, ',')) {
+            int place = atoi(at + 1);
+            choices[place].chosen = atoi(strchr(at, ':') + 1);
+            choice_known = place + 1;
+        }
+    }
+    play();
+    printf("%s: that schedule passes\n", played.name);
+    return 0;
+}
+
+/* All schedules with so many preemptions: whether they were played in time. */
+static int explore_bound(int preemptions, double end, long *count, long *redundant) {
+    int more = 1;
+    bound = preemptions;
+    choice_known = 0;
+    while (more && seconds() < end) {
+        play();
+        ++*count;
+        *redundant += is_redundant;
+        more = next_schedule();
+    }
+    return !more;
+}
+
+static void explore(int most, long random, double most_seconds) {
+    double begun = seconds();
+    long each = 0, redundant = 0, tried = 0;
+    int whole = 0;
+    while (whole <= most && explore_bound(whole, begun + most_seconds * (random > 0 ? 0.7 : 1), &each, &redundant)) {
+        whole++;
+    }
+    is_random = 1;
+    for (; tried < random && seconds() - begun < most_seconds; tried++, seed++) {
+        play();
+    }
+    printf("%s: all schedules with up to %d preemptions, %ld, of which %ld were cut; %ld at random; %.1f s\n", played.name, whole - 1, each, redundant,
+           tried, seconds() - begun);
+}
+
+int main(int count, char **words) {
+    int preemptions = 3, option;
+    long random = 1000000000;
+    double most = 2;
+    const char *replayed = NULL;
+    seed = 1;
+    while ((option = getopt(count, words, "b:n:s:t:r:")) != -1) {
+        switch (option) {
+        case 'b': preemptions = atoi(optarg); break;
+        case 'n': random = atol(optarg); break;
+        case 's': seed = strtoull(optarg, NULL, 10); break;
+        case 't': most = atof(optarg); break;
+        case 'r': replayed = optarg; break;
+        default: return 2;
+        }
+    }
+    if (optind + 2 != count) {
+        return 2;
+    }
+    scenario_read(words[optind], words[optind + 1]);
+    if (replayed != NULL) {
+        return replay(replayed);
+    }
+    explore(preemptions, random, most);
+    return 0;
+}

@@ -5,6 +5,7 @@ import shutil
 import subprocess
 import sys
 
+import packing
 from tree import TOP
 
 CLIENT = f"{TOP}/tests/queue_stress"
@@ -16,12 +17,9 @@ COMPILES = ["-std=c99", "-O2", "-g1", "-pthread", "-Wall", "-Wextra", "-Werror",
 LINKS = ["-Wl,--wrap=malloc,--wrap=realloc"]
 
 
-def archive(words=()):
-    """Returns the archive of the sources as they are, which is proved and built where that is not done, by these words for
-    scripts/build library."""
-    if subprocess.run([f"{TOP}/scripts/build", "library", *words], stdin=subprocess.DEVNULL, stdout=sys.stderr).returncode:
-        sys.exit(f"{os.path.basename(sys.argv[0])}: the library was not built")
-    return f"{TOP}/out/libflatpq.a"
+def archive(words=("--prove",)):
+    """Returns the archive of the sources as they are, which is built where that is not done, by these words for scripts/build library."""
+    return packing.library_of(list(words)).file
 
 
 def queue_stress(library, folder):

@@ -9,6 +9,7 @@ import sys
 from dataclasses import dataclass
 
 import joining
+import sources
 from crate_list import with_below
 from tree import TOP, text_of
 
@@ -68,18 +69,37 @@ def interface_of(header):
     return [*joining.declarations(header).values(), *layouts, *numbers, *defined]
 
 
+@dataclass
+class Library:
+    """The archive, and what is known of how it was made: nothing of one that comes from elsewhere."""
+
+    file: str
+    known: dict
+
+
 def library_of(words):
-    """Returns the archive that the words name, by --library FILE, or the one that scripts/build library makes of them."""
+    """Returns the library that the words name, by --library FILE, or the one that scripts/build library makes by them."""
     if words[:1] == ["--library"] and len(words) == 2:
-        return os.path.realpath(words[1])
-    if subprocess.run([f"{TOP}/scripts/build", "library", *words], stdin=subprocess.DEVNULL).returncode:
+        return Library(os.path.realpath(words[1]), {})
+    did = subprocess.run([f"{TOP}/scripts/build", "library", *words], stdin=subprocess.DEVNULL, stdout=subprocess.PIPE, text=True)
+    if did.returncode:
         raise SystemExit("the library was not built")
-    return f"{TOP}/out/libflatpq.a"
+    file = did.stdout.strip()
+    return Library(file, sources.recorded(f"{os.path.dirname(file)}/core.o.told"))
 
 
 def names_library(words):
     """Returns whether these are words for library_of."""
-    return words in ([], ["--over-proved"]) or (len(words) == 2 and words[0] == "--library")
+    return words in ([], ["--prove"]) or (len(words) == 2 and words[0] == "--library")
+
+
+def proof_of(known):
+    """Returns the sentence that says whether the core was proved."""
+    if not known:
+        return "Nothing is known of how its core was made, nor whether it was proved."
+    if known["core"] == "proved":
+        return f"Its core was proved on {known['date']} by {known['toolchain']}."
+    return f"Its core was not proved where it was built: {sources.elsewhere()[0]}. It is {known['core']}."
 
 
 def filled(name, words):
@@ -90,9 +110,9 @@ def filled(name, words):
 def words_of(library, place):
     """Returns the words that stand in place of their names."""
     major, minor, patch = version()
-    beside = f"{os.path.splitext(library)[0]}.proved"
-    with open(library, "rb") as it:
+    with open(library.file, "rb") as it:
         sha256 = hashlib.sha256(it.read()).hexdigest()
+    record = {"crates": ", ".join(with_below(["queue_c"])), **library.known, "sha256 of libflatpq.a": sha256}
     return {
         "VERSION": f"{major}.{minor}.{patch}",
         "MAJOR": major,
@@ -102,9 +122,8 @@ def words_of(library, place):
         "PREFIX": place.prefix.replace(" ", "\\ ") or f"${{pcfiledir}}/{place.up('pkgconfig')}",
         "LIBDIR": place.libdir,
         "UP": place.up("cmake/flatpq"),
-        "CRATES": ", ".join(with_below(["queue_c"])),
-        "PROVED": text_of(beside).rstrip() if os.path.exists(beside) else "toolchain and sources: not told",
-        "SHA256": sha256,
+        "PROOF": proof_of(library.known),
+        "RECORD": "\n".join(f"{name}: {it}" for name, it in record.items() if name != "core"),
     }
 
 
@@ -128,15 +147,15 @@ def lay_out(library, place):
     libraries = f"{root}/{place.libdir}"
     for file in [joining.HEADER, *glob.glob(f"{TOP}/bindings/cpp/*.hpp")]:
         copy(file, f"{root}/include")
-    copy(library, libraries)
-    joining.share(library, libraries)
+    copy(library.file, libraries)
+    joining.share(library.file, libraries)
     write(f"{libraries}/pkgconfig/flatpq.pc", filled("flatpq.pc", words))
     for name in ("flatpqConfig.cmake", "flatpqConfigVersion.cmake"):
         write(f"{libraries}/cmake/flatpq/{name}", filled(name, words))
     for file in glob.glob(f"{EXAMPLES}/c*/*"):
         copy(file, f"{root}/share/flatpq/examples/{os.path.basename(os.path.dirname(file))}")
     write(f"{root}/share/flatpq/examples/CMakeLists.txt", filled("CMakeLists.txt", words))
-    lay_out_crate(library, f"{root}/share/flatpq/rust")
+    lay_out_crate(library.file, f"{root}/share/flatpq/rust")
     for file in (f"{TOP}/docs/GUIDE.md", f"{TOP}/CHANGELOG.md"):
         copy(file, f"{root}/share/doc/flatpq")
     for name in ("README.md", "PROVED"):

@@ -2,6 +2,7 @@
 import datetime
 import hashlib
 import os
+import shutil
 import subprocess
 
 from tree import TOP
@@ -49,15 +50,41 @@ def is_current(file, more=()):
     return all(os.stat(f"{TOP}/{it}").st_mtime_ns <= built for it in walked(more))
 
 
+def record_of(built):
+    """Returns the file in which scripts/prove-all says what it proved, beside what it built of that."""
+    return f"{os.path.dirname(built)}/PROVED"
+
+
+def is_proved(built):
+    """Returns whether what scripts/prove-all built is there, as the sources are."""
+    return os.path.isfile(record_of(built)) and is_current(built)
+
+
+def toolchain():
+    """Returns the name and the version of the toolchain."""
+    return subprocess.run(["rt", "version"], capture_output=True, text=True, check=True).stdout.strip()
+
+
 def record():
     """Returns the record of these sources, as proved today by this toolchain."""
-    kit = subprocess.run(["rt", "version"], capture_output=True, text=True, check=True).stdout.strip()
-    return f"sources: {sum_of_sources()}\ntoolchain: {kit}\ndate: {datetime.date.today()}\n"
+    return f"sources: {sum_of_sources()}\ntoolchain: {toolchain()}\ndate: {datetime.date.today()}\n"
 
 
-def recorded():
-    """Returns what PROVED says, by the names of its lines, or nothing where there is none."""
-    if not os.path.isfile(RECORD):
+def recorded(file=RECORD):
+    """Returns what PROVED says, or another record, by the names of its lines, or nothing where there is none."""
+    if not os.path.isfile(file):
         return {}
-    with open(RECORD, encoding="utf-8") as it:
+    with open(file, encoding="utf-8") as it:
         return dict(line.rstrip("\n").split(": ", 1) for line in it if ": " in line)
+
+
+def elsewhere():
+    """Returns what PROVED says of these sources, and whether they were proved by this toolchain."""
+    found = recorded()
+    if not found:
+        return "no record says whether these sources were proved", False
+    if found["sources"] != sum_of_sources():
+        return "these sources were changed since they were proved", False
+    is_other = bool(shutil.which("rt")) and found["toolchain"] != toolchain()
+    other = ", another toolchain than this one" if is_other else ""
+    return f"these very sources were proved on {found['date']} by {found['toolchain']}{other}", not is_other

@@ -1,15 +1,20 @@
 """Builds the core of the library without any proof: one object that shows the calls pq_core_.. of crates/queue_c.
 
 The front end lowers only what a program's main reaches. So in a copy of the crates queue_c becomes a program, whose main makes each call
-that the crate exports. In the module each call gets its own name, and main goes."""
+that the crate exports. In the module each call gets its own name, and main goes. The toolchain's clang compiles the module as it does that
+of a proved crate.
+
+The module is that of a proved crate but for steps that the front end adds for `rt try`: checks, traps for what they find, and a fill of
+memory that nobody has written. Where the sources were proved elsewhere no check can fail, and the module is compiled without them."""
 import glob
 import os
 import re
 import shutil
 
+import crate_list
 import joining
 from tree import TOP, text_of
-from unproved import TARGET, Build, NotBuilt
+from unproved import TARGET, Build, NotBuilt, OtherToolchain
 
 CRATE = "queue_c"
 EXPORTED = re.compile(r'#\[unsafe\(no_mangle\)\]\npub extern "C" fn (\w+)\(([^()]*)\)')
@@ -17,6 +22,13 @@ NUMBERS = ("u8", "u16", "u32", "u64", "usize")
 # The call's name in the module has the path of its module.
 PATH_OF_CALL = re.compile(r'@"queue_c::(?:\w+::)*(pq_core_\w+)"')
 BEGINS_CALL = re.compile(r"(?m)^define internal (.*@pq_core_\w+\()")
+# The steps that the front end adds, each in a line, and what of them may not be left.
+FILL = r"llvm\.memset\.p0\.i64\(ptr %r\d+, i8 -86, i64 \d+, i1 false\)"
+ADDED = re.compile(rf'(?m)^  call void @("rattle-llvm-checks::\w+"\(i8 [^()]*\)|llvm\.trap\(\)|{FILL})\n')
+IS_ADDED = re.compile(r'call [^@\n]*@("rattle-llvm-checks::|llvm\.trap\(|llvm\.memset\.p0\.i64\(ptr %\w+, i8 -86)')
+# How the front end has the module compiled and how a proved one is, whose code is for another processor and keeps no frame pointers.
+CHECKED_WORDS, WORDS = ("-fPIE", "-O0", "-fsanitize=address"), ("-fPIC", "-O3")
+ATTRIBUTES = {'sanitize_address "frame-pointer"="all"': "nounwind", '"target-cpu"="x86-64"': '"target-cpu"="x86-64-v2"'}
 # No call is made unless the program has so many words. What they are is not known before it runs, so all that they reach is lowered.
 MAIN = """
 fn main(rt: HostRuntime) {{
@@ -84,34 +96,56 @@ class Caller:
 
 
 class CoreBuild(Build):
-    """The build of the core in a folder for what is made on the way."""
+    """The build of the core, with checks or without, in a folder for what is made on the way."""
 
-    def __init__(self, kit, room):
+    def __init__(self, kit, room, has_checks):
         super().__init__(CRATE, kit, room)
-        # The whole of -O1 takes no longer here, and clients make calls that are five times as fast.
-        self.top, self.passes = f"{room}/copy", "globaldce,default<O1>"
+        self.top, self.has_checks = f"{room}/copy", has_checks
 
     def copy(self):
-        """Copies the crates that queue_c stands on, and makes it a program."""
-        shutil.copytree(f"{TOP}/crates", f"{self.top}/crates", ignore=shutil.ignore_patterns("out", "proofs", "must-*"), symlinks=True)
+        """Copies the crates that queue_c stands on, but for proofs, and makes it a program. What is read-only here is not in the copy."""
+        names = crate_list.with_below([CRATE])
+        files = [it for name in names for part in ("src", "specs") for it in glob.glob(f"crates/{name}/{part}/**", root_dir=TOP, recursive=True)]
+        for it in files:
+            if os.path.isfile(f"{TOP}/{it}"):
+                os.makedirs(os.path.dirname(f"{self.top}/{it}"), exist_ok=True)
+                shutil.copyfile(f"{TOP}/{it}", f"{self.top}/{it}")
         with open(f"{self.top}/crates.txt", "w", encoding="utf-8") as it:
-            it.write(re.sub(rf"(?m)^{CRATE} staticlib\b", CRATE, text_of(f"{TOP}/crates.txt")))
+            lines = crate_list.lines()
+            it.writelines(f"{lines[name]}\n".replace(f"{CRATE} staticlib", CRATE) for name in names)
         folder = f"{self.top}/crates/{CRATE}/src"
         text = Caller(folder).main()
         os.remove(f"{folder}/lib.rt")
         with open(f"{folder}/main.rt", "w", encoding="utf-8") as it:
             it.write(text)
 
-    def export(self):
-        """Has the module export the calls, and no main."""
-        clang = [f"{self.kit}/toolchain/bin/clang", f"--target={TARGET}", "--no-default-config", "-emit-llvm", "-x", "ir"]
-        self.need([*clang, "-S", "module.bc", "-o", "module.ll"])
-        text, calls = BEGINS_CALL.subn(r"define \1", PATH_OF_CALL.sub(r"@\1", text_of(f"{self.room}/module.ll")))
+    def exported(self, text):
+        """Returns the text of the module where it exports the calls, and no main."""
+        text, calls = BEGINS_CALL.subn(r"define \1", PATH_OF_CALL.sub(r"@\1", text))
         if not calls:
             raise NotBuilt(f"crates/{CRATE} exports no call pq_core_..")
+        for checked, proved in ATTRIBUTES.items():
+            text = text.replace(checked, proved)
+        return text.replace("define i32 @main()", "define internal i32 @unused_main()")
+
+    def without_checks(self, text):
+        """Returns the text of the module without the steps that the front end adds."""
+        text, steps = ADDED.subn("", text)
+        left = IS_ADDED.search(text)
+        if left or not steps:
+            raise OtherToolchain(f"its checks have another form: {left[0] if left else 'none is there'}")
+        return text
+
+    def code(self, given):
+        """Compiles the module: its object, and where it has checks that which tells of one."""
+        clang = f"{self.kit}/toolchain/bin/clang"
+        self.need([clang, f"--target={TARGET}", "--no-default-config", "-emit-llvm", "-x", "ir", "-S", "module.bc", "-o", "module.ll"])
+        text = self.exported(text_of(f"{self.room}/module.ll"))
         with open(f"{self.room}/module.ll", "w", encoding="utf-8") as it:
-            it.write(text.replace("define i32 @main()", "define internal i32 @unused_main()"))
-        self.need([*clang, "-c", "module.ll", "-o", "module.bc"])
+            it.write(text if self.has_checks else self.without_checks(text))
+        words = ["module.ll" if it == "module.bc" else it for it in given if it not in CHECKED_WORDS]
+        self.need([clang, *words, *WORDS])
+        return ["module.o", *([self.tells_of_a_check()] if self.has_checks else [])]
 
     def make(self):
         """Builds the core, and returns where it is."""
@@ -119,7 +153,6 @@ class CoreBuild(Build):
         self.mirror()
         given = self.lower()
         self.stage = "the compiler makes code of them"
-        self.export()
         parts = [f"{self.room}/{it}" for it in self.code(given)]
         joining.join_core([*parts, f"{self.kit}/c/liblibc_c.a"], f"{self.room}/core.o")
         return f"{self.room}/core.o"

@@ -17,6 +17,7 @@ typedef struct batch {
     uint64_t until;
     size_t done;
     uint64_t number; /* of the first one's journal entry, if any is done */
+    pq_item next;    /* of pops: the first item, where none was due */
 } batch;
 
 static void count_done(batch *it, size_t count, uint64_t number) {
@@ -35,12 +36,12 @@ static void watch(const pq_item *items, size_t count, void (*tell)(pq_item item)
 }
 
 /* Tries the next so many items. */
-static pq_code try_part(const batch *it, size_t count, core_batch *told) {
+static pq_code try_part(const batch *it, size_t count, core_popped *told) {
     core *proved = &it->member->proved;
     pq_code code;
     if (it->pushed != NULL) {
         watch(it->pushed + it->done, count, flatpq_tsan_push);
-        code = LEAVE_OUT(pq_core_try_push_many(proved, it->pushed + it->done, count, told));
+        code = LEAVE_OUT(pq_core_try_push_many(proved, it->pushed + it->done, count, &told->batch));
     } else {
         code = LEAVE_OUT(pq_core_try_pop_many(proved, it->bound, it->popped + it->done, count, told));
     }
@@ -59,9 +60,25 @@ static pq_code refusal(uint32_t refused) {
     }
 }
 
-/* Carries out as many of the next items as may be, at most so many: how many, and what refused the next. */
+/* What a try that found the lock free came to: what refused the next item, or of pops that took none why. */
+static pq_code came_to(batch *it, const core_popped *told) {
+    const core_batch *did = &told->batch;
+    const core_answer answer = { it->pushed != NULL ? KIND_PUSHED : KIND_POPPED, did->owes_wake, 0, { 0, 0 } };
+    if (it->pushed == NULL && did->done == 0 && did->refused == 0) {
+        it->next = told->next.item;
+        return flatpq_looked(it->member, &told->next);
+    }
+    if (it->pushed == NULL) {
+        watch(it->popped + it->done, (size_t)did->done, flatpq_tsan_pop);
+    }
+    count_done(it, (size_t)did->done, did->first);
+    flatpq_carried_out(it->member, &answer);
+    return refusal(did->refused);
+}
+
+/* Carries out as many of the next items as may be, at most so many: how many, and why no more. */
 static pq_code carry_out(batch *it, size_t count, size_t *carried) {
-    core_batch told = { 0, 0, 0, 0 };
+    core_popped told = { { 0, 0, 0, 0 }, { KIND_EMPTY, 0, 0, { 0, 0 } } };
     pq_code code = try_part(it, count, &told);
     if (code == LOCK_HELD) {
         rest resting = flatpq_rest_of(it->member->queue, it->until);
@@ -70,16 +87,9 @@ static pq_code carry_out(batch *it, size_t count, size_t *carried) {
         }
         flatpq_rested(&resting);
     }
-    *carried = 0;
+    *carried = (size_t)told.batch.done;
     if (code == PQ_OK) {
-        const core_answer answer = { it->pushed != NULL ? KIND_PUSHED : KIND_POPPED, told.owes_wake, 0, { 0, 0 } };
-        *carried = (size_t)told.done;
-        if (it->pushed == NULL) {
-            watch(it->popped + it->done, *carried, flatpq_tsan_pop);
-        }
-        count_done(it, *carried, told.first);
-        flatpq_carried_out(it->member, &answer);
-        code = refusal(told.refused);
+        return came_to(it, &told);
     }
     return code == LOCK_HELD ? PQ_TIMED_OUT : code;
 }
@@ -131,7 +141,7 @@ pq_code pq_push_many(pq_member *member, const pq_item *items, size_t count, uint
     code = flatpq_begin(&member, until, &mine);
     *done = 0;
     if (code == PQ_OK) {
-        batch all = { member, items, NULL, 0, until, 0, 0 };
+        batch all = { member, items, NULL, 0, until, 0, 0, { 0, 0 } };
         code = member->queue->most_items == 0 ? carry_out_all(&all, count) : push_each(&all, count);
         return_done(&all, done, number);
         flatpq_end(mine);
@@ -150,16 +160,10 @@ pq_code pq_pop_due_many(pq_member *member, uint64_t priority, pq_item *items, si
     code = flatpq_begin(&member, until, &mine);
     *done = 0;
     if (code == PQ_OK) {
-        batch all = { member, NULL, items, priority, until, 0, 0 };
+        batch all = { member, NULL, items, priority, until, 0, 0, { 0, 0 } };
         code = carry_out_all(&all, room);
-        if (code == PQ_OK && all.done == 0 && room > 0) {
-            /* The first item says why; it may be another one by now, and due. */
-            core_answer answer;
-            code = flatpq_take_first(member, priority, until, &answer);
-            flatpq_return_first(code, &answer, items, NULL);
-            if (code == PQ_OK) {
-                count_done(&all, 1, answer.number);
-            }
+        if (code == PQ_NOT_DUE && all.done == 0) {
+            *items = all.next;
         }
         return_done(&all, done, number);
         flatpq_end(mine);

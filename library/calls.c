@@ -334,6 +334,10 @@ INLINE pq_code taken(pq_member *it, pq_code code, const core_answer *answer) {
     }
 }
 
+pq_code flatpq_looked(pq_member *it, const core_answer *answer) {
+    return taken(it, PQ_OK, answer);
+}
+
 typedef pq_code attempt(pq_member *member, uint64_t priority, core_answer *answer);
 
 INLINE pq_code take_by(attempt *tries, pq_member *it, uint64_t priority, uint64_t until, core_answer *answer) {

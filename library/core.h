@@ -43,10 +43,17 @@ typedef struct core_batch {
     uint32_t owes_wake;
 } core_batch;
 
+/* A batch of pops, and what a look finds after it: KIND_FIRST, KIND_EMPTY or KIND_JOURNAL_FULL. */
+typedef struct core_popped {
+    core_batch batch;
+    core_answer next;
+} core_popped;
+
 /* What refuses a request of a batch. */
 enum { REFUSED_NO_MEMORY = 9, REFUSED_JOURNAL_FULL = 10, REFUSED_EXHAUSTED = 11 };
 
-_Static_assert(sizeof(core_answer) == 32 && sizeof(core_line) == 64 && sizeof(core_batch) == 24 && sizeof(pq_code) == 4,
+_Static_assert(sizeof(core_answer) == 32 && sizeof(core_line) == 64 && sizeof(core_batch) == 24 && sizeof(core_popped) == 56 &&
+                   sizeof(pq_code) == 4,
                "the layouts of the proved calls");
 
 /* Queues. `number` stands for the queue in each of its members. */
@@ -67,7 +74,7 @@ pq_code pq_core_try_reschedule(core *member, uint64_t ticket, uint64_t priority,
 pq_code pq_core_try_count(core *member, uint64_t *count, uint64_t *peak, uint32_t *owes_wake);
 pq_code pq_core_try_push_within(core *member, uint64_t most, uint64_t priority, uint64_t value, core_answer *answer);
 pq_code pq_core_try_push_many(core *member, const pq_item *items, size_t count, core_batch *batch);
-pq_code pq_core_try_pop_many(core *member, uint64_t bound, pq_item *items, size_t room, core_batch *batch);
+pq_code pq_core_try_pop_many(core *member, uint64_t bound, pq_item *items, size_t room, core_popped *popped);
 pq_code pq_core_look(core *member, core_answer *answer);
 pq_code pq_core_try_round(core *member);
 pq_code pq_core_archive(core *member, uint64_t archived, core *journal);

@@ -276,6 +276,7 @@ HIDDEN pq_code flatpq_take_first_at_once(pq_member *member, uint64_t priority, c
 HIDDEN pq_code flatpq_step_take(pq_member *member, uint64_t priority, uint64_t until, core_answer *answer);
 HIDDEN pq_code flatpq_step_take_at_once(pq_member *member, uint64_t priority, core_answer *answer);
 HIDDEN pq_code flatpq_count(pq_member *member, uint64_t *count, uint64_t *peak, uint32_t *owes_wake); /* tries once; peak may be NULL */
+HIDDEN pq_code flatpq_looked(pq_member *member, const core_answer *answer); /* what such a look comes to that was so answered */
 HIDDEN void flatpq_return_first(pq_code code, const core_answer *answer, pq_item *item, uint64_t *number);
 
 /*

@@ -1,9 +1,9 @@
 -- What a member does that looks at the first item under the lock, and takes it out where it wants that.
-use Rattle.std.specs.Prelude.{◌≡◌, ℕ, ◌<◌, ◌≤◌, ⊤, Bool, Option, Some, None, length}
+use Rattle.std.specs.Prelude.{◌≡◌, ℕ, ◌<◌, ◌≤◌, ⊤, Bool, List, Option, Some, None, length}
 use Rattle.pq_types.specs.Item.{Item}
 use Rattle.pq_types.specs.declared.request.Request.TheVariants.{Pop}
 use Rattle.pq_types.specs.declared.answer.Reply.TheVariants.{Pushed, Got, Empty, Least as LeastIs}
-use Rattle.pq_types.specs.Asked.{Answer}
+use Rattle.pq_types.specs.Asked.{Answer, Line}
 use Rattle.pq_types.specs.declared.answer.Answer.TheVariants.{Entered}
 use Rattle.pq_types.specs.declared.answer.Answer.TheVariants as answer
 use Rattle.pq_types.specs.History.{left}
@@ -71,6 +71,14 @@ IsLeft wants first (looked.Taken number x) = ⊥
 IsLeft wants first (looked.Stays x) = (first ≡ Some x) × ¬ (IsWanted wants x.priority)
 IsLeft wants first looked.Nothing = first ≡ None
 IsLeft wants first looked.BookFull = ⊥
+
+-- What a look finds that wants nothing, at a journal with these lines and so much room: the first item; that there is none; or
+-- that the journal is full.
+abbrev pub FindsNext : ℕ → List Line → Looked → Type 0
+FindsNext room lines (looked.Taken number x) = ⊥
+FindsNext room lines (looked.Stays x) = (length lines < room) × (first_of (left lines) ≡ Some x)
+FindsNext room lines looked.Nothing = (length lines < room) × (first_of (left lines) ≡ None)
+FindsNext room lines looked.BookFull = room ≤ length lines
 
 -- what a look comes to whose pop was so answered
 abbrev pub looked_by : Answer → Looked

@@ -11,10 +11,12 @@ ghost use Rattle.flat_queue.specs.Members.{HasRoomForAll, pen_of};
 ghost use Rattle.flat_queue.specs.Turns.{FindsLockHeld};
 ghost use Rattle.flat_queue.specs.Batches.{AppliesBatch, ReleasesBatch, CarriesOutBatchBy, MissesThenBatchBy};
 ghost use Rattle.flat_queue.specs.Batches.{EntersTogether, IsBatchShutOut, IsPushAt, IsPop, pushes_of, pops_of, in_one_batch, is_first_due};
+ghost use Rattle.flat_queue.specs.Looking.{FindsNext};
 
 use crate::ending::Shut;
 use crate::error::CallError;
 use crate::handle::Handle;
+use crate::looking::{Looked, next_there};
 use crate::member::Member;
 use crate::others::Served;
 use crate::queue::Queue;
@@ -36,6 +38,15 @@ pub struct Batch {
     pub first: u64,
     /// Why the next request was refused, where one was.
     pub refused: Option<CallError>,
+}
+
+/// What a batch of pops came to, and what it leaves.
+#[derive(Clone, Copy, Debug, PartialEq, Eq)]
+pub struct Popped<I = Item> {
+    pub batch: Batch,
+    /// What a look finds after it that wants nothing: the first item of those that stay, that none stays, or that the journal is
+    /// full.
+    pub next: Looked<I>,
 }
 
 impl<S: Store<Entry<P>>, P: Part> Queue<S, P> {
@@ -139,27 +150,32 @@ impl<S: Store<Entry<P>>, P: Part> Queue<S, P> {
     }
 
     /// Takes out, under one lock, the first items while their priorities are at most this one, `MOST_BATCH` of them at most, into
-    /// as much of the room as they need, if the member finds the lock free. What follows them stays, and has no line. As
-    /// `carry_out_pushes` otherwise; takes memory for the pushes of others alone, and is never refused `NoMemory`.
+    /// as much of the room as they need, if the member finds the lock free, and looks what is first then. What follows them stays,
+    /// and has no line. As `carry_out_pushes` otherwise; takes memory for the pushes of others alone, and is never refused
+    /// `NoMemory`, but `Spent` whatever the first item is.
     pub fn carry_out_pops(
         &self,
         member: &mut Member<S, P>,
         priority: P,
         into: &mut [Item<P>],
-    ) -> Option<Batch>
+    ) -> Option<Popped<Item<P>>>
         requires queue { member.old.queue ≡ self.now }
         requires idle { is_idle member.old.pen.standing ≡ true }
         ensures slots { length into.new ≡ length into.old }
-        ensures carries { IfSome result (λ batch. CarriesOutBatchBy (word_number P.wide) member.old
-            (pops_of (take batch.done into.new)) IsPop batch member.new) }
-        ensures together { IfSome result (λ batch. EntersTogether member.old
-            (pops_of (take batch.done into.new)) batch member.new) }
-        ensures memory { IfSome result (λ batch. batch.refused ≢ Some CallError.NoMemory) }
-        ensures due { IfSome result (λ batch. All (λ x. x.priority ≤ P.number priority) (take batch.done into.new)) }
-        ensures within { IfSome result (λ batch. batch.done ≤ length into.old) }
-        ensures next { IfSome result (λ batch. batch.refused ≢ None → batch.done < in_one_batch (length into.old)) }
-        ensures left { IfSome result (λ batch. batch.refused ≡ None → batch.done < in_one_batch (length into.old)
+        ensures carries { IfSome result (λ popped. CarriesOutBatchBy (word_number P.wide) member.old
+            (pops_of (take popped.batch.done into.new)) IsPop popped.batch member.new) }
+        ensures together { IfSome result (λ popped. EntersTogether member.old
+            (pops_of (take popped.batch.done into.new)) popped.batch member.new) }
+        ensures memory { IfSome result (λ popped. popped.batch.refused ≢ Some CallError.NoMemory) }
+        ensures due { IfSome result (λ popped.
+            All (λ x. x.priority ≤ P.number priority) (take popped.batch.done into.new)) }
+        ensures within { IfSome result (λ popped. popped.batch.done ≤ length into.old) }
+        ensures next { IfSome result (λ popped. popped.batch.refused ≢ None
+            → popped.batch.done < in_one_batch (length into.old)) }
+        ensures left { IfSome result (λ popped. popped.batch.refused ≡ None
+            → popped.batch.done < in_one_batch (length into.old)
             → is_first_due (P.number priority) (first_of (left member.new.pen.known)) ≡ false) }
+        ensures found { IfSome result (λ popped. FindsNext self.now.room member.new.pen.known popped.next) }
         ensures held { IfNone result (FindsLockHeld member.old member.new) }
     {
         let mut lead = self.lead(member)?;
@@ -167,8 +183,8 @@ impl<S: Store<Entry<P>>, P: Part> Queue<S, P> {
         Some(self.pop_and_release(member, lead, priority, into, served))
     }
 
-    // The idle leader takes the first items out, behind the posts of the others, and releases the lock. Where the journal has no
-    // line left, it counts all who wait for an item.
+    // The idle leader takes the first items out, behind the posts of the others, looks at the next one, and releases the lock.
+    // Where the journal has no line left, it counts all who wait for an item.
     fn pop_and_release(
         &self,
         member: &mut Member<S, P>,
@@ -176,31 +192,34 @@ impl<S: Store<Entry<P>>, P: Part> Queue<S, P> {
         priority: P,
         into: &mut [Item<P>],
         _served: Served,
-    ) -> Batch
+    ) -> Popped<Item<P>>
         requires queue { member.old.queue ≡ self.now }
         requires lead { IsLeadOf (pen_of member.old) lead }
         requires idle { is_idle member.old.pen.standing ≡ true }
         ensures slots { length into.new ≡ length into.old }
-        ensures releases { ReleasesBatch member.old (pops_of (take result.done into.new)) IsPop result member.new }
-        ensures memory { result.refused ≢ Some CallError.NoMemory }
-        ensures due { All (λ x. x.priority ≤ P.number priority) (take result.done into.new) }
-        ensures within { result.done ≤ length into.old }
-        ensures next { result.refused ≢ None → result.done < in_one_batch (length into.old) }
-        ensures left { result.refused ≡ None → result.done < in_one_batch (length into.old)
+        ensures releases { ReleasesBatch member.old (pops_of (take result.batch.done into.new)) IsPop result.batch member.new }
+        ensures memory { result.batch.refused ≢ Some CallError.NoMemory }
+        ensures due { All (λ x. x.priority ≤ P.number priority) (take result.batch.done into.new) }
+        ensures within { result.batch.done ≤ length into.old }
+        ensures next { result.batch.refused ≢ None → result.batch.done < in_one_batch (length into.old) }
+        ensures left { result.batch.refused ≡ None → result.batch.done < in_one_batch (length into.old)
             → is_first_due (P.number priority) (first_of (left member.new.pen.known)) ≡ false }
+        ensures found { FindsNext self.now.room member.new.pen.known result.next }
     {
         let first = lead.next_line();
         let most = self.most_posts();
         let pen = &mut member.pen;
         let (lead, done, refused) = pop_each(&self.desk, pen, lead, priority, into, most);
         let lines = lead.lines();
+        let next = next_there(&lead, self.desk.room());
         self.desk.release(&mut member.pen, lead);
         self.waiters.count_batch(0, lines, self.desk.room());
-        Batch {
+        let batch = Batch {
             done,
             first,
             refused,
-        }
+        };
+        Popped { batch, next }
     }
 
     /// Puts the items into the queue, as `carry_out_pushes` does; the member waits until it has the lock, as a call rests.
@@ -251,9 +270,9 @@ impl<S: Store<Entry<P>>, P: Part> Queue<S, P> {
     {
         let mut rests = member.rest().of_tries();
         for _ in rt.forever() {
-            if let Some(batch) = self.carry_out_pops(member, priority, into) {
+            if let Some(popped) = self.carry_out_pops(member, priority, into) {
                 self.waiters.wake_owed();
-                return batch;
+                return popped.batch;
             }
             rests.rest(rt, self.joined());
         }
@@ -369,11 +388,11 @@ fn pop_each<S: Store<Entry<P>>, P: Part>(
     let end = bounded(into.len());
     let mut done = 0;
     while done < end {
-        if !is_due(lead.first(), priority) {
-            return (lead, done, None);
-        }
         if pen.posts() >= most {
             return (lead, done, Some(CallError::Spent));
+        }
+        if !is_due(lead.first(), priority) {
+            return (lead, done, None);
         }
         let (next, answer) = desk.apply(pen, lead, Request::Pop);
         lead = next;

@@ -139,7 +139,7 @@ pub mod waiting;
 
 pub use announce_board::{Note, Testimony};
 pub use backlog::Backlog;
-pub use batches::{Batch, MOST_BATCH};
+pub use batches::{Batch, MOST_BATCH, Popped};
 pub use call_steps::{CallStage, CallStepped, Came};
 pub use combining::Round;
 pub use counting::{Counts, Unpushed};

@@ -6,7 +6,7 @@ ghost use Rattle.leftist_heap.specs.Store.{first_of};
 ghost use Rattle.desk_core.specs.Words.{word_number};
 ghost use Rattle.announce_board.specs.Tokens.{is_idle};
 ghost use Rattle.flat_queue.specs.Turns.{FindsLockHeld};
-ghost use Rattle.flat_queue.specs.Looking.{IsWanted, IsFirstWanted, IsLeft, looked_by, LooksFirstBy};
+ghost use Rattle.flat_queue.specs.Looking.{IsWanted, IsFirstWanted, IsLeft, looked_by, LooksFirstBy, FindsNext};
 
 use crate::member::Member;
 use crate::queue::Queue;
@@ -91,6 +91,22 @@ fn left_of<P: Part>(first: Option<Item<P>>, wanted: Wanted) -> Option<Looked<Ite
         None => Some(Looked::Nothing),
         Some(item) if is_wanted(wanted, item.priority.as_u64()) => None,
         Some(item) => Some(Looked::Stays(item)),
+    }
+}
+
+// What a leader finds that wants nothing.
+pub(crate) fn next_there<S: Store<Entry<P>>, P: Part>(
+    lead: &Lead<S, P>,
+    room: u64,
+) -> Looked<Item<P>>
+    ensures { FindsNext room lead.now.book.journal result }
+{
+    if lead.lines() >= room {
+        return Looked::BookFull;
+    }
+    match lead.first() {
+        None => Looked::Nothing,
+        Some(item) => Looked::Stays(item),
     }
 }
 

@@ -8,18 +8,21 @@ use Rattle.flat_queue.specs.Batches.{IsBatchShutOut}
 use Rattle.flat_queue.specs.Calling.{call_code}
 use Rattle.flat_queue.specs.Members.{Joined}
 use Rattle.flat_queue.specs.declared.batches.Batch.{Batch}
+use Rattle.flat_queue.specs.declared.batches.Popped.{Popped}
 use Rattle.flat_queue.specs.declared.error.CallError.{CallError}
-use Rattle.queue_pool.specs.Shared.{TriesPushesBy, TriesPopsBy}
-use Rattle.queue_pool.specs.declared.shared.TriedBatch.{TriedBatch}
+use Rattle.queue_pool.specs.Shared.{TriesPushesBy, TriesPopsBy, TriedPops}
 use Rattle.queue_pool.specs.declared.shared.TriedBatch.TheVariants as tried_batch
+use Rattle.queue_pool.specs.declared.shared.TriedPops.TheVariants as tried_pops
 use Rattle.queue_c.specs.Handles.{member_in, owner_in}
 use Rattle.queue_c.specs.Calls.{IsOneOf, Missing, words_of_item}
-use Rattle.queue_c.specs.Plain.{plain_item, told_item}
+use Rattle.queue_c.specs.Looking.{told_as}
+use Rattle.queue_c.specs.Plain.{plain_item, told_item, told_answer}
 use Rattle.queue_c.specs.declared.buffers.TheConstants.{MOST_MANY}
 use Rattle.queue_c.specs.declared.codes.TheConstants.{LOCK_HELD, NO_HANDLE, OK, SHUT, UNARCHIVED, WAITS}
 use Rattle.queue_c.specs.declared.contents.Contents.{Contents}
 use Rattle.queue_c.specs.declared.plain.PlainItem.{PlainItem}
 use Rattle.queue_c.specs.declared.plain_batch.PlainBatch.{PlainBatch}
+use Rattle.queue_c.specs.declared.plain_batch.PlainPopped.{PlainPopped}
 
 -- the code of the refusal that ended a batch, or 0
 abbrev pub refusal_code : Option CallError → ℕ
@@ -31,9 +34,18 @@ abbrev pub told_batch : ℕ → Batch → PlainBatch
 told_batch wake batch =
     record { done = batch.done; first = batch.first; refused = refusal_code batch.refused; owes_wake = wake }
 
+-- the batch of pops for C, with this word on whether a wake is owed
+abbrev pub told_popped : ℕ → Popped Item → PlainPopped
+told_popped wake popped =
+    record { batch = told_batch wake popped.batch; next = told_answer wake (told_as popped.next) }
+
 -- this is the batch for C, and says whether a wake is owed, by 0 or 1
 abbrev pub TellsBatch : PlainBatch → Batch → Type 0
 TellsBatch told batch = (told ≡ told_batch told.owes_wake batch) × (told.owes_wake ≤ 1)
+
+-- the same of a batch of pops
+abbrev pub TellsPopped : PlainPopped → Popped Item → Type 0
+TellsPopped told popped = (told ≡ told_popped told.batch.owes_wake popped) × (told.batch.owes_wake ≤ 1)
 
 -- The idle member has found the lock free, and pushed of the first items, no more than one call takes in, as many as are told:
 -- all of them, unless it tells what refused the next.
@@ -49,22 +61,22 @@ abbrev pub GivesOut : List Item → ℕ → List PlainItem → List PlainItem �
 GivesOut slots done was items = items ≡ map told_item (take done slots) ++ drop done was
 
 -- The idle member has found the lock free, and taken the first items out while their priorities were at most the bound, as many
--- as are told: as long as there was such an item, and a slot for it, of which a call has no more than the buffer has.
-abbrev pub PoppingMany : ℕ → List PlainItem → List PlainItem → Option Joined → PlainBatch → Option Joined → Type 0
+-- as are told: as long as there was such an item, and a slot for it, of which a call has no more than the buffer has. It tells
+-- what a look finds then, too.
+abbrev pub PoppingMany : ℕ → List PlainItem → List PlainItem → Option Joined → PlainPopped → Option Joined → Type 0
 PoppingMany bound was items (Some before) told (Some after) =
-    (batch : Batch) × (slots : List Item)
+    (popped : Popped Item) × (slots : List Item)
     × (length slots ≡ min MOST_MANY (length was))
-    × TriesPopsBy words_of_item bound before slots (tried_batch.Done batch) after
-    × GivesOut slots batch.done was items
-    × TellsBatch told batch
+    × TriesPopsBy words_of_item bound before slots (tried_pops.Done popped) after
+    × GivesOut slots popped.batch.done was items
+    × TellsPopped told popped
 PoppingMany bound was items before told after = ⊥
 
 -- what a batch of pops has put into the buffer from its slots
-abbrev pub GivesOutTried : List Item → TriedBatch → List PlainItem → List PlainItem → Type 0
-GivesOutTried slots tried_batch.Waits was items = items ≡ was
-GivesOutTried slots tried_batch.LockHeld was items = items ≡ was
-GivesOutTried slots tried_batch.Shut was items = items ≡ was
-GivesOutTried slots (tried_batch.Done batch) was items = GivesOut slots batch.done was items
+abbrev pub GivesOutTried : List Item → TriedPops → List PlainItem → List PlainItem → Type 0
+GivesOutTried slots tried_pops.Waits was items = items ≡ was
+GivesOutTried slots tried_pops.LockHeld was items = items ≡ was
+GivesOutTried slots (tried_pops.Done popped) was items = GivesOut slots popped.batch.done was items
 
 -- the idle member has found the lock free, and released it without the batch, as the queue was shut
 abbrev pub ShuttingOutMany : Option Joined → Option Joined → Type 0
@@ -72,8 +84,8 @@ ShuttingOutMany (Some before) (Some after) = (is_idle before.pen.standing ≡ tr
 ShuttingOutMany before after = ⊥
 
 -- a batch that the member carries out itself: what it has done where it found the lock free, with what is told of it
-pub record BatchAnswers (Done : Option Joined → PlainBatch → Option Joined → Type 0) (before : Option Contents)
-    (code : ℕ) (told : PlainBatch) (after : Option Contents) : Type 0 where
+pub record BatchAnswers {Told : Type 0} (Done : Option Joined → Told → Option Joined → Type 0) (before : Option Contents)
+    (code : ℕ) (told : Told) (after : Option Contents) : Type 0 where
   pub carried_out : code ≡ OK → Done (member_in before) told (member_in after)
   pub misses : code ≡ LOCK_HELD → Missing (member_in before) (member_in after)
   pub shut : code ≡ SHUT → ShuttingOutMany (member_in before) (member_in after)
@@ -88,5 +100,5 @@ abbrev pub PushManyAnswers : List PlainItem → Option Contents → ℕ → Plai
 PushManyAnswers items = BatchAnswers (λ was told is. PushingMany items was told is)
 
 -- of pops up to this bound, by which the buffer, which had the first items, has the second
-abbrev pub PopManyAnswers : ℕ → List PlainItem → List PlainItem → Option Contents → ℕ → PlainBatch → Option Contents → Type 0
+abbrev pub PopManyAnswers : ℕ → List PlainItem → List PlainItem → Option Contents → ℕ → PlainPopped → Option Contents → Type 0
 PopManyAnswers bound from into = BatchAnswers (λ was told is. PoppingMany bound from into was told is)

@@ -13,8 +13,9 @@ use crate::codes::{LOCK_HELD, NO_HANDLE, OK, SHUT, UNARCHIVED, WAITS};
 use crate::contents::{Contents, QueueMember};
 use crate::handle::Handle;
 use crate::plain::{PlainItem, no_item};
-use crate::plain_batch::{PlainBatch, tell_batch};
-use queue_pool::TriedBatch;
+use crate::plain_batch::{PlainBatch, PlainPopped, tell_batch, tell_popped};
+use pq_types::Item;
+use queue_pool::{TriedBatch, TriedPops};
 use std::alloc::Global;
 
 // Puts these items into the member's queue, from copies of its own.
@@ -78,7 +79,7 @@ pub extern "C" fn pq_core_try_push_many(
 }
 
 // Takes the first items out of the member's queue up to this bound, and hands out copies of them.
-fn pop_all(member: &mut QueueMember, bound: u64, items: &mut [PlainItem]) -> TriedBatch
+fn pop_all(member: &mut QueueMember, bound: u64, items: &mut [PlainItem]) -> TriedPops<Item<u64>>
     ensures tries { (slots : _) × (length slots ≡ min MOST_MANY (length items.old))
         × TriesPopsBy words_of_item bound member.old slots result member.new
         × GivesOutTried slots result items.old items.new }
@@ -86,8 +87,8 @@ fn pop_all(member: &mut QueueMember, bound: u64, items: &mut [PlainItem]) -> Tri
     let mut slots = [no_item(); MOST_MANY];
     let copies = &mut slots[..MOST_MANY.min(items.len())];
     let tried = member.try_pop_all_up_to(bound, copies);
-    if let TriedBatch::Done(batch) = tried {
-        hand_out(copies, batch.done, items);
+    if let TriedPops::Done(popped) = &tried {
+        hand_out(copies, popped.batch.done, items);
     }
     tried
 }
@@ -97,7 +98,7 @@ fn try_pop_many(
     held: &mut Contents,
     bound: u64,
     items: &mut [PlainItem],
-    told: &mut PlainBatch,
+    told: &mut PlainPopped,
 ) -> u32
     ensures answers { PopManyAnswers bound items.old items.new (Some held.old) result told.new (Some held.new) }
     ensures never_shut { result ≢ SHUT }
@@ -111,32 +112,32 @@ fn try_pop_many(
         return UNARCHIVED;
     }
     let code = match pop_all(member, bound, items) {
-        TriedBatch::Waits => WAITS,
-        TriedBatch::LockHeld => LOCK_HELD,
-        TriedBatch::Shut => unreachable!(),
-        TriedBatch::Done(batch) => {
-            *told = tell_batch(&batch, owes_wake(member));
+        TriedPops::Waits => WAITS,
+        TriedPops::LockHeld => LOCK_HELD,
+        TriedPops::Done(popped) => {
+            *told = tell_popped(&popped, owes_wake(member));
             OK
         }
     };
-    batch_counted(member, code, count, told.done)
+    batch_counted(member, code, count, told.batch.done)
 }
 
 /// Takes the first items out under one lock while their priorities are at most `bound`, 64 at most, and no more than the buffer
 /// at `items` has room for, at once where no other member leads, without a post: 0, and the buffer has them, the first one
 /// first, and behind them what it had; and it is told how many they are, the number of the first one's journal line, behind
 /// which the others stand in their order, and what refused the next, if something did: 10 the journal is full, 11 all serials
-/// are spent; and whether a wake is owed. What stays has no line. 8 where another member led, and then nothing was done.
-/// Refusals, which do nothing: 42 where the handle holds no member, 43 where the last request is not answered yet, 52 where
-/// the batch might have memory forget a line that is not archived. Takes memory for the pushes of others alone. The pointer
-/// must not be null, where the room is 0 neither.
+/// are spent; and whether a wake is owed; and the answer to a look after it: the first item of those that stay, that none stays,
+/// or that the journal is full. What stays has no line. 8 where another member led, and then nothing was done. Refusals, which do
+/// nothing: 42 where the handle holds no member, 43 where the last request is not answered yet, 52 where the batch might have
+/// memory forget a line that is not archived. Takes memory for the pushes of others alone. The pointer must not be null, where
+/// the room is 0 neither.
 #[unsafe(no_mangle)]
 pub extern "C" fn pq_core_try_pop_many(
     alloc: Global,
     member: &mut Handle,
     bound: u64,
     items: &mut [PlainItem],
-    told: &mut PlainBatch,
+    told: &mut PlainPopped,
 ) -> u32
     ensures answers { PopManyAnswers bound items.old items.new member.old.value result told.new member.new.value }
     ensures never_shut { result ≢ SHUT }

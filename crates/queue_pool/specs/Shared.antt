@@ -11,7 +11,7 @@ use Rattle.flat_queue.specs.Members.{Joined, StaysAtPlace}
 use Rattle.flat_queue.specs.Turns.{FindsLockHeld}
 use Rattle.flat_queue.specs.UpTo.{CarriesOutUpToBy, TellsUpTo}
 use Rattle.flat_queue.specs.Tickets.{CarriesOutByTicket, TellsFound}
-use Rattle.flat_queue.specs.Looking.{LooksFirstBy}
+use Rattle.flat_queue.specs.Looking.{LooksFirstBy, FindsNext}
 use Rattle.flat_queue.specs.declared.looking.Wanted.{Wanted}
 use Rattle.flat_queue.specs.Counting.{CountsBy, PushesWithinBy, IsUnpushedBy}
 use Rattle.flat_queue.specs.declared.counting.Unpushed.TheVariants as unpushed
@@ -21,6 +21,8 @@ use Rattle.leftist_heap.specs.Store.{first_of}
 use Rattle.flat_queue.specs.Batches.{IsPushAt, IsPop, pushes_of, pops_of, in_one_batch, is_first_due, CarriesOutBatchBy, EntersTogether, IsBatchShutOut}
 use Rattle.queue_pool.specs.declared.shared.TriedBatch.{TriedBatch}
 use Rattle.queue_pool.specs.declared.shared.TriedBatch.TheVariants as tried_batch
+use Rattle.queue_pool.specs.declared.shared.TriedPops.{TriedPops as TriedPopsOf}
+use Rattle.queue_pool.specs.declared.shared.TriedPops.TheVariants as tried_pops
 use Rattle.queue_pool.specs.declared.shared.Seen.{Seen as SeenOf}
 use Rattle.queue_pool.specs.declared.shared.Seen.TheVariants.{Nothing, Waits, Answered}
 use Rattle.queue_pool.specs.declared.shared.Tried.{Tried as TriedOf}
@@ -32,8 +34,8 @@ use Rattle.queue_pool.specs.declared.shared.TriedCount.TheVariants as tried_coun
 use Rattle.queue_pool.specs.declared.shared.TriedPush.{TriedPush as TriedPushOf}
 use Rattle.queue_pool.specs.declared.shared.TriedPush.TheVariants as tried_push
 
--- what a look finds, and what became of a request, of a look at the first item, and of a push within a bound, of items of any
--- width
+-- what a look finds, and what became of a request, of a look at the first item, of a push within a bound, and of a batch of pops,
+-- of items of any width
 abbrev pub Seen : Type 0
 Seen = SeenOf Item
 
@@ -45,6 +47,9 @@ TriedFirst = TriedFirstOf Item
 
 abbrev pub TriedPush : Type 0
 TriedPush = TriedPushOf Item
+
+abbrev pub TriedPops : Type 0
+TriedPops = TriedPopsOf Item
 
 -- No request is out; or the member has looked at its record, and it still waits, or has this answer.
 -- One that knows that it has an answer, as after a round of its own, gets it. Its pen has the room of
@@ -135,20 +140,21 @@ TriesPushesBy words before items (tried_batch.Done batch) after =
     × CarriesOutBatchBy words before (pushes_of (take batch.done items)) (IsPushAt items batch.done) batch after
     × EntersTogether before (pushes_of (take batch.done items)) batch after
 
--- The same of pops up to a bound, which took these items out.
-abbrev pub TriesPopsBy : ℕ → ℕ → Joined → List Item → TriedBatch → Joined → Type 0
-TriesPopsBy words bound before items tried_batch.Waits after = (is_idle before.pen.standing ≡ false) × (after ≡ before)
-TriesPopsBy words bound before items tried_batch.LockHeld after =
+-- The same of pops up to a bound, which took these items out: as many as there were such, unless it tells what refused the next,
+-- or no more fit. It tells what a look finds then.
+abbrev pub TriesPopsBy : ℕ → ℕ → Joined → List Item → TriedPops → Joined → Type 0
+TriesPopsBy words bound before items tried_pops.Waits after = (is_idle before.pen.standing ≡ false) × (after ≡ before)
+TriesPopsBy words bound before items tried_pops.LockHeld after =
     (is_idle before.pen.standing ≡ true) × FindsLockHeld before after
-TriesPopsBy words bound before items tried_batch.Shut after = ⊥
-TriesPopsBy words bound before items (tried_batch.Done batch) after =
-    (is_idle before.pen.standing ≡ true) × (batch.done ≤ length items)
-    × All (λ x. x.priority ≤ bound) (take batch.done items)
-    × (batch.refused ≡ None → batch.done < in_one_batch (length items)
+TriesPopsBy words bound before items (tried_pops.Done popped) after =
+    (is_idle before.pen.standing ≡ true) × (popped.batch.done ≤ length items)
+    × All (λ x. x.priority ≤ bound) (take popped.batch.done items)
+    × (popped.batch.refused ≡ None → popped.batch.done < in_one_batch (length items)
     → is_first_due bound (first_of (left after.pen.known)) ≡ false)
-    × (batch.refused ≢ None → batch.done < in_one_batch (length items))
-    × CarriesOutBatchBy words before (pops_of (take batch.done items)) IsPop batch after
-    × EntersTogether before (pops_of (take batch.done items)) batch after
+    × (popped.batch.refused ≢ None → popped.batch.done < in_one_batch (length items))
+    × FindsNext before.queue.room after.pen.known popped.next
+    × CarriesOutBatchBy words before (pops_of (take popped.batch.done items)) IsPop popped.batch after
+    × EntersTogether before (pops_of (take popped.batch.done items)) popped.batch after
 
 -- The same of narrow items, which have one word.
 abbrev pub Sees : Joined → Seen → Joined → Type 0

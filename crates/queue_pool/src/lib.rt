@@ -23,6 +23,6 @@ pub mod taking;
 pub use calling::{AnswerStep, CallStep};
 pub use pool::{NotTaken, Pool, StillOpen};
 pub use shared::{
-    NotPosted, Seen, SharedHandle, Tried, TriedBatch, TriedCount, TriedFirst, TriedPush,
+    NotPosted, Seen, SharedHandle, Tried, TriedBatch, TriedCount, TriedFirst, TriedPops, TriedPush,
 };
 pub use taking::TakeStep;

@@ -17,8 +17,8 @@ ghost use Rattle.queue_pool.specs.Shared.{SeesBy, TriesUpToBy, TriesFirstBy, Tri
 ghost use Rattle.queue_pool.specs.Shared.{TriesCountBy, TriesPushWithinBy, TriesTicketBy, TriesRemovalBy, TriesMoveBy};
 
 use flat_queue::{
-    Backlog, Batch, Counts, DueStage, EventCount, Looked, Member, Queue, Round, Shut, Unpushed,
-    Wanted,
+    Backlog, Batch, Counts, DueStage, EventCount, Looked, Member, Popped, Queue, Round, Shut,
+    Unpushed, Wanted,
 };
 use leftist_heap::{Store, TicketStore};
 use pq_book::{Entry, LinesError};
@@ -61,7 +61,7 @@ pub enum NotPosted {
     Shut,
 }
 
-/// What became of a batch.
+/// What became of a batch of pushes.
 #[derive(Clone, Copy, Debug, PartialEq, Eq)]
 pub enum TriedBatch {
     /// The last request is not answered yet: nothing was done.
@@ -72,6 +72,17 @@ pub enum TriedBatch {
     Shut,
     /// It was carried out so far.
     Done(Batch),
+}
+
+/// What became of a batch of pops.
+#[derive(Clone, Copy, Debug, PartialEq, Eq)]
+pub enum TriedPops<I = Item> {
+    /// The last request is not answered yet: nothing was done.
+    Waits,
+    /// Another member leads: nothing was done.
+    LockHeld,
+    /// It was carried out so far.
+    Done(Popped<I>),
 }
 
 /// What a look finds.
@@ -268,19 +279,19 @@ impl<S: Store<Entry<P>>, P: Part> SharedHandle<S, P> {
     }
 
     /// Takes the first items out itself under one lock while their priorities are at most this one, into as much of the room as
-    /// they need, where the last request is answered and it finds the lock free, as `Queue::carry_out_pops` does. Takes memory
-    /// for the pushes of others alone, and never waits.
-    pub fn try_pop_all_up_to(&mut self, priority: P, into: &mut [Item<P>]) -> TriedBatch
+    /// they need, and looks what is first then, where the last request is answered and it finds the lock free, as
+    /// `Queue::carry_out_pops` does. Takes memory for the pushes of others alone, and never waits.
+    pub fn try_pop_all_up_to(&mut self, priority: P, into: &mut [Item<P>]) -> TriedPops<Item<P>>
         ensures slots { length into.new ≡ length into.old }
         ensures tries { TriesPopsBy (word_number P.wide) (P.number priority) self.old into.new result self.new }
     {
         if !self.member.is_idle() {
-            return TriedBatch::Waits;
+            return TriedPops::Waits;
         }
-        match self.queue.carry_out_pops(&mut self.member, priority, into) {
-            Some(batch) => TriedBatch::Done(batch),
-            None => TriedBatch::LockHeld,
-        }
+        let Some(popped) = self.queue.carry_out_pops(&mut self.member, priority, into) else {
+            return TriedPops::LockHeld;
+        };
+        TriedPops::Done(popped)
     }
 
     /// Looks at the first item itself, and takes it out where it is wanted, where the last request is answered, not all serials

@@ -1,10 +1,10 @@
 // Batches of pushes and pops: their sizes, memory that is refused, shared handles, the end of a queue, and whom they wake.
 use crate::common::{Heap, entered, item, opened, shared};
-use flat_queue::{Batch, CallError, Handle, MOST_BATCH, Member, Newcomer, Queue};
+use flat_queue::{Batch, CallError, Handle, Looked, MOST_BATCH, Member, Newcomer, Popped, Queue};
 use leftist_heap::{AnyStore, Store, StoreKind};
 use pq_book::Entry;
 use pq_types::{Item, Request};
-use queue_pool::{SharedHandle, TriedBatch};
+use queue_pool::{SharedHandle, TriedBatch, TriedPops};
 use std::alloc::Global;
 use std::process::Abort;
 use std::sync::{Arc, Wait};
@@ -157,6 +157,14 @@ fn each_request_of_a_batch_is_refused_in_turn(rt: HostRuntime) -> Result<(), Fai
     Ok(())
 }
 
+// So many pops, of which the first one has this line, and what a look finds then.
+fn popped(done: usize, first: u64, next: Looked) -> TriedPops {
+    TriedPops::Done(Popped {
+        batch: whole(done, first),
+        next,
+    })
+}
+
 // What a member's tries come to, beside another that leads, and at its own request.
 fn tries<R: Abort + Wait>(
     rt: &R,
@@ -170,21 +178,23 @@ fn tries<R: Abort + Wait>(
     let mut leader = queue.enter(other);
     let lead = leader.lead().expect(rt, "the lock is free");
     assert!(rt; handle.try_push_all(&two) == TriedBatch::LockHeld);
-    assert!(rt; handle.try_pop_all_up_to(5, &mut slots) == TriedBatch::LockHeld);
+    assert!(rt; handle.try_pop_all_up_to(5, &mut slots) == TriedPops::LockHeld);
     leader.release(lead);
-    assert!(rt; handle.try_pop_all_up_to(4, &mut slots) == TriedBatch::Done(whole(1, 3)));
+    assert!(rt; handle.try_pop_all_up_to(3, &mut slots) == popped(0, 3, Looked::Stays(item(4, 2))));
+    assert!(rt; handle.try_pop_all_up_to(4, &mut slots) == popped(1, 3, Looked::Stays(item(5, 1))));
     assert!(rt; slots == [item(4, 2), item(0, 0)]);
     queue.shut();
     assert!(rt; handle.try_push_all(&two) == TriedBatch::Shut);
     assert!(rt; handle.try_push_all(&[]) == TriedBatch::Done(whole(0, 4)));
-    assert!(rt; handle.try_pop_all_up_to(9, &mut slots) == TriedBatch::Done(whole(1, 4)));
+    assert!(rt; handle.try_pop_all_up_to(9, &mut slots) == popped(1, 4, Looked::Nothing));
+    assert!(rt; handle.try_pop_all_up_to(9, &mut slots) == popped(0, 5, Looked::Nothing));
     assert!(rt; slots[0] == item(5, 1) && queue.waiters().ending().is_over());
     // A handle's own batch doesn't heed the end, as its push doesn't.
     assert!(rt; leader.push_all(rt, &two) == whole(2, 5));
     drop(leader);
     assert!(rt; handle.post(Request::Pop).is_ok());
     assert!(rt; handle.try_push_all(&[]) == TriedBatch::Waits);
-    assert!(rt; handle.try_pop_all_up_to(9, &mut slots) == TriedBatch::Waits);
+    assert!(rt; handle.try_pop_all_up_to(9, &mut slots) == TriedPops::Waits);
     assert!(rt; slots == [item(5, 1), item(0, 0)]);
 }
 

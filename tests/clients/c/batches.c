@@ -1,6 +1,6 @@
 /* Batches: of no item, of one, of as many as there is room for; one that a refusal ends in its midst says how many were done, and these
    stay done; a pop returns such a refusal at the next call. A shut ends a long batch between two of its parts. Each batch returns the number of
-   its first entry, and leaves the number as it was where it has none. */
+   its first entry, and leaves the number as it was where it has none. A batch of pops takes all that is due at one moment, and has room. */
 #include "../wrapped.h"
 
 enum { MANY = 100, PART = 64, LONG = 5 * PART, NONE = 7777 };
@@ -270,6 +270,35 @@ static void batches_of_threads_have_consecutive_entries(void) {
     pq_journal_free(journal);
 }
 
+/* A thread pushes items that are due two by two, each pair under one lock. */
+enum { PAIRS = 100000, ROOM = 8 };
+
+static void *push_pairs(void *queue) {
+    const pq_item pair[] = { item_of(1, 1), item_of(1, 2) };
+    for (uint32_t i = 0; i < requests(PAIRS); i++) {
+        size_t done = 0;
+        CHECK(pq_push_many(pq_own((pq_queue *)queue), pair, 2, PQ_FOREVER, &done, NULL) == PQ_OK && done == 2);
+    }
+    return NULL;
+}
+
+/* No batch parts a pair, also where the one before took nothing: beside an item that is never due, or none. */
+static void a_batch_takes_all_that_is_due(int with_later) {
+    const uint32_t due = 2 * requests(PAIRS);
+    const pq_code none = with_later ? PQ_NOT_DUE : PQ_EMPTY;
+    pq_queue *queue = opened(2);
+    if (with_later) {
+        CHECK(pq_push(pq_own(queue), item_of(9, 9), PQ_FOREVER, NULL) == PQ_OK);
+    }
+    pthread_t thread = started(push_pairs, queue);
+    for (size_t taken = 0, done = 0; taken < due; taken += done) {
+        pq_code code = pq_pop_due_many(pq_own(queue), 1, out, ROOM, PQ_FOREVER, &done, NULL);
+        CHECK(code == (done > 0 ? PQ_OK : none) && done % 2 == 0 && (code != PQ_NOT_DUE || is_item(out[0], 9, 9)));
+    }
+    ended(thread);
+    close_and_free(queue);
+}
+
 int main(void) {
     fill();
     batches_of_each_size();
@@ -281,5 +310,7 @@ int main(void) {
     numbers_are_those_of_the_first_entries();
     a_batch_without_an_entry_has_no_number();
     batches_of_threads_have_consecutive_entries();
+    a_batch_takes_all_that_is_due(0);
+    a_batch_takes_all_that_is_due(1);
     return 0;
 }

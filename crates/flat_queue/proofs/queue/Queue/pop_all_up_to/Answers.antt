@@ -12,4 +12,4 @@ loop-preserved g c = record {
 
 pub returns-in-Some-carry_out_pops-clause-together : goal.returns-in-Some-carry_out_pops-clause-together
 returns-in-Some-carry_out_pops-clause-together g c =
-    together_behind c.args.member.now c.loop.member c.carry_out_pops.new.member c.loop.invariant.missed.tries _ c.in-Some-carry_out_pops.batch c.loop.invariant.missed.misses c.in-Some-carry_out_pops.ensures.together
+    together_behind c.args.member.now c.loop.member c.carry_out_pops.new.member c.loop.invariant.missed.tries _ c.in-Some-carry_out_pops.popped.batch c.loop.invariant.missed.misses c.in-Some-carry_out_pops.ensures.together

@@ -7,7 +7,7 @@ use Rattle.std.specs.List.Sorted.{IsPermutation}
 use Rattle.leftist_heap.specs.Order.{with_item_by}
 use Rattle.leftist_heap.specs.Store.{first_of}
 use Rattle.leftist_heap.specs.Order.{with_items_by}
-use Rattle.leftist_heap.proofs.Orders.{IsExactOrder}
+use Rattle.leftist_heap.proofs.Orders.{IsExactOrder, as_order}
 use Rattle.leftist_heap.proofs.Contents.{put-first, all-with_items, length-with_items}
 use Rattle.leftist_heap.proofs.Shuffles.{content-permuted}
 use Rattle.leftist_heap.specs.Sifting.{IsHeapBy}
@@ -39,7 +39,7 @@ module _ {X : Type 0} (goes_before : X → X → Bool) where
     -- the first of the array is the first of the content
     pub content-first : (xs : List X) → IsHeapBy goes_before xs → slice_get xs 0 ≡ first_of (with_items_by goes_before xs [])
     content-first [] h = refl
-    content-first (x ∷ xs) h = sym (ap first_of (content-lowest x xs (low_first goes_before o x xs h)))
+    content-first (x ∷ xs) h = sym (ap first_of (content-lowest x xs (low_first goes_before (as_order o) x xs h)))
 
 -- what is read behind a reference is the first of a list
 pub first_seen : {X : Type 0} (found : Option (Bor X)) (xs : List X) → option_copied found ≡ first_of xs

@@ -6,7 +6,7 @@ use Rattle.std.specs.List.Sorted.{IsPartitionedBy}
 use Rattle.std.proofs.lemmas.List.Elements.{All-from_recursion, recursion_from_All}
 use Rattle.std.proofs.lemmas.List.{reverse-append, reverse-reverse, take-append-drop, append_assoc}
 use Rattle.leftist_heap.specs.Order.{IsAscendingBy, with_item_by}
-use Rattle.leftist_heap.proofs.Orders.{IsExactOrder, by_bool, itself}
+use Rattle.leftist_heap.proofs.Orders.{IsExactOrder, as_order, by_bool, itself}
 use Rattle.leftist_heap.proofs.Ascending.{all-append, ascending-front, ascending-across, with_item-between, with_item-ascending}
 
 reverse-cons : {X : Type 0} (x : X) (xs : List X) → reverse (x ∷ xs) ≡ reverse xs ++ x ∷ []
@@ -35,7 +35,7 @@ module _ {X : Type 0} (goes_before : X → X → Bool) (o : IsExactOrder goes_be
   descending-places : (xs : List X) → IsAscendingBy goes_before (reverse xs) → (i j : ℕ) (d : X) → i ≤ j → j < length xs
       → goes_before (get_or xs j d) (get_or xs i d) ≡ true
   descending-places [] a i j d le lt = absurd (omega arith)
-  descending-places (x ∷ xs) a zero zero d le lt = itself goes_before o x
+  descending-places (x ∷ xs) a zero zero d le lt = itself goes_before (as_order o) x
   descending-places (x ∷ xs) a zero (suc j) d le lt =
       let b = rw reverse-cons at a in
       let all = all-of_reverse (λ y. goes_before y x ≡ true) xs (ascending-across goes_before (reverse xs) x [] b) in

@@ -7,7 +7,7 @@ use Rattle.core.proofs.slice.Indexed.{swap_places}
 use Rattle.std.proofs.lemmas.List.Sorted.{length_permutation}
 use Rattle.std_alloc.proofs.Permutation.{swap_shuffles}
 use Rattle.leftist_heap.specs.Sifting.{StandsBefore, IsLowerSpot, IsLowest}
-use Rattle.leftist_heap.proofs.Orders.{IsExactOrder}
+use Rattle.leftist_heap.proofs.Orders.{IsOrder}
 use Rattle.leftist_heap.proofs.Sifts.{by, single, joined}
 
 module _ {X : Type 0} (goes_before : X → X → Bool) where
@@ -32,7 +32,7 @@ module _ {X : Type 0} (goes_before : X → X → Bool) where
   onto_hole xs j k x y p q n f h d =
       by goes_before _ _ _ _ (get_or-set_other xs j k x d n ∙ any-default xs k d y q ∙ sym f) (get_or-set_same xs j x d p) h
 
-  module _ (o : IsExactOrder goes_before) where
+  module _ (o : IsOrder goes_before) where
     -- a run of one spot, k places from n
     pub single_spot : (xs : List X) (n k a b i : ℕ) (x : X) → a ≡ n + k → b ≡ a + 1 → i ≡ k → x ≡ get_or xs (n + k) x
         → IsLowest goes_before xs a b (n + i) × (x ≡ get_or xs (n + i) x)

@@ -7,18 +7,26 @@ use Rattle.std.specs.declared.cmp.Ordering.TheVariants.{Less, Equal, Greater}
 use Rattle.std.proofs.lemmas.Cmp.{upto}
 use Rattle.leftist_heap.specs.Order.{not_above_by}
 
--- of two items each may stand before the other only where they are the same
+-- of two items one may stand before the other, and so on along a line of them
+pub record IsOrder {X : Type 0} (goes_before : X → X → Bool) : Type 0 where
+  pub total : (x y : X) → goes_before x y ≡ false → goes_before y x ≡ true
+  pub trans : (x y z : X) → goes_before x y ≡ true → goes_before y z ≡ true → goes_before x z ≡ true
+
+-- and each may stand before the other only where they are the same
 pub record IsExactOrder {X : Type 0} (goes_before : X → X → Bool) : Type 0 where
   pub total : (x y : X) → goes_before x y ≡ false → goes_before y x ≡ true
   pub trans : (x y z : X) → goes_before x y ≡ true → goes_before y z ≡ true → goes_before x z ≡ true
   pub same : (x y : X) → goes_before x y ≡ true → goes_before y x ≡ true → x ≡ y
+
+pub as_order : {X : Type 0} {goes_before : X → X → Bool} → IsExactOrder goes_before → IsOrder goes_before
+as_order o = record { total = o.total; trans = o.trans }
 
 -- either test or the other
 pub by_bool : {G : Type 0} (b : Bool) → (b ≡ true → G) → (b ≡ false → G) → G
 by_bool true t f = t refl
 by_bool false t f = f refl
 
-pub itself : {X : Type 0} (goes_before : X → X → Bool) → IsExactOrder goes_before → (x : X) → goes_before x x ≡ true
+pub itself : {X : Type 0} (goes_before : X → X → Bool) → IsOrder goes_before → (x : X) → goes_before x x ≡ true
 itself goes_before o x = by_bool (goes_before x x) (λ e. e) (λ e. o.total x x e)
 
 module _ {X : Type 0} (cmp : X → X → Ordering) (o : IsTotalOrder cmp) where

@@ -5,14 +5,16 @@ use Rattle.core.proofs.slice.Lists.{any-default}
 use Rattle.std.specs.List.{AllByRecursion}
 use Rattle.std.specs.List.Sorted.{IsPermutation}
 use Rattle.std.proofs.lemmas.List.Sorted.{length_permutation, IsPermutation-remove}
-use Rattle.leftist_heap.specs.Order.{IsAscendingBy, with_item_by, with_items_by}
+use Rattle.leftist_heap.specs.Order.{IsAscendingBy, with_item_by, with_items_by, by_rank}
 use Rattle.leftist_heap.specs.Tickets.{item_with, without_ticket}
 use Rattle.leftist_heap.specs.Sifting.{IsHeapBy}
 use Rattle.leftist_heap.specs.Places.{Table, IsFirstWith, HasNone, IsPlaced, IsTicketHeap}
-use Rattle.leftist_heap.proofs.Orders.{IsExactOrder, by_bool}
+use Rattle.leftist_heap.proofs.Orders.{IsExactOrder, as_order, by_bool}
 use Rattle.leftist_heap.proofs.Contents.{put-first, put-behind, put-front, all-with_items, with_items-ascending}
 use Rattle.leftist_heap.proofs.Shuffles.{content-permuted}
 use Rattle.leftist_heap.proofs.Sifts.{by, all_from, first_before}
+use Rattle.leftist_heap.proofs.ByRank.{ranked_permuted, ranked_without}
+use Rattle.std.specs.declared.cmp.Ordering.{Ordering}
 
 module _ {X : Type 0} (goes_before : X → X → Bool) where
   -- what holds of all items with x holds of all without it
@@ -73,6 +75,20 @@ module _ {X : Type 0} (ticket_of : X → ℕ) (ticket : ℕ) where
             ap (without_ticket ticket_of ticket) put ∙ rest_here x (y ∷ ys) true its,
           ))
 
+-- what is left of a ticket heap is one
+pub still_ticket_heap : {X : Type 0} (cmp : X → X → Ordering) (rank_of ticket_of : X → ℕ) (xs zs : List X) (x : X) → IsPermutation xs (x ∷ zs)
+    → (before after : Table) (is_placed : Bool) → IsTicketHeap ticket_of cmp rank_of before xs is_placed → IsHeapBy (by_rank rank_of) zs
+    → (IsPlaced ticket_of before xs → IsPlaced ticket_of after zs) → IsTicketHeap ticket_of cmp rank_of after zs is_placed
+still_ticket_heap cmp rank_of ticket_of xs zs x p before after is_placed h heap keeps =
+    let size : length (x ∷ zs) ≡ length xs = length_permutation xs (x ∷ zs) p in
+    let few = h.few in
+    record {
+      heap = heap;
+      ranked = ranked_without rank_of cmp x zs (ranked_permuted rank_of cmp xs (x ∷ zs) p h.ranked);
+      few = omega arith;
+      placed = λ e. keeps (h.placed e);
+    }
+
 -- An array from which x was taken, whatever the order of what is left.
 module _ {X : Type 0} (goes_before : X → X → Bool) (o : IsExactOrder goes_before) (xs zs : List X) (x : X) (p : IsPermutation xs (x ∷ zs)) where
   parted : with_items_by goes_before xs [] ≡ with_item_by goes_before x (with_items_by goes_before zs [])
@@ -92,15 +108,7 @@ module _ {X : Type 0} (goes_before : X → X → Bool) (o : IsExactOrder goes_be
   content_first at h =
       let size : length (x ∷ zs) ≡ length xs = length_permutation xs (x ∷ zs) p in
       content_taken (all_from (λ y. goes_before x y ≡ true) xs
-      (λ k d l. by goes_before _ _ _ _ (at ∙ any-default xs 0 x d (omega arith)) refl (first_before goes_before o xs h k l d)))
-
-  -- what is left of a ticket heap is one
-  pub still_ticket_heap : (ticket_of : X → ℕ) (before after : Table) (is_placed : Bool) → IsTicketHeap ticket_of goes_before before xs is_placed
-      → IsHeapBy goes_before zs → (IsPlaced ticket_of before xs → IsPlaced ticket_of after zs) → IsTicketHeap ticket_of goes_before after zs is_placed
-  still_ticket_heap ticket_of before after is_placed h heap keeps =
-      let size : length (x ∷ zs) ≡ length xs = length_permutation xs (x ∷ zs) p in
-      let few = h.few in
-      record { heap = heap; few = omega arith; placed = λ e. keeps (h.placed e) }
+      (λ k d l. by goes_before _ _ _ _ (at ∙ any-default xs 0 x d (omega arith)) refl (first_before goes_before (as_order o) xs h k l d)))
 
   -- it is the first with its ticket
   module _ (ticket_of : X → ℕ) (ticket j : ℕ) (at : x ≡ get_or xs j x) (h : IsFirstWith ticket_of goes_before xs (length xs) ticket j) where

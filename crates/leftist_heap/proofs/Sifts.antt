@@ -4,7 +4,7 @@ use borrow.Author.Tests.{eqb-true, eqb-false, ltb-true, ltb-false}
 use Rattle.std.specs.List.{SwappedAt, AllByRecursion}
 use Rattle.std.proofs.Math.ListN.{length-append, get_or-append}
 use Rattle.leftist_heap.specs.Sifting.{place_above, StandsBefore, IsHeapBy, IsRising, IsSinking, IsLowest}
-use Rattle.leftist_heap.proofs.Orders.{IsExactOrder, itself}
+use Rattle.leftist_heap.proofs.Orders.{IsOrder, itself}
 
 -- the same place or another
 pub by_place : {G : Type 0} (k j : ℕ) → (k ≡ j → G) → (k ≢ j → G) → G
@@ -48,7 +48,7 @@ module _ {X : Type 0} (goes_before : X → X → Bool) where
     spanned = h.spanned;
   }
 
-  module _ (o : IsExactOrder goes_before) where
+  module _ (o : IsOrder goes_before) where
     -- the item at j, which may stand before that at p above it, changes places with it
     module _ (xs ys : List X) (p j : ℕ) (s : SwappedAt xs ys p j) (size : length ys ≡ length xs) (below : 0 < j) (within : j < length xs)
         (up : p ≡ place_above j) (low : StandsBefore goes_before xs j p) where
@@ -158,13 +158,13 @@ all_from P [] h = tt
 all_from P (x ∷ xs) h = (h 0 x (omega arith), all_from P xs (λ k d l. h (suc k) d (omega arith)))
 
 -- the first of a heap may stand before all behind it
-pub low_first : {X : Type 0} (goes_before : X → X → Bool) → IsExactOrder goes_before → (x : X) (xs : List X) → IsHeapBy goes_before (x ∷ xs)
+pub low_first : {X : Type 0} (goes_before : X → X → Bool) → IsOrder goes_before → (x : X) (xs : List X) → IsHeapBy goes_before (x ∷ xs)
     → AllByRecursion (λ y. goes_before x y ≡ true) xs
 low_first goes_before o x xs h =
     all_from (λ y. goes_before x y ≡ true) xs (λ k d l. first_before goes_before o (x ∷ xs) h (suc k) (omega arith) d)
 
 -- the first of a heap of n items may stand before all that are left, of which the last took its place
-pub low_popped : {X : Type 0} (goes_before : X → X → Bool) → IsExactOrder goes_before → (xs ys : List X) (x : X) (n : ℕ) → IsHeapBy goes_before xs
+pub low_popped : {X : Type 0} (goes_before : X → X → Bool) → IsOrder goes_before → (xs ys : List X) (x : X) (n : ℕ) → IsHeapBy goes_before xs
     → x ≡ get_or xs 0 x → n ≡ length xs → length ys + 1 ≡ n
     → ((d : X) → 1 < n → get_or ys 0 d ≡ get_or xs (n - 1) d)
     → ((k : ℕ) (d : X) → k ≢ 0 → k + 1 < n → get_or ys k d ≡ get_or xs k d)

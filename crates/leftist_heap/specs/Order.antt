@@ -1,7 +1,7 @@
 -- Ascending lists in the order of any type: the order that a comparison makes, and a list with
 -- several items put in.
-use Rattle.std.specs.Prelude.{◌≡◌, Bool, true, not, if◌then◌else◌, List, [], ◌∷◌}
-use Rattle.std.specs.List.{AllByRecursion}
+use Rattle.std.specs.Prelude.{◌≡◌, ℕ, ◌≤◌, Bool, true, not, nat_lt, if◌then◌else◌, List, [], ◌∷◌}
+use Rattle.std.specs.List.{AllByRecursion, Contains}
 use Rattle.std.specs.Ordering.{is_gt}
 use Rattle.std.specs.declared.cmp.Ordering.{Ordering}
 
@@ -25,3 +25,20 @@ not_above_by cmp x y = not (is_gt (cmp x y))
 abbrev pub with_items_by : {X : Type 0} → (X → X → Bool) → List X → List X → List X
 with_items_by goes_before [] ys = ys
 with_items_by goes_before (x ∷ xs) ys = with_item_by goes_before x (with_items_by goes_before xs ys)
+
+-- by this rank x is not above y
+abbrev pub by_rank : {X : Type 0} → (X → ℕ) → X → X → Bool
+by_rank rank_of x y = not (nat_lt (rank_of y) (rank_of x))
+
+module _ {X : Type 0} (cmp : X → X → Ordering) (rank_of : X → ℕ) where
+  -- where the rank of x is not above that of y, x may stand before y
+  abbrev pub IsRanked : X → X → Type 0
+  IsRanked x y = rank_of x ≤ rank_of y → not_above_by cmp x y ≡ true
+
+  -- the ranks put x and each of the items in their order
+  abbrev pub IsRankedAmong : X → List X → Type 0
+  IsRankedAmong x = AllByRecursion (λ y. IsRanked x y × IsRanked y x)
+
+  -- the ranks put any two of the items in their order
+  abbrev pub AreRanked : List X → Type 0
+  AreRanked xs = (x y : X) → Contains xs x → Contains xs y → IsRanked x y

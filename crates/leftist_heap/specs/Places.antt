@@ -1,5 +1,7 @@
 -- Where the items of a heap in an array lie, by their tickets.
 use Rattle.std.specs.Prelude.{◌≡◌, ℕ, ◌-◌, ◌/◌, ◌%◌, ◌<◌, ◌^◌, ◌≢◌, ◌⊎◌, Bool, true, false, nat_lt, List, length, slice_index_or, Option, Some, None}
+use Rattle.std.specs.declared.cmp.Ordering.{Ordering}
+use Rattle.leftist_heap.specs.Order.{by_rank, AreRanked}
 use Rattle.leftist_heap.specs.Sifting.{IsHeapBy, StandsBefore}
 
 -- The place of each ticket, and whether it is kept: the place of a ticket that isn't kept says nothing.
@@ -80,8 +82,10 @@ module _ {X : Type 0} (ticket_of : X → ℕ) where
     Finds xs n ticket None = HasNone xs n ticket
     Finds xs n ticket (Some j) = IsFirstWith xs n ticket j
 
+  module _ (cmp : X → X → Ordering) (rank_of : X → ℕ) where
     -- the array of a heap of fewer than 2^32 items; where places are kept, each item's place is right
     pub record IsTicketHeap (table : Table) (xs : List X) (is_placed : Bool) : Type 0 where
-      pub heap : IsHeapBy goes_before xs
+      pub heap : IsHeapBy (by_rank rank_of) xs
+      pub ranked : AreRanked cmp rank_of xs
       pub few : length xs < 2 ^ 32
       pub placed : is_placed ≡ true → IsPlaced table xs

@@ -3,7 +3,7 @@ ghost use Rattle.std.specs.Prelude.{◌≡◌, ◌<◌, ◌≤◌, ◌↔◌, []
 ghost use Rattle.std.specs.Option.{MatchOption};
 ghost use Rattle.leftist_heap.specs.Order.{IsAscendingBy, with_item_by};
 ghost use Rattle.leftist_heap.specs.Store.{first_of, rest_of};
-ghost use Rattle.leftist_heap.specs.Order.{not_above_by};
+ghost use Rattle.leftist_heap.specs.Order.{not_above_by, IsRankedAmong};
 
 use crate::exact::Exact;
 use crate::sifting::{rise, sink};
@@ -23,7 +23,7 @@ pub struct ArrayHeap<T: Exact, A: Allocator> {
 
 impl<T: Exact, A: Allocator> Model for ArrayHeap<T, A> {
     ghost use Rattle.std.specs.Prelude.{vec_capacity};
-    ghost use Rattle.leftist_heap.specs.Order.{not_above_by};
+    ghost use Rattle.leftist_heap.specs.Order.{not_above_by, by_rank, AreRanked};
     ghost use Rattle.leftist_heap.specs.ArrayHeap.{Holding, holding};
     ghost use Rattle.leftist_heap.specs.Sifting.{IsHeapBy};
 
@@ -31,7 +31,7 @@ impl<T: Exact, A: Allocator> Model for ArrayHeap<T, A> {
 
     ghost view = { λ h. holding (not_above_by T.cmp) h.heap.items (vec_capacity h.heap) };
 
-    ghost invariant = { λ h. IsHeapBy (not_above_by T.cmp) h.heap.items };
+    ghost invariant = { λ h. IsHeapBy (by_rank T.rank_of) h.heap.items × AreRanked T.cmp T.rank_of h.heap.items };
 }
 
 impl<T: Exact, A: Allocator> ArrayHeap<T, A> {
@@ -83,9 +83,10 @@ impl<T: Exact, A: Allocator> ArrayHeap<T, A> {
         self.heap.first()
     }
 
-    /// Puts an item in. Where there is no room and memory for a larger array is refused, the item
-    /// comes back and the heap has the items that it had.
+    /// Puts an item in, which its rank and those of the others put in their order. Where there is no room and memory for a larger array is
+    /// refused, the item comes back and the heap has the items that it had.
     pub fn push(&mut self, item: T) -> Result<(), T>
+        requires { IsRankedAmong T.cmp T.rank_of item self.old.items }
         ensures ok { OnOk result (self.new.items ≡ with_item_by (not_above_by T.cmp) item self.old.items) }
         ensures err { OnErr result (self.new.items ≡ self.old.items) }
         ensures handed_back { IfErr result (λ back. back ≡ item) }

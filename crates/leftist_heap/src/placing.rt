@@ -4,7 +4,7 @@ ghost use Rattle.std.specs.List.{swap};
 ghost use Rattle.std.specs.List.Sorted.{IsPermutation};
 ghost use Rattle.core.specs.Mem.Slots.{slots_items, slots_len, SamePlaces, IsFull, Refills};
 ghost use Rattle.std_alloc.specs.Vec.Detached.{HasHole, seen};
-ghost use Rattle.leftist_heap.specs.Order.{not_above_by};
+ghost use Rattle.leftist_heap.specs.Order.{by_rank};
 ghost use Rattle.leftist_heap.specs.Sifting.{IsHeapBy, IsRising, IsSinking};
 ghost use Rattle.leftist_heap.specs.Places.{IsPlaced, IsPlacedBut};
 
@@ -42,10 +42,10 @@ fn rise_from<T: HasTicket, P: Places>(
 ) -> usize
     requires hole { HasHole row.old hole }
     requires small { slots_len row.old < 2 ^ 32 }
-    requires rising { IsRising (not_above_by T.cmp) (seen row.old hole item.now) hole }
+    requires rising { IsRising (by_rank T.rank_of) (seen row.old hole item.now) hole }
     ensures hole { HasHole row.new result × SamePlaces row.old row.new }
     ensures permutation { IsPermutation (seen row.old hole item.now) (seen row.new result item.now) }
-    ensures heap { IsHeapBy (not_above_by T.cmp) (seen row.new result item.now) }
+    ensures heap { IsHeapBy (by_rank T.rank_of) (seen row.new result item.now) }
     ensures placed { IsPlacedBut T.ticket_of (P.table places.old) (seen row.old hole item.now) hole
         → IsPlacedBut T.ticket_of (P.table places.new) (seen row.new result item.now) result }
 {
@@ -70,10 +70,10 @@ fn sink_from<T: HasTicket, P: Places>(
 ) -> usize
     requires hole { HasHole row.old hole × (0 < hole) }
     requires small { slots_len row.old < 2 ^ 32 }
-    requires sinking { IsSinking (not_above_by T.cmp) (seen row.old hole item.now) hole }
+    requires sinking { IsSinking (by_rank T.rank_of) (seen row.old hole item.now) hole }
     ensures hole { HasHole row.new result × SamePlaces row.old row.new }
     ensures permutation { IsPermutation (seen row.old hole item.now) (seen row.new result item.now) }
-    ensures rising { IsRising (not_above_by T.cmp) (seen row.new result item.now) result }
+    ensures rising { IsRising (by_rank T.rank_of) (seen row.new result item.now) result }
     ensures placed { IsPlacedBut T.ticket_of (P.table places.old) (seen row.old hole item.now) hole
         → IsPlacedBut T.ticket_of (P.table places.new) (seen row.new result item.now) result }
 {
@@ -103,10 +103,10 @@ fn sink_to_end<T: HasTicket, P: Places>(
 ) -> usize
     requires hole { HasHole row.old hole }
     requires small { slots_len row.old < 2 ^ 32 }
-    requires sinking { IsSinking (not_above_by T.cmp) (seen row.old hole item.now) hole }
+    requires sinking { IsSinking (by_rank T.rank_of) (seen row.old hole item.now) hole }
     ensures hole { HasHole row.new result × SamePlaces row.old row.new }
     ensures permutation { IsPermutation (seen row.old hole item.now) (seen row.new result item.now) }
-    ensures rising { IsRising (not_above_by T.cmp) (seen row.new result item.now) result }
+    ensures rising { IsRising (by_rank T.rank_of) (seen row.new result item.now) result }
     ensures placed { IsPlacedBut T.ticket_of (P.table places.old) (seen row.old hole item.now) hole
         → IsPlacedBut T.ticket_of (P.table places.new) (seen row.new result item.now) result }
 {
@@ -125,10 +125,10 @@ fn risen<T: HasTicket, P: Places>(mut row: Slots<T>, mut places: P, at: usize) -
     requires full { IsFull row }
     requires within { at < slots_len row }
     requires small { slots_len row < 2 ^ 32 }
-    requires rising { IsRising (not_above_by T.cmp) (slots_items row) at }
+    requires rising { IsRising (by_rank T.rank_of) (slots_items row) at }
     ensures refills { Refills row result.0 }
     ensures permutation { IsPermutation (slots_items row) (slots_items result.0) }
-    ensures heap { IsHeapBy (not_above_by T.cmp) (slots_items result.0) }
+    ensures heap { IsHeapBy (by_rank T.rank_of) (slots_items result.0) }
     ensures placed { IsPlacedBut T.ticket_of (P.table places) (slots_items row) at → IsPlaced T.ticket_of (P.table result.1) (slots_items result.0) }
 {
     let item = row.take(at);
@@ -148,10 +148,10 @@ fn settled<T: HasTicket, P: Places>(
     requires full { IsFull row }
     requires within { at < slots_len row }
     requires small { slots_len row < 2 ^ 32 }
-    requires sinking { IsSinking (not_above_by T.cmp) (slots_items row) at }
+    requires sinking { IsSinking (by_rank T.rank_of) (slots_items row) at }
     ensures refills { Refills row result.0 }
     ensures permutation { IsPermutation (slots_items row) (slots_items result.0) }
-    ensures heap { IsHeapBy (not_above_by T.cmp) (slots_items result.0) }
+    ensures heap { IsHeapBy (by_rank T.rank_of) (slots_items result.0) }
     ensures placed { IsPlacedBut T.ticket_of (P.table places) (slots_items row) at → IsPlaced T.ticket_of (P.table result.1) (slots_items result.0) }
 {
     let item = row.take(at);
@@ -166,9 +166,9 @@ fn settled<T: HasTicket, P: Places>(
 pub fn rise<T: HasTicket, P: Places>(items: &mut [T], places: &mut P, at: usize)
     requires within { at < length items.old }
     requires small { length items.old < 2 ^ 32 }
-    requires rising { IsRising (not_above_by T.cmp) items.old at }
+    requires rising { IsRising (by_rank T.rank_of) items.old at }
     ensures permutation { IsPermutation items.old items.new }
-    ensures heap { IsHeapBy (not_above_by T.cmp) items.new }
+    ensures heap { IsHeapBy (by_rank T.rank_of) items.new }
     ensures placed { IsPlacedBut T.ticket_of (P.table places.old) items.old at → IsPlaced T.ticket_of (P.table places.new) items.new }
 {
     unsafe { with_slots(items, places, at, risen) }
@@ -178,9 +178,9 @@ pub fn rise<T: HasTicket, P: Places>(items: &mut [T], places: &mut P, at: usize)
 pub fn settle<T: HasTicket, P: Places>(items: &mut [T], places: &mut P, at: usize)
     requires within { at < length items.old }
     requires small { length items.old < 2 ^ 32 }
-    requires sinking { IsSinking (not_above_by T.cmp) items.old at }
+    requires sinking { IsSinking (by_rank T.rank_of) items.old at }
     ensures permutation { IsPermutation items.old items.new }
-    ensures heap { IsHeapBy (not_above_by T.cmp) items.new }
+    ensures heap { IsHeapBy (by_rank T.rank_of) items.new }
     ensures placed { IsPlacedBut T.ticket_of (P.table places.old) items.old at → IsPlaced T.ticket_of (P.table places.new) items.new }
 {
     unsafe { with_slots(items, places, at, settled) }

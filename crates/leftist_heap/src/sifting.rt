@@ -5,7 +5,7 @@ ghost use Rattle.std.specs.List.Sorted.{IsPermutation};
 ghost use Rattle.core.specs.Mem.Slots.Ownership.{Filled};
 ghost use Rattle.core.specs.Mem.Slots.{slots_items, slots_filled, slots_len, SamePlaces, IsFull, Refills};
 ghost use Rattle.std_alloc.specs.Vec.Detached.{HasHole, seen};
-ghost use Rattle.leftist_heap.specs.Order.{not_above_by};
+ghost use Rattle.leftist_heap.specs.Order.{by_rank};
 ghost use Rattle.leftist_heap.specs.Sifting.{Compares, IsHeapBy, IsLowerSpot, IsLowest, IsRising, IsSinking};
 
 use crate::exact::Exact;
@@ -16,71 +16,79 @@ use core::slots::{Slots, with_slots};
 // items of 24 bytes fill three lines of the cache, where the array begins 16 bytes into a line, as a large array of the C library does.
 pub(crate) const BELOW: usize = 8;
 
-// An item of a row, and how many places it lies from the beginning of a run.
+// An item of a row, its rank, and how many places it lies from the beginning of a run.
 #[derive(Clone, Copy)]
 struct Spot<'a, T> {
     step: usize,
     item: &'a T,
+    rank: u128,
 }
 
 // The item that lies so many places from here. A step that is written as a number becomes part of the machine's own addresses.
 #[inline(always)]
-fn spot_at<T>(row: &Slots<T>, from: usize, step: usize) -> Spot<'_, T>
+fn spot_at<T: Exact>(row: &Slots<T>, from: usize, step: usize) -> Spot<'_, T>
     requires within { from + step < slots_len row.now }
     requires filled { IsTrue (slice_index_or (slots_filled row.now) (from + step) false) }
     ensures step { result.step ≡ step }
     ensures item { result.item.now ≡ slice_index_or (slots_items row.now) (from + step) result.item.now }
+    ensures rank { result.rank ≡ T.rank_of result.item.now }
 {
+    let item = row.get(from + step);
     Spot {
         step,
-        item: row.get(from + step),
+        item,
+        rank: item.rank(),
     }
 }
 
-// Whether the first item is lower than the second.
+// Whether the rank of the first item is lower than that of the second.
 #[inline(always)]
 pub(crate) fn is_lower<T: Exact>(first: &T, second: &T) -> bool
-    ensures { Compares (not_above_by T.cmp) first.now second.now result }
+    ensures { Compares (by_rank T.rank_of) first.now second.now result }
 {
-    first.cmp(second).is_lt()
+    first.rank() < second.rank()
 }
 
-// The spot of the lower of two items, and the first of two equal ones.
+// The spot of the lower of two items, and the first of two of one rank.
 #[inline(always)]
 fn lower_of<'a, T: Exact>(first: Spot<'a, T>, second: Spot<'a, T>) -> Spot<'a, T>
-    ensures { IsLowerSpot (not_above_by T.cmp) first.entry.step first.entry.item.now second.entry.step second.entry.item.now
+    requires first { first.rank ≡ T.rank_of first.item.now }
+    requires second { second.rank ≡ T.rank_of second.item.now }
+    ensures lower { IsLowerSpot (by_rank T.rank_of) first.entry.step first.entry.item.now second.entry.step second.entry.item.now
         result.step result.item.now }
+    ensures rank { result.rank ≡ T.rank_of result.item.now }
 {
-    if is_lower(second.item, first.item) {
+    if second.rank < first.rank {
         second
     } else {
         first
     }
 }
 
-// The place of the lowest of eight items from here on, found by three comparisons one after the other. It is never inlined: by itself it
-// selects without a branch, but in its caller's loop the compiler would make a branch of each `lower_of`. A processor guesses half of
-// such branches wrong, and a pop takes twice as long.
+// The place of the lowest of eight items from here on. It is never inlined: by itself it selects without a branch, but in its caller's loop
+// the compiler would make a branch of each `lower_of`. A processor guesses half of such branches wrong, and a pop takes twice as long.
 #[inline(never)]
 pub(crate) fn lowest_of_eight<T: Exact>(row: &Slots<T>, from: usize) -> usize
     requires within { from + 8 ≤ slots_len row.now }
     requires filled { Filled (slots_filled row.now) from (from + 8) }
-    ensures { IsLowest (not_above_by T.cmp) (slots_items row.now) from (from + 8) result }
+    ensures { IsLowest (by_rank T.rank_of) (slots_items row.now) from (from + 8) result }
 {
-    let first = lower_of(spot_at(row, from, 0), spot_at(row, from, 1));
-    let second = lower_of(spot_at(row, from, 2), spot_at(row, from, 3));
-    let third = lower_of(spot_at(row, from, 4), spot_at(row, from, 5));
-    let fourth = lower_of(spot_at(row, from, 6), spot_at(row, from, 7));
-    let low = lower_of(first, second);
-    let high = lower_of(third, fourth);
-    from + lower_of(low, high).step
+    let low = spot_at(row, from, 0);
+    let low = lower_of(low, spot_at(row, from, 1));
+    let low = lower_of(low, spot_at(row, from, 2));
+    let low = lower_of(low, spot_at(row, from, 3));
+    let low = lower_of(low, spot_at(row, from, 4));
+    let low = lower_of(low, spot_at(row, from, 5));
+    let low = lower_of(low, spot_at(row, from, 6));
+    let low = lower_of(low, spot_at(row, from, 7));
+    from + low.step
 }
 
 // The place of the lowest of all items from here on.
 pub(crate) fn lowest_from<T: Exact>(row: &Slots<T>, from: usize) -> usize
     requires within { from < slots_len row.now }
     requires filled { Filled (slots_filled row.now) from (slots_len row.now) }
-    ensures { IsLowest (not_above_by T.cmp) (slots_items row.now) from (slots_len row.now) result }
+    ensures { IsLowest (by_rank T.rank_of) (slots_items row.now) from (slots_len row.now) result }
 {
     let mut low = spot_at(row, 0, from);
     for at in from + 1..row.len() {
@@ -104,10 +112,10 @@ pub(crate) fn move_hole<T>(row: &mut Slots<T>, hole: usize, item: &T, other: usi
 fn rise_from<T: Exact>(row: &mut Slots<T>, mut hole: usize, item: &T) -> usize
     requires hole { HasHole row.old hole }
     requires small { slots_len row.old < 2 ^ 63 }
-    requires rising { IsRising (not_above_by T.cmp) (seen row.old hole item.now) hole }
+    requires rising { IsRising (by_rank T.rank_of) (seen row.old hole item.now) hole }
     ensures hole { HasHole row.new result × SamePlaces row.old row.new }
     ensures permutation { IsPermutation (seen row.old hole item.now) (seen row.new result item.now) }
-    ensures heap { IsHeapBy (not_above_by T.cmp) (seen row.new result item.now) }
+    ensures heap { IsHeapBy (by_rank T.rank_of) (seen row.new result item.now) }
 {
     while 0 < hole {
         let above = (hole + 6) / BELOW;
@@ -125,10 +133,10 @@ fn sink_to_end<T: Exact>(row: &mut Slots<T>, item: &T) -> usize
     requires hole { HasHole row.old 0 }
     requires more { 1 < slots_len row.old }
     requires small { slots_len row.old < 2 ^ 63 }
-    requires sinking { IsSinking (not_above_by T.cmp) (seen row.old 0 item.now) 0 }
+    requires sinking { IsSinking (by_rank T.rank_of) (seen row.old 0 item.now) 0 }
     ensures hole { HasHole row.new result × SamePlaces row.old row.new }
     ensures permutation { IsPermutation (seen row.old 0 item.now) (seen row.new result item.now) }
-    ensures rising { IsRising (not_above_by T.cmp) (seen row.new result item.now) result }
+    ensures rising { IsRising (by_rank T.rank_of) (seen row.new result item.now) result }
 {
     move_hole(row, 0, item, 1);
     let mut hole = 1;
@@ -154,10 +162,10 @@ fn risen<T: Exact>(mut row: Slots<T>, state: (), at: usize) -> (Slots<T>, (), ()
     requires full { IsFull row }
     requires within { at < slots_len row }
     requires small { slots_len row < 2 ^ 63 }
-    requires rising { IsRising (not_above_by T.cmp) (slots_items row) at }
+    requires rising { IsRising (by_rank T.rank_of) (slots_items row) at }
     ensures refills { Refills row result.0 }
     ensures permutation { IsPermutation (slots_items row) (slots_items result.0) }
-    ensures heap { IsHeapBy (not_above_by T.cmp) (slots_items result.0) }
+    ensures heap { IsHeapBy (by_rank T.rank_of) (slots_items result.0) }
 {
     let item = row.take(at);
     let hole = rise_from(&mut row, at, &item);
@@ -171,10 +179,10 @@ fn sunk<T: Exact>(mut row: Slots<T>, state: (), _argument: ()) -> (Slots<T>, (),
     requires full { IsFull row }
     requires more { 1 < slots_len row }
     requires small { slots_len row < 2 ^ 63 }
-    requires sinking { IsSinking (not_above_by T.cmp) (slots_items row) 0 }
+    requires sinking { IsSinking (by_rank T.rank_of) (slots_items row) 0 }
     ensures refills { Refills row result.0 }
     ensures permutation { IsPermutation (slots_items row) (slots_items result.0) }
-    ensures heap { IsHeapBy (not_above_by T.cmp) (slots_items result.0) }
+    ensures heap { IsHeapBy (by_rank T.rank_of) (slots_items result.0) }
 {
     let item = row.take(0);
     let end = sink_to_end(&mut row, &item);
@@ -187,9 +195,9 @@ fn sunk<T: Exact>(mut row: Slots<T>, state: (), _argument: ()) -> (Slots<T>, (),
 pub fn rise<T: Exact>(items: &mut [T], at: usize)
     requires within { at < length items.old }
     requires small { length items.old < 2 ^ 63 }
-    requires rising { IsRising (not_above_by T.cmp) items.old at }
+    requires rising { IsRising (by_rank T.rank_of) items.old at }
     ensures permutation { IsPermutation items.old items.new }
-    ensures heap { IsHeapBy (not_above_by T.cmp) items.new }
+    ensures heap { IsHeapBy (by_rank T.rank_of) items.new }
 {
     let mut nothing = ();
     unsafe { with_slots(items, &mut nothing, at, risen) }
@@ -198,9 +206,9 @@ pub fn rise<T: Exact>(items: &mut [T], at: usize)
 // Moves the first item down until none that stands below it has to stand before it.
 pub fn sink<T: Exact>(items: &mut [T])
     requires small { length items.old < 2 ^ 63 }
-    requires sinking { IsSinking (not_above_by T.cmp) items.old 0 }
+    requires sinking { IsSinking (by_rank T.rank_of) items.old 0 }
     ensures permutation { IsPermutation items.old items.new }
-    ensures heap { IsHeapBy (not_above_by T.cmp) items.new }
+    ensures heap { IsHeapBy (by_rank T.rank_of) items.new }
 {
     if items.len() < 2 {
         return;

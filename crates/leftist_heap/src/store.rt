@@ -3,7 +3,7 @@ ghost use Rattle.std.specs.Prelude.{◌≡◌, ℕ, ◌<◌, ◌≤◌, ◌↔�
 ghost use Rattle.std.specs.Option.{MatchOption};
 ghost use Rattle.leftist_heap.specs.Order.{IsAscendingBy, with_item_by};
 ghost use Rattle.leftist_heap.specs.Store.{first_of, rest_of};
-ghost use Rattle.leftist_heap.specs.Order.{not_above_by};
+ghost use Rattle.leftist_heap.specs.Order.{not_above_by, IsRankedAmong};
 
 use crate::exact::Exact;
 
@@ -22,9 +22,10 @@ pub trait Store<T: Exact>: Drop {
 
     /// Puts an item behind every item not above it. Where there is no room and memory for the item
     /// is refused, it comes back and the store has the items that it had. A store holds at most
-    /// 4,294,967,295 items.
+    /// 4,294,967,295 items, which their ranks put in their order.
     fn push(&mut self, item: T) -> Result<(), T>
-        requires { length (content self.old) < MOST_ITEMS }
+        requires room { length (content self.old) < MOST_ITEMS }
+        requires ranked { IsRankedAmong T.cmp T.rank_of item (content self.old) }
         ensures ok { OnOk result (content self.new ≡ with_item_by (not_above_by T.cmp) item (content self.old)) }
         ensures err { OnErr result (content self.new ≡ content self.old) }
         ensures handed_back { IfErr result (λ back. back ≡ item) }

@@ -1,14 +1,13 @@
 // A heap in one array from which an item can be removed by its ticket.
 ghost use Rattle.std.specs.Prelude.{◌≡◌, ◌+◌, ◌^◌, ◌<◌, ◌≤◌, ◌∷◌, [], true, length, vec_capacity, slice_index_or, IsTrue, OnOk, OnErr, IfOk, IfErr, IfSome};
 ghost use Rattle.std.specs.List.Sorted.{IsPermutation};
-ghost use Rattle.leftist_heap.specs.Order.{not_above_by};
+ghost use Rattle.leftist_heap.specs.Order.{not_above_by, by_rank};
 ghost use Rattle.leftist_heap.specs.Sifting.{IsHeapBy};
 ghost use Rattle.leftist_heap.specs.Places.{IsPlaced, IsTicketHeap, HasNone, Finds, IsLowerThanFound, StillKeeps};
 
 use crate::exact::Exact;
 use crate::places::Places;
 use crate::placing::{rise, settle};
-use crate::sifting::is_lower;
 use crate::store::Store;
 use crate::ticket_store::{HasTicket, TicketStore};
 use std::alloc::{AllocError, Allocator};
@@ -29,7 +28,7 @@ pub struct TicketHeap<T: HasTicket, P: Places, A: Allocator> {
 
 impl<T: HasTicket, P: Places, A: Allocator> Model for TicketHeap<T, P, A> {
     ghost use Rattle.std.specs.Prelude.{vec_capacity};
-    ghost use Rattle.leftist_heap.specs.Order.{not_above_by};
+    ghost use Rattle.leftist_heap.specs.Order.{not_above_by, by_rank};
     ghost use Rattle.leftist_heap.specs.ArrayHeap.{Holding, holding};
     ghost use Rattle.leftist_heap.specs.Places.{IsTicketHeap};
 
@@ -37,7 +36,7 @@ impl<T: HasTicket, P: Places, A: Allocator> Model for TicketHeap<T, P, A> {
 
     ghost view = { λ h. holding (not_above_by T.cmp) h.heap.items (vec_capacity h.heap) };
 
-    ghost invariant = { λ h. IsTicketHeap T.ticket_of (not_above_by T.cmp) (P.table h.places) h.heap.items h.is_placed };
+    ghost invariant = { λ h. IsTicketHeap T.ticket_of T.cmp T.rank_of (P.table h.places) h.heap.items h.is_placed };
 }
 
 // Whether the item at this place is lower than the one that was found, if any.
@@ -47,7 +46,7 @@ fn is_lower_than_found<T: HasTicket>(items: &[T], at: usize, found: Option<usize
     ensures { IsLowerThanFound (not_above_by T.cmp) items.now at found result }
 {
     match found {
-        Some(low) => is_lower(&items[at], &items[low]),
+        Some(low) => items[at].cmp(&items[low]).is_lt(),
         None => true,
     }
 }
@@ -116,9 +115,9 @@ fn put_in<T: HasTicket, P: Places, A: Allocator>(
     item: T,
 ) -> Result<(), T>
     requires few { length heap.old.items + 1 < 2 ^ 32 }
-    requires heap { IsHeapBy (not_above_by T.cmp) heap.old.items }
+    requires heap { IsHeapBy (by_rank T.rank_of) heap.old.items }
     ensures permutation { OnOk result (IsPermutation (item ∷ heap.old.items) heap.new.items) }
-    ensures heap { IsHeapBy (not_above_by T.cmp) heap.new.items }
+    ensures heap { IsHeapBy (by_rank T.rank_of) heap.new.items }
     ensures placed { OnOk result ((P.table places.old).keeps (T.ticket_of item) ≡ true → HasNone T.ticket_of heap.old.items (length heap.old.items) (T.ticket_of item)
         → IsPlaced T.ticket_of (P.table places.old) heap.old.items → IsPlaced T.ticket_of (P.table places.new) heap.new.items) }
     ensures err { OnErr result ((heap.new.items ≡ heap.old.items) × (P.table places.new ≡ P.table places.old)) }
@@ -143,10 +142,10 @@ fn take_out<T: HasTicket, P: Places, A: Allocator>(
 ) -> T
     requires within { at < length heap.old.items }
     requires few { length heap.old.items < 2 ^ 32 }
-    requires heap { IsHeapBy (not_above_by T.cmp) heap.old.items }
+    requires heap { IsHeapBy (by_rank T.rank_of) heap.old.items }
     ensures value { result ≡ slice_index_or heap.old.items at result }
     ensures permutation { IsPermutation heap.old.items (result ∷ heap.new.items) }
-    ensures heap { IsHeapBy (not_above_by T.cmp) heap.new.items }
+    ensures heap { IsHeapBy (by_rank T.rank_of) heap.new.items }
     ensures placed { IsPlaced T.ticket_of (P.table places.old) heap.old.items → IsPlaced T.ticket_of (P.table places.new) heap.new.items }
     ensures room { vec_capacity heap.new ≡ vec_capacity heap.old }
 {

@@ -68,6 +68,12 @@ impl PartialOrd for Tallied<'_> {
 
 impl Exact for Tallied<'_> {
     ghost equal_is_same = { exact_unsigned };
+
+    ghost rank_of = { λ n. n };
+
+    fn rank(&self) -> u128 {
+        u128::from(self.number)
+    }
 }
 
 // Whether the first item comes out, alive.

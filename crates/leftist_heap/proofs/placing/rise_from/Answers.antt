@@ -5,9 +5,9 @@ use Rattle.core.proofs.slots.Same.{in_place, still_in_place}
 use Rattle.std.proofs.lemmas.List.Sorted.{IsPermutation-trans}
 use Rattle.std_alloc.specs.Vec.Detached.{seen}
 use Rattle.std_alloc.proofs.Permutation.{as_swapped, swap_shuffles}
-use Rattle.leftist_heap.specs.Order.{not_above_by}
+use Rattle.leftist_heap.specs.Order.{by_rank}
 use Rattle.leftist_heap.specs.Sifting.{StandsBefore}
-use Rattle.leftist_heap.proofs.Orders.{exact_order}
+use Rattle.leftist_heap.proofs.ByRank.{rank_order}
 use Rattle.leftist_heap.proofs.Sifts.{rises, rests, tops}
 use Rattle.leftist_heap.proofs.Holes.{from_hole, onto_hole, swapped, as_long}
 use Rattle.leftist_heap.proofs.placing.rise_from.Goals as goal
@@ -17,8 +17,8 @@ loop-hole-init g c = record { hole = c.requires.hole; places = in_place _; permu
 
 pub loop-hole-preserved : goal.loop-hole-preserved
 loop-hole-preserved g c =
-    let before = not_above_by g.T.Ord.cmp in
-    let o = exact_order g.T.Ord.cmp g.met.T.Ord.total g.met.T.Exact.equal_is_same in
+    let before = by_rank g.T.Exact.rank_of in
+    let o = rank_order g.T.Exact.rank_of in
     let l = c.loop-hole in
     let inv = l.invariant in
     let x = c.args.item.now in
@@ -48,7 +48,7 @@ loop-hole-preserved g c =
 
 pub returns-then-not-is_lower-clause-heap : goal.returns-then-not-is_lower-clause-heap
 returns-then-not-is_lower-clause-heap g c =
-    let before = not_above_by g.T.Ord.cmp in
+    let before = by_rank g.T.Exact.rank_of in
     let l = c.loop-hole in
     let inv = l.invariant in
     let x = c.args.item.now in
@@ -64,4 +64,4 @@ returns-then-not-is_lower-clause-heap g c =
     rests before (seen l.row l.hole x) l.hole up refl over inv.rising
 
 pub returns-clause-heap : goal.returns-clause-heap
-returns-clause-heap g c = tops (not_above_by g.T.Ord.cmp) _ c.loop-hole.hole (omega arith) c.loop-hole.invariant.rising
+returns-clause-heap g c = tops (by_rank g.T.Exact.rank_of) _ c.loop-hole.hole (omega arith) c.loop-hole.invariant.rising

@@ -5,7 +5,7 @@ use Rattle.core.proofs.slots.Same.{in_place, still_in_place}
 use Rattle.std.proofs.lemmas.List.Sorted.{IsPermutation-trans}
 use Rattle.std_alloc.specs.Vec.Detached.{seen}
 use Rattle.std_alloc.proofs.Permutation.{swap_shuffles}
-use Rattle.leftist_heap.specs.Order.{not_above_by}
+use Rattle.leftist_heap.specs.Order.{by_rank}
 use Rattle.leftist_heap.proofs.Sifts.{sinks, sunk}
 use Rattle.leftist_heap.proofs.Holes.{beside_hole, swapped, as_long}
 use Rattle.leftist_heap.proofs.placing.sink_from.Goals as goal
@@ -22,7 +22,7 @@ loop-hole-init g c = record {
 
 pub loop-hole-preserved : goal.loop-hole-preserved
 loop-hole-preserved g c =
-    let before = not_above_by g.T.Ord.cmp in
+    let before = by_rank g.T.Exact.rank_of in
     let l = c.loop-hole in
     let inv = l.invariant in
     let x = c.args.item.now in
@@ -65,7 +65,7 @@ returns-clause-permutation g c =
 
 pub returns-clause-rising : goal.returns-clause-rising
 returns-clause-rising g c =
-    let before = not_above_by g.T.Ord.cmp in
+    let before = by_rank g.T.Exact.rank_of in
     let l = c.loop-hole in
     let inv = l.invariant in
     let x = c.args.item.now in

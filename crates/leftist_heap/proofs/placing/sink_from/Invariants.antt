@@ -2,7 +2,7 @@ use Rattle.std.proofs.Common.{◌<◌, ◌+◌, ◌-◌}
 use Rattle.std.specs.List.Sorted.{IsPermutation}
 use Rattle.core.specs.Mem.Slots.{SamePlaces}
 use Rattle.std_alloc.specs.Vec.Detached.{HasHole, seen}
-use Rattle.leftist_heap.specs.Order.{not_above_by}
+use Rattle.leftist_heap.specs.Order.{by_rank}
 use Rattle.leftist_heap.specs.Sifting.{IsSinking}
 use Rattle.leftist_heap.specs.Places.{IsPlacedBut}
 use Rattle.leftist_heap.proofs.placing.sink_from.Given as goal
@@ -13,7 +13,7 @@ invariant-loop-hole g l = record {
   hole : HasHole l.row l.hole;
   places : SamePlaces l.initial.row l.row;
   permutation : IsPermutation (seen l.initial.row l.initial.hole l.item) (seen l.row l.hole l.item);
-  sinking : IsSinking (not_above_by g.T.Ord.cmp) (seen l.row l.hole l.item) l.hole;
+  sinking : IsSinking (by_rank g.T.Exact.rank_of) (seen l.row l.hole l.item) l.hole;
   placed : IsPlacedBut g.T.HasTicket.ticket_of (g.P.Places.table l.initial.places) (seen l.initial.row l.initial.hole l.item) l.initial.hole
       → IsPlacedBut g.T.HasTicket.ticket_of (g.P.Places.table l.places) (seen l.row l.hole l.item) l.hole;
 }

@@ -4,17 +4,17 @@ use lib.ListN.{length-set}
 use Rattle.std.proofs.lemmas.List.Sorted.{IsPermutation-trans}
 use Rattle.std_alloc.specs.Vec.Detached.{seen}
 use Rattle.std_alloc.proofs.Permutation.{swap_shuffles}
-use Rattle.leftist_heap.specs.Order.{not_above_by}
+use Rattle.leftist_heap.specs.Order.{by_rank}
 use Rattle.leftist_heap.specs.Sifting.{IsSinking}
-use Rattle.leftist_heap.proofs.Orders.{exact_order}
+use Rattle.leftist_heap.proofs.ByRank.{rank_order}
 use Rattle.leftist_heap.proofs.Sifts.{sinks, only_below}
 use Rattle.leftist_heap.proofs.Holes.{swapped, as_long}
 use Rattle.leftist_heap.proofs.placing.sink_to_end.Goals as goal
 
 pub sink_from-requires-clause-sinking : goal.sink_from-requires-clause-sinking
 sink_from-requires-clause-sinking g c =
-    let before = not_above_by g.T.Ord.cmp in
-    let o = exact_order g.T.Ord.cmp g.met.T.Ord.total g.met.T.Exact.equal_is_same in
+    let before = by_rank g.T.Exact.rank_of in
+    let o = rank_order g.T.Exact.rank_of in
     let x = c.args.item.now in
     let old = c.args.row.now in
     let xs = seen old 0 x in

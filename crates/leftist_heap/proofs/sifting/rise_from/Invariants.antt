@@ -1,7 +1,7 @@
 use Rattle.std.specs.List.Sorted.{IsPermutation}
 use Rattle.core.specs.Mem.Slots.{SamePlaces}
 use Rattle.std_alloc.specs.Vec.Detached.{HasHole, seen}
-use Rattle.leftist_heap.specs.Order.{not_above_by}
+use Rattle.leftist_heap.specs.Order.{by_rank}
 use Rattle.leftist_heap.specs.Sifting.{IsRising}
 use Rattle.leftist_heap.proofs.sifting.rise_from.Given as goal
 
@@ -10,7 +10,7 @@ invariant-loop-hole g l = record {
   hole : HasHole l.row l.hole;
   places : SamePlaces l.initial.row l.row;
   permutation : IsPermutation (seen l.initial.row l.initial.hole l.item) (seen l.row l.hole l.item);
-  rising : IsRising (not_above_by g.T.Ord.cmp) (seen l.row l.hole l.item) l.hole;
+  rising : IsRising (by_rank g.T.Exact.rank_of) (seen l.row l.hole l.item) l.hole;
 }
 
 abbrev pub decreases-loop-hole : goal.decreases-loop-hole

@@ -4,16 +4,16 @@ use Rattle.core.proofs.slots.Same.{still_in_place}
 use Rattle.std.proofs.lemmas.List.Sorted.{IsPermutation-trans}
 use Rattle.std_alloc.specs.Vec.Detached.{seen}
 use Rattle.std_alloc.proofs.Permutation.{swap_shuffles}
-use Rattle.leftist_heap.specs.Order.{not_above_by}
-use Rattle.leftist_heap.proofs.Orders.{exact_order}
+use Rattle.leftist_heap.specs.Order.{by_rank}
+use Rattle.leftist_heap.proofs.ByRank.{rank_order}
 use Rattle.leftist_heap.proofs.Sifts.{sinks, sunk, only_below}
 use Rattle.leftist_heap.proofs.Holes.{beside_hole, swapped, as_long}
 use Rattle.leftist_heap.proofs.sifting.sink_to_end.Goals as goal
 
 pub loop-hole-init : goal.loop-hole-init
 loop-hole-init g c =
-    let before = not_above_by g.T.Ord.cmp in
-    let o = exact_order g.T.Ord.cmp g.met.T.Ord.total g.met.T.Exact.equal_is_same in
+    let before = by_rank g.T.Exact.rank_of in
+    let o = rank_order g.T.Exact.rank_of in
     let x = c.args.item.now in
     let old = c.args.row.now in
     let new = c.move_hole.new.row in
@@ -34,7 +34,7 @@ loop-hole-init g c =
 
 pub loop-hole-preserved : goal.loop-hole-preserved
 loop-hole-preserved g c =
-    let before = not_above_by g.T.Ord.cmp in
+    let before = by_rank g.T.Exact.rank_of in
     let l = c.loop-hole in
     let inv = l.invariant in
     let x = c.args.item.now in
@@ -77,7 +77,7 @@ returns-clause-permutation g c =
 
 pub returns-clause-rising : goal.returns-clause-rising
 returns-clause-rising g c =
-    let before = not_above_by g.T.Ord.cmp in
+    let before = by_rank g.T.Exact.rank_of in
     let l = c.loop-hole in
     let inv = l.invariant in
     let x = c.args.item.now in

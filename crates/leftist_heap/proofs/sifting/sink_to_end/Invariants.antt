@@ -2,7 +2,7 @@ use Rattle.std.proofs.Common.{◌<◌, ◌+◌, ◌-◌}
 use Rattle.std.specs.List.Sorted.{IsPermutation}
 use Rattle.core.specs.Mem.Slots.{SamePlaces}
 use Rattle.std_alloc.specs.Vec.Detached.{HasHole, seen}
-use Rattle.leftist_heap.specs.Order.{not_above_by}
+use Rattle.leftist_heap.specs.Order.{by_rank}
 use Rattle.leftist_heap.specs.Sifting.{IsSinking}
 use Rattle.leftist_heap.proofs.sifting.sink_to_end.Given as goal
 
@@ -12,7 +12,7 @@ invariant-loop-hole g l = record {
   hole : HasHole l.row l.hole;
   places : SamePlaces l.fn.row l.row;
   permutation : IsPermutation (seen l.fn.row 0 l.item) (seen l.row l.hole l.item);
-  sinking : IsSinking (not_above_by g.T.Ord.cmp) (seen l.row l.hole l.item) l.hole;
+  sinking : IsSinking (by_rank g.T.Exact.rank_of) (seen l.row l.hole l.item) l.hole;
 }
 
 abbrev pub decreases-loop-hole : goal.decreases-loop-hole

@@ -2,18 +2,18 @@ use Rattle.std.proofs.Common.{◌∷◌, sym, ◌∙◌, ap, subst, IsPermutatio
 use Rattle.core.proofs.slice.Lists.{any-default}
 use Rattle.std.proofs.lemmas.List.{take_at}
 use Rattle.std.proofs.lemmas.List.Sorted.{IsPermutation-swap_remove, IsPermutation-cons, IsPermutation-trans, length_permutation}
-use Rattle.leftist_heap.specs.Order.{not_above_by}
+use Rattle.leftist_heap.specs.Order.{by_rank}
 use Rattle.leftist_heap.specs.Sifting.{IsHeapBy, IsSinking}
 use Rattle.leftist_heap.specs.Places.{IsPlaced, IsPlacedBut}
-use Rattle.leftist_heap.proofs.Orders.{exact_order}
+use Rattle.leftist_heap.proofs.ByRank.{rank_order}
 use Rattle.leftist_heap.proofs.Sifts.{replaced, shorter}
 use Rattle.leftist_heap.proofs.Placings.{placed_without, placed_shorter}
 use Rattle.leftist_heap.proofs.ticket_heap.take_out.Goals as goal
 
 pub settle-requires-clause-sinking : goal.settle-requires-clause-sinking
 settle-requires-clause-sinking g c =
-    let before = not_above_by g.T.Ord.cmp in
-    let o = exact_order g.T.Ord.cmp g.met.T.Ord.total g.met.T.Exact.equal_is_same in
+    let before = by_rank g.T.Exact.rank_of in
+    let o = rank_order g.T.Exact.rank_of in
     let xs = c.args.heap.now.items in
     let took = c.swap_remove-item.ensures in
     let size = c.args.heap.now.ok.0 in
@@ -38,7 +38,7 @@ returns-then-at-len-clause-permutation g c =
 pub returns-then-at-len-clause-heap : goal.returns-then-at-len-clause-heap
 returns-then-at-len-clause-heap g c =
     let kept = take_at c.settle.new.items _ _ (length_permutation _ _ c.settle.ensures.permutation ∙ c.deref_mut.ensures.len) in
-    subst (IsHeapBy (not_above_by g.T.Ord.cmp)) (sym kept) c.settle.ensures.heap
+    subst (IsHeapBy (by_rank g.T.Exact.rank_of)) (sym kept) c.settle.ensures.heap
 
 pub returns-then-at-len-clause-placed : goal.returns-then-at-len-clause-placed
 returns-then-at-len-clause-placed g c placed =
@@ -78,7 +78,7 @@ returns-else-at-len-clause-heap g c =
     let count = c.len.ensures in
     let end = c.if-at-len.false in
     let within = c.requires.within in
-    shorter (not_above_by g.T.Ord.cmp) xs c.swap_remove-item.new.self.items c.args.at c.requires.heap (omega arith) (omega arith)
+    shorter (by_rank g.T.Exact.rank_of) xs c.swap_remove-item.new.self.items c.args.at c.requires.heap (omega arith) (omega arith)
     (λ k d n l. took.by_index.1 k d n (omega arith))
 
 pub returns-else-at-len-clause-placed : goal.returns-else-at-len-clause-placed

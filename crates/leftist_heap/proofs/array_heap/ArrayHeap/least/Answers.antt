@@ -3,6 +3,7 @@ use Rattle.leftist_heap.specs.Store.{first_of}
 use Rattle.leftist_heap.specs.Order.{not_above_by}
 use Rattle.leftist_heap.specs.ArrayHeap.{Holding}
 use Rattle.leftist_heap.proofs.Orders.{exact_order}
+use Rattle.leftist_heap.proofs.ByRank.{heap_in_order}
 use Rattle.leftist_heap.proofs.Arrays.{content-first, first_seen}
 use Rattle.leftist_heap.proofs.array_heap.ArrayHeap.least.Goals as goal
 
@@ -11,4 +12,5 @@ returns g c =
     let o = exact_order g.T.Ord.cmp g.met.T.Ord.total g.met.T.Exact.equal_is_same in
     first_seen c.first.result c.args.self.now.items
     (c.first.ensures.value ∙ ap (λ l. slice_get l 0) c.deref.ensures.value
-    ∙ content-first (not_above_by g.T.Ord.cmp) o c.self.inside.heap.items c.self.invariant ∙ ap (λ (s : Holding _). first_of s.items) c.self.view_is)
+    ∙ content-first (not_above_by g.T.Ord.cmp) o c.self.inside.heap.items
+    (heap_in_order g.T.Exact.rank_of g.T.Ord.cmp c.self.inside.heap.items c.self.invariant.1 c.self.invariant.0) ∙ ap (λ (s : Holding _). first_of s.items) c.self.view_is)

@@ -1,9 +1,10 @@
-use Rattle.std.proofs.Common.{sym, subst, ◌∙◌, ap, length, arith}
+use Rattle.std.proofs.Common.{◌∷◌, sym, subst, ◌∙◌, ap, length, arith}
 use Rattle.std.proofs.lemmas.List.Sorted.{length_permutation}
-use Rattle.leftist_heap.specs.Order.{with_item_by, not_above_by}
+use Rattle.leftist_heap.specs.Order.{with_item_by, not_above_by, IsRankedAmong}
 use Rattle.leftist_heap.specs.ArrayHeap.{Holding}
 use Rattle.leftist_heap.specs.Places.{HasNone, IsPlaced}
 use Rattle.leftist_heap.proofs.Orders.{exact_order}
+use Rattle.leftist_heap.proofs.ByRank.{ranked_with, ranked_permuted, all_of_content}
 use Rattle.leftist_heap.proofs.Arrays.{content-pushed, length-content}
 use Rattle.leftist_heap.proofs.Placings.{placed_still}
 use Rattle.leftist_heap.proofs.ticket_heap.TicketHeapStore.push.Goals as goal
@@ -11,7 +12,7 @@ use Rattle.leftist_heap.proofs.ticket_heap.TicketHeapStore.push.Goals as goal
 pub put_in-requires-clause-few : goal.put_in-requires-clause-few
 put_in-requires-clause-few g c =
     let size = sym (length-content (not_above_by g.T.Ord.cmp) c.self.inside.heap.items) ∙ ap (λ (s : Holding _). length s.items) c.self.view_is in
-    let few = c.requires in
+    let few = c.requires.room in
     omega arith
 
 pub returns-clause-ok : goal.returns-clause-ok
@@ -35,11 +36,17 @@ invariant_of-self-2 g c =
     let put = c.in_default.ensures in
     let counted = length_permutation _ _ put.permutation in
     let size = sym (length-content (not_above_by g.T.Ord.cmp) xs) ∙ ap (λ (s : Holding _). length s.items) c.self.view_is in
-    let few = c.requires in
+    let few = c.requires.room in
     let opened = c.opens-is_kept.ensures in
     let its = c.ticket.ensures in
+    let cmp = g.T.Ord.cmp in
+    let o = exact_order cmp g.met.T.Ord.total g.met.T.Exact.equal_is_same in
+    let rank_of = g.T.Exact.rank_of in
+    let x = c.args.item in
+    let new = all_of_content (not_above_by cmp) _ xs (subst (λ (s : Holding _). IsRankedAmong cmp rank_of x s.items) (sym c.self.view_is) c.requires.ranked) in
     record {
       heap = put.heap;
+      ranked = ranked_permuted rank_of cmp (x ∷ xs) c.put_in.new.heap.items put.permutation (ranked_with rank_of cmp o x xs c.self.invariant.ranked new);
       few = omega arith;
       placed = λ e.
           put.placed (ap (g.P.Places.table c.opens-is_kept.new.places).keeps (sym its) ∙ opened.kept e)

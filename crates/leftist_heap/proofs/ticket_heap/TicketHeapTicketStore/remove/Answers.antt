@@ -9,10 +9,9 @@ use Rattle.leftist_heap.proofs.ticket_heap.TicketHeapTicketStore.remove.Goals as
 
 pub invariant_of-self : goal.invariant_of-self
 invariant_of-self g c =
-    let o = exact_order g.T.Ord.cmp g.met.T.Ord.total g.met.T.Exact.equal_is_same in
     let took = c.take_out.ensures in
-    still_ticket_heap (not_above_by g.T.Ord.cmp) o c.self.inside.heap.items c.take_out.new.heap.items c.take_out.result took.permutation
-    g.T.HasTicket.ticket_of _ _ _ c.self.invariant took.heap took.placed
+    still_ticket_heap g.T.Ord.cmp g.T.Exact.rank_of g.T.HasTicket.ticket_of c.self.inside.heap.items c.take_out.new.heap.items c.take_out.result
+    took.permutation _ _ _ c.self.invariant took.heap took.placed
 
 pub returns-in_default-clause-item : goal.returns-in_default-clause-item
 returns-in_default-clause-item g c =

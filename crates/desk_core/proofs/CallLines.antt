@@ -70,13 +70,16 @@ call_among (l ∷ ls) place first c h = which (λ g. call_among ls place (first 
           within = omega (arith, within);
           there = ap (slice_get ls) less ∙ (sym (ap (slice_get (l ∷ ls)) e) ∙ h.there);
         }
+
     same : c.number - first ≡ 0 → ◌≡◌ {A = Line} l (line_of place c.serial c.operation c.reply)
     same e = let t : Some l ≡ Some (line_of place c.serial c.operation c.reply) = sym (ap (slice_get (l ∷ ls)) e) ∙ h.there in cc
+
     is_first : c.number - first ≡ 0 → call_of first l.serial l.operation l.reply ≡ c
     is_first e =
         let from = h.from in
         let number : first ≡ c.number = omega (arith, e, from) in
         ap (λ n. call_of n l.serial l.operation l.reply) number ∙ ap (λ (x : Line). call_of c.number x.serial x.operation x.reply) (same e)
+
     which : (IsAmong ls place (first + 1) c → (k : ℕ) × (slice_get (calls_from (first + 1) place ls) k ≡ Some c)) → (n : ℕ) → c.number - first ≡ n → (b : Bool) → (l.place == place) ≡ b
         → (k : ℕ) × (slice_get (if b then call_of first l.serial l.operation l.reply ∷ calls_from (first + 1) place ls else calls_from (first + 1) place ls) k ≡ Some c)
     which deeper zero e true at = (0, ap Some (is_first e))

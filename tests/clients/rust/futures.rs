@@ -135,8 +135,8 @@ fn a_move_to_now_wakes() {
 
 #[test]
 fn a_future_of_the_queue_joins_while_it_waits() {
-    let queue: TaskQueue<u64, String> = Options::new().members(2).open().unwrap();
-    let counted = Counted::new();
+    let queue: TaskQueue<u64, String> = Options::new().members(3).open().unwrap();
+    let (_awake, counted) = (queue.join().unwrap(), Counted::new());
     let mut takes = [queue.take_async(), queue.take_async(), queue.take_async()];
     assert!(polled(&mut takes[0], &counted).is_pending());
     assert!(polled(&mut takes[1], &counted).is_pending());

@@ -38,7 +38,7 @@ fn nap() {
 }
 
 /// Reads the old file back. A torn line was never acknowledged. A damaged one is cut off, with all that follows it: jobs may be lost.
-fn read_back(old: &mut File) -> io::Result<ReadBack<u64>> {
+fn read_back(old: &mut File) -> io::Result<ReadBack<u64, u64>> {
     match TaskJournal::read_from(&*old) {
         Err(refused) if refused.error == Error::NotLawful => {
             eprintln!("damaged line {}", refused.line);

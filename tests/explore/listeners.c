@@ -5,7 +5,8 @@
 
 #include <string.h>
 
-static uint32_t notified[MOST_FIBERS], may_notify[MOST_FIBERS];
+/* Whether each member was notified since its last call began, and was when that returned; and how often it may be. */
+static uint32_t notified[MOST_FIBERS], was_notified[MOST_FIBERS], may_notify[MOST_FIBERS];
 
 void listeners_begin(void) {
     memset(notified, 0, sizeof notified);
@@ -15,26 +16,25 @@ void listeners_begin(void) {
 static void notify(void *context) {
     uint32_t *it = context;
     scheduler_point("notify", it, WRITES, __FILE__, __LINE__);
-    if (!may_notify[it - notified]) {
+    if (may_notify[it - notified] == 0) {
         fail("member %d is notified, and does not listen, or was notified already", (int)(it - notified));
     }
-    may_notify[it - notified] = 0;
+    may_notify[it - notified]--;
     *it = 1;
     wake_word(it);
 }
 
-/* Takes, or begins to listen. The call ends the earlier listening: notify may run until then, and of the new one from then on. */
+/* Takes, or begins to listen. The call ends the earlier listening: notify may run for that until then, and for the new one from then on. */
 static pq_code begin_listening(int which, uint64_t priority, pq_item *first) {
     uint64_t entry = 0;
     pq_code code;
-    may_notify[which] = 1;
+    may_notify[which]++;
     notified[which] = 0;
     check_call_begins(LISTENS_FOR, PQ_NOW, priority);
     code = pq_take_or_listen(used[which], priority, first, &entry, notify, &notified[which]);
     check_call_ends(PQ_POP, code, *first, code == PQ_OK ? entry : 0);
-    if (code != PQ_EMPTY && code != PQ_NOT_DUE) {
-        may_notify[which] = 0;
-    }
+    may_notify[which] = code == PQ_EMPTY || code == PQ_NOT_DUE;
+    was_notified[which] = notified[which];
     return code;
 }
 
@@ -48,11 +48,10 @@ void sleep_at(const uint32_t *at, uint32_t seen, uint64_t until) {
 /* Sleeps until it is notified, or this time. After a notify within its own call it naps: another thread may have the lock for long. */
 static void await_notify(int which, enum call call, uint64_t priority, uint64_t until) {
     const uint64_t soon = 100000;
-    const int was_notified = (int)notified[which];
     check_call_begins(call, PQ_FOREVER, priority);
     sleep_at(&notified[which], 0, until);
     check_call_begins(NO_CALL, PQ_FOREVER, 0);
-    if (was_notified) {
+    if (was_notified[which]) {
         block(NAPS, NULL, now + soon);
     }
 }
@@ -110,12 +109,12 @@ static void listen_refused(int which, const uint64_t *numbers) {
 }
 
 static void unlisten(int which, const uint64_t *numbers) {
-    int had = (int)notified[which], listened;
+    int listened;
     check_call_begins(CALLS, PQ_NOW, 0);
     listened = pq_unlisten(used[which]);
     check_call_begins(NO_CALL, PQ_FOREVER, 0);
     may_notify[which] = 0;
-    if (listened && (had || notified[which])) {
+    if (listened && notified[which] && !was_notified[which]) {
         fail("a member was notified, and unlisten says that it was not");
     }
 }

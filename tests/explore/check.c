@@ -62,7 +62,7 @@ typedef struct content {
 static int observe(content *it) {
     uint64_t peak;
     uint32_t owes;
-    if (observer == NULL || ending != STANDS || posts != 0) {
+    if (observer == NULL || ending != STANDS || proved_has_posts()) {
         return 0;
     }
     if (pq_core_try_count(&observer->proved, &it->count, &peak, &owes) != PQ_OK

@@ -71,7 +71,8 @@ void races_enable(int woken, int by);
 int races_depend(const void *at, enum access access, const void *other, enum access as);
 
 /* system.c, proved.c */
-extern int has_late_stores, refuses_barriers, refuses_keys, is_held, posts;
+extern int has_late_stores, refuses_barriers, refuses_keys, is_held;
+int proved_has_posts(void);
 void system_begin(void);
 void proved_begin(void);
 void end_thread(void); /* the destructor of its key runs */

@@ -54,10 +54,10 @@
 #define pq_core_step_call(m, r, p, v, posts, a)                                             \
     (POINT("pq_core_step_call", &proved_core, WRITES), proved_begins(m, 1)                    \
          ? proved_ends(pq_core_step_call(m, r, p, v, posts, a))                              \
-         : (posts) ? proved_posted(pq_core_post(m, r, p, v), HAS_POSTED) : LOCK_HELD)
-#define pq_core_post(...) proved_posted(STEPS(pq_core_post(__VA_ARGS__), __VA_ARGS__), PQ_OK)
-#define pq_core_step_answer(...) proved_answered(TRIES(pq_core_step_answer(__VA_ARGS__), __VA_ARGS__))
-#define pq_core_look(...) proved_answered(STEPS(pq_core_look(__VA_ARGS__), __VA_ARGS__))
+         : (posts) ? proved_posted(m, pq_core_post(m, r, p, v), HAS_POSTED) : LOCK_HELD)
+#define pq_core_post(...) proved_posted(FIRST(__VA_ARGS__), STEPS(pq_core_post(__VA_ARGS__), __VA_ARGS__), PQ_OK)
+#define pq_core_step_answer(...) proved_answered(FIRST(__VA_ARGS__), TRIES(pq_core_step_answer(__VA_ARGS__), __VA_ARGS__))
+#define pq_core_look(...) proved_answered(FIRST(__VA_ARGS__), STEPS(pq_core_look(__VA_ARGS__), __VA_ARGS__))
 #define pq_core_step_take(...) proved_looked(TRIES(pq_core_step_take(__VA_ARGS__), __VA_ARGS__))
 #define pq_core_try_pop_or_look(...) TRIES(pq_core_try_pop_or_look(__VA_ARGS__), __VA_ARGS__)
 #define pq_core_try_remove(...) TRIES(pq_core_try_remove(__VA_ARGS__), __VA_ARGS__)

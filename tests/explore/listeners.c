@@ -5,7 +5,8 @@
 
 #include <string.h>
 
-static uint32_t notified[MOST_FIBERS], may_notify[MOST_FIBERS];
+/* Whether each member was notified since its last call began, and was when that returned, and by its own thread; and how often it may be. */
+static uint32_t notified[MOST_FIBERS], was_notified[MOST_FIBERS], notified_itself[MOST_FIBERS], may_notify[MOST_FIBERS];
 
 void listeners_begin(void) {
     memset(notified, 0, sizeof notified);
@@ -14,27 +15,28 @@ void listeners_begin(void) {
 
 static void notify(void *context) {
     uint32_t *it = context;
+    const int which = (int)(it - notified);
     scheduler_point("notify", it, WRITES, __FILE__, __LINE__);
-    if (!may_notify[it - notified]) {
-        fail("member %d is notified, and does not listen, or was notified already", (int)(it - notified));
+    if (may_notify[which] == 0) {
+        fail("member %d is notified, and does not listen, or was notified already", which);
     }
-    may_notify[it - notified] = 0;
+    may_notify[which]--;
+    notified_itself[which] = me == &fibers[which];
     *it = 1;
     wake_word(it);
 }
 
-/* Takes, or begins to listen. The call ends the earlier listening: notify may run until then, and of the new one from then on. */
+/* Takes, or begins to listen. The call ends the earlier listening: notify may run for that until then, and for the new one from then on. */
 static pq_code begin_listening(int which, uint64_t priority, pq_item *first) {
     uint64_t entry = 0;
     pq_code code;
-    may_notify[which] = 1;
-    notified[which] = 0;
+    may_notify[which]++;
+    notified[which] = notified_itself[which] = 0;
     check_call_begins(LISTENS_FOR, PQ_NOW, priority);
     code = pq_take_or_listen(used[which], priority, first, &entry, notify, &notified[which]);
     check_call_ends(PQ_POP, code, *first, code == PQ_OK ? entry : 0);
-    if (code != PQ_EMPTY && code != PQ_NOT_DUE) {
-        may_notify[which] = 0;
-    }
+    may_notify[which] = code == PQ_EMPTY || code == PQ_NOT_DUE;
+    was_notified[which] = notified[which];
     return code;
 }
 
@@ -48,11 +50,10 @@ void sleep_at(const uint32_t *at, uint32_t seen, uint64_t until) {
 /* Sleeps until it is notified, or this time. After a notify within its own call it naps: another thread may have the lock for long. */
 static void await_notify(int which, enum call call, uint64_t priority, uint64_t until) {
     const uint64_t soon = 100000;
-    const int was_notified = (int)notified[which];
     check_call_begins(call, PQ_FOREVER, priority);
     sleep_at(&notified[which], 0, until);
     check_call_begins(NO_CALL, PQ_FOREVER, 0);
-    if (was_notified) {
+    if (was_notified[which]) {
         block(NAPS, NULL, now + soon);
     }
 }
@@ -91,10 +92,29 @@ static void listen_all(int which, const uint64_t *numbers) {
     }
 }
 
+static void unlisten(int which, const uint64_t *numbers) {
+    int listened;
+    check_call_begins(CALLS, PQ_NOW, 0);
+    listened = pq_unlisten(used[which]);
+    check_call_begins(NO_CALL, PQ_FOREVER, 0);
+    may_notify[which] = 0;
+    if (listened && notified[which] && !was_notified[which]) {
+        fail("a member was notified, and unlisten says that it was not");
+    }
+}
+
 static void listen_once(int which, const uint64_t *numbers) {
     pq_item first = { 0, 0 };
     (void)begin_listening(which, numbers[0], &first);
     check_call_begins(NO_CALL, PQ_FOREVER, 0);
+}
+
+/* Listens no more, unless the call found the lock held for long, and so notified the member itself. */
+static void listen_held(int which, const uint64_t *numbers) {
+    listen_once(which, numbers);
+    if (!notified_itself[which]) {
+        unlisten(which, numbers);
+    }
 }
 
 /* The member has a request posted: the call is refused, and ends the listening. */
@@ -107,17 +127,6 @@ static void listen_refused(int which, const uint64_t *numbers) {
         fail("a member that has posted takes");
     }
     may_notify[which] = 0;
-}
-
-static void unlisten(int which, const uint64_t *numbers) {
-    int had = (int)notified[which], listened;
-    check_call_begins(CALLS, PQ_NOW, 0);
-    listened = pq_unlisten(used[which]);
-    check_call_begins(NO_CALL, PQ_FOREVER, 0);
-    may_notify[which] = 0;
-    if (listened && (had || notified[which])) {
-        fail("a member was notified, and unlisten says that it was not");
-    }
 }
 
 static pq_code begin_alarm(int which) {
@@ -157,6 +166,7 @@ const word listener_words[] = {
     { "listen-all", listen_all },
     { "listen-due", listen_due },
     { "listen-once", listen_once },
+    { "listen-held", listen_held },
     { "listen-refused", listen_refused },
     { "unlisten", unlisten },
     { "alarm", alarm_until },

@@ -32,8 +32,8 @@ int system_set(const void *value);
 extern const char proved_core; /* stands for all that a proved call reads and writes */
 int proved_begins(const void *handle, int may_hold); /* 0: another thread holds the queue's lock */
 pq_code proved_ends(pq_code code);
-pq_code proved_posted(pq_code code, pq_code as);
-pq_code proved_answered(pq_code code);
+pq_code proved_posted(const void *handle, pq_code code, pq_code as);
+pq_code proved_answered(const void *handle, pq_code code);
 pq_code proved_looked(pq_code code);
 
 #endif

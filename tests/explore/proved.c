@@ -9,7 +9,10 @@
 enum { MOST_HANDLES = 16 };
 
 const char proved_core = 0;
-int is_held, posts; /* how many requests are posted, and not carried out yet */
+int is_held;
+/* The members of requests that are posted, and not carried out yet. */
+static const void *posts[MOST_HANDLES];
+static int post_count;
 /* By which threads each member was used, and in which of their calls. */
 static struct {
     const void *handle;
@@ -18,7 +21,7 @@ static struct {
 } uses[MOST_HANDLES];
 
 void proved_begin(void) {
-    is_held = posts = 0;
+    is_held = post_count = 0;
     memset(uses, 0, sizeof uses);
 }
 
@@ -72,9 +75,13 @@ int proved_begins(const void *handle, int may_hold) {
     return 1;
 }
 
+int proved_has_posts(void) {
+    return post_count > 0;
+}
+
 /* A step that has an answer has carried out what was posted before it. */
 pq_code proved_ends(pq_code code) {
-    posts = code == PQ_OK ? 0 : posts;
+    post_count = code == PQ_OK ? 0 : post_count;
     if (is_held && me != NULL) {
         scheduler_point("(the lock is free)", &proved_core, WRITES, "core", 0);
         is_held = 0;
@@ -82,18 +89,24 @@ pq_code proved_ends(pq_code code) {
     return code;
 }
 
-pq_code proved_posted(pq_code code, pq_code as) {
-    posts += code == PQ_OK;
+pq_code proved_posted(const void *handle, pq_code code, pq_code as) {
+    if (code == PQ_OK && post_count < MOST_HANDLES) {
+        posts[post_count++] = handle;
+    }
     return code == PQ_OK ? as : code;
 }
 
 /* A step of a take that found the end has also carried out what was posted. */
 pq_code proved_looked(pq_code code) {
-    posts = code == PQ_SHUT ? 0 : posts;
+    post_count = code == PQ_SHUT ? 0 : post_count;
     return code;
 }
 
-pq_code proved_answered(pq_code code) {
-    posts -= code == PQ_OK && posts > 0;
+pq_code proved_answered(const void *handle, pq_code code) {
+    for (int i = 0; i < post_count && code == PQ_OK; i++) {
+        if (posts[i] == handle) {
+            posts[i--] = posts[--post_count];
+        }
+    }
     return code;
 }

@@ -108,6 +108,20 @@ static void pop_due(int which, const uint64_t *numbers) {
     check_call_ends(PQ_POP, code, item, code == PQ_OK ? entry : 0);
 }
 
+/* As many items up to this priority. */
+static void pop_many(int which, const uint64_t *numbers) {
+    enum { MOST = 8 };
+    pq_item items[MOST];
+    uint64_t entry = 0;
+    size_t carried = 0;
+    check_call_begins(CALLS, PQ_FOREVER, 0);
+    (void)!pq_pop_due_many(used[which], numbers[0], items, numbers[1] < MOST ? numbers[1] : MOST, PQ_FOREVER, &carried, &entry);
+    for (size_t i = 0; i < carried; i++) {
+        check_call_ends(PQ_POP, PQ_OK, items[i], entry + i);
+    }
+    check_call_begins(NO_CALL, PQ_FOREVER, 0);
+}
+
 static void remove_first(int which, const uint64_t *numbers) {
     pq_item item = none;
     uint64_t entry = 0;
@@ -183,6 +197,7 @@ const word request_words[] = {
     { "take-due-all", take_due_all },
     { "peek", peek },
     { "pop-due", pop_due },
+    { "pop-many", pop_many },
     { "remove", remove_first },
     { "move", move_first },
     { "size", count_items },

@@ -111,6 +111,9 @@ void scenario_begin(void) {
             read_option(&it, part);
         }
     }
+    if (it.own > 0 && it.item_count > 0) {
+        fail("no thread is there yet that has a member of its own, by which to push");
+    }
     joined = it.own > 0 ? 0 : it.options.members != 0 ? it.options.members : (uint32_t)played.count;
     it.options.members = it.own + joined;
     check_begin(it.options, !it.is_unobserved);

@@ -35,10 +35,12 @@ static int step_count;
  * Failures.
  */
 
+/* The last steps of the schedule, and how it is played again. */
 void print_trace(void) {
+    const int most = 1000;
     int shown = -1;
     print_replay();
-    for (int i = 0; i < step_count; i++) {
+    for (int i = step_count > most ? step_count - most : 0; i < step_count; i++) {
         const struct step *it = &steps[i];
         const char *file = strrchr(it->file, '/');
         if (it->fiber != shown) {

@@ -1,6 +1,6 @@
 /* pq_take_due_or_listen: the timer of a member that listens is readable once the first item is due, after a push of an earlier one, and after a
    shut. A push of a later one does not ring it, nor does any after pq_unlisten. Each refusal has its code, and a thread that has the lock for long
-   has the loop call again some times a millisecond. Pushes at each moment of the call are tried by wakes.c, and loops beside threads by many_events.c. */
+   has the loop call again some times a millisecond. Schedules of threads tests/explore tries, and loops beside threads many_events.c. */
 #include "../wrapped.h"
 
 #include <sys/eventfd.h>

@@ -1,6 +1,6 @@
-/* pq_take_due: an item comes out once it is due and not before, items of one time in the order of their pushes; a push of an earlier one wakes,
-   a deadline ends the wait, and a thread that goes wakes another for what is left; one thread of many watches. The queue's time_zero and time_unit
-   say when a priority is due, to both ends of 64 bits. The linker counts the sleeps, by __wrap_syscall. */
+/* pq_take_due: an item comes out once it is due and not before, items of one time in the order of their pushes; one thread of many watches. The
+   queue's time_zero and time_unit say when a priority is due, to both ends of 64 bits. Who is woken for what tests/explore tries. The linker
+   counts the sleeps, by __wrap_syscall. */
 #include "../check.h"
 #include "system_calls.h"
 
@@ -111,112 +111,16 @@ static void times_are_those_of_the_options(void) {
     is_due_at(0, 3, UINT64_MAX / 3 + 1, PQ_FOREVER);
 }
 
-static struct taker {
+struct taker {
     pq_member *member;
     pq_item item;
     pthread_t thread;
-} takers[2];
+};
 
 static void *take_one(void *own) {
     struct taker *it = (struct taker *)own;
     CHECK(pq_take_due(it->member, &it->item, in_ms(60000), NULL) == PQ_OK && pq_now() >= it->item.priority);
     return NULL;
-}
-
-static void begin(int i, pq_member *member) {
-    takers[i].member = member;
-    takers[i].item = item_of(0, 0);
-    takers[i].thread = started(take_one, &takers[i]);
-}
-
-static uint64_t end(int i) {
-    ended(takers[i].thread);
-    return takers[i].item.value;
-}
-
-static void an_earlier_one_wakes(pq_member *member, pq_member *other) {
-    pq_item item;
-    push(other, in_ms(600000), 1);
-    begin(0, member);
-    sleep_ms(10);
-    push(other, in_ms(20), 2);
-    CHECK(end(0) == 2 && pq_pop(other, &item, PQ_FOREVER, NULL) == PQ_OK && item.value == 1);
-}
-
-/* The first of two watches for an item; the second, which sleeps before it, is woken for an earlier one, and watches for that. */
-static void an_earlier_one_is_watched_for(pq_member *member, pq_member *other, pq_member *third) {
-    const uint64_t latest = in_ms(60000);
-    pq_item item = item_of(0, 0);
-    begin(0, member);
-    sleep_ms(10);
-    begin(1, other);
-    sleep_ms(10);
-    push(third, in_ms(600000), 1);
-    sleep_ms(10);
-    push(third, in_ms(50), 2);
-    while (item.value != 1) {
-        CHECK(pq_now() < latest && pq_peek(third, &item, PQ_FOREVER, NULL) == PQ_OK);
-        sleep_ms(1);
-    }
-    push(third, 0, 3);
-    CHECK(end(0) + end(1) == 5 && pq_pop(third, &item, PQ_FOREVER, NULL) == PQ_OK && item.value == 1);
-}
-
-/* One of two is woken by a push, and the other is to be by the one that goes: both items come out, each in its time. */
-static void who_goes_wakes_another(pq_member *member, pq_member *other, pq_member *third) {
-    for (int i = 0; i < 10; i++) {
-        uint64_t now = pq_now();
-        begin(0, member);
-        begin(1, other);
-        sleep_ms(5);
-        push(third, now + 20 * MS, 1);
-        push(third, now + 25 * MS, 1);
-        CHECK(end(0) == 1 && end(1) == 1 && pq_now() >= now + 25 * MS);
-    }
-}
-
-/* One that was woken goes at its deadline, and the item is due after that; but where the machine is slow it takes it. Or it is popped instead by a
-   call that never waits. */
-static void who_is_late_wakes_another(pq_member *member, pq_member *other, pq_member *third) {
-    const uint64_t until = in_ms(30);
-    pq_item item;
-    begin(0, member);
-    sleep_ms(5);
-    push(third, until + 30 * MS, 1);
-    if (pq_take_due(other, &item, until, NULL) == PQ_OK) {
-        push(third, 0, 1);
-    }
-    CHECK(end(0) == 1);
-}
-
-static void *take_any(void *member) {
-    pq_item item;
-    CHECK(pq_take((pq_member *)member, &item, in_ms(60000), NULL) == PQ_OK && item.value == 2);
-    return NULL;
-}
-
-static void notify(void *context) {
-    ++*(int *)context;
-}
-
-/* One waits for what is due, and one after it for any item: a push of an item that is due much later wakes that one, or notifies it. */
-static void who_takes_any_item_is_woken(pq_member *member, pq_member *other, pq_member *third) {
-    const uint64_t begun = pq_now();
-    int notified = 0;
-    pq_item item;
-    pthread_t thread;
-    begin(0, member);
-    sleep_ms(10);
-    thread = started(take_any, other);
-    sleep_ms(10);
-    push(third, in_ms(600000), 2);
-    ended(thread);
-    CHECK(pq_now() - begun < 30000 * MS);
-    CHECK(pq_take_or_listen(other, UINT64_MAX, &item, NULL, notify, &notified) == PQ_EMPTY);
-    push(third, in_ms(600000), 3);
-    CHECK(notified == 1 && pq_take_or_listen(other, UINT64_MAX, &item, NULL, notify, &notified) == PQ_OK && item.value == 3);
-    push(third, 0, 1);
-    CHECK(end(0) == 1);
 }
 
 enum { MANY = 60, JOBS = 60, AT_ONCE = 3 };
@@ -258,21 +162,6 @@ static void one_of_many_watches(void) {
     pq_journal_free(journal);
 }
 
-/* What is left comes out when it is due, also where a deadline is later. */
-static void one_that_is_shut_gives_what_is_left(pq_queue *queue, pq_member *member, pq_member *other) {
-    const uint64_t due = in_ms(500);
-    pq_item item;
-    push(other, due, 1);
-    push(other, due + 1, 2);
-    begin(0, member);
-    sleep_ms(5);
-    CHECK(pq_shut(queue) == PQ_OK);
-    is_late(other, PQ_NOT_DUE, item_of(due, 1), PQ_FOREVER);
-    CHECK(pq_take_due(other, &item, in_ms(60000), NULL) == PQ_OK && pq_now() >= item.priority && pq_now() < due + 30000 * MS);
-    CHECK(item.value + end(0) == 3);
-    CHECK(pq_take_due(member, &item, PQ_FOREVER, NULL) == PQ_SHUT && pq_take_due(other, &item, in_ms(60000), NULL) == PQ_SHUT);
-}
-
 static void it_is_refused(pq_member *member) {
     pq_queue *full = opened_as(1, PQ_FILLS, 1);
     pq_item item = item_of(9, 9);
@@ -285,8 +174,8 @@ static void it_is_refused(pq_member *member) {
 }
 
 int main(void) {
-    pq_queue *queue = opened(5), *long_queue = opened(1);
-    pq_member *member = joined(queue), *other = joined(queue), *third = joined(queue);
+    pq_queue *queue = opened(2), *long_queue = opened(1);
+    pq_member *member = joined(queue);
     static struct taker long_taker;
     /* It sleeps for more than 2^32 nanoseconds meanwhile. */
     long_taker.member = pq_own(long_queue);
@@ -296,20 +185,11 @@ int main(void) {
     nothing_comes_before_its_time(member);
     nothing_comes_before_its_time(pq_own(queue));
     times_are_those_of_the_options();
-    an_earlier_one_wakes(member, other);
-    an_earlier_one_wakes(pq_own(queue), pq_own(queue));
-    an_earlier_one_is_watched_for(member, other, third);
-    who_goes_wakes_another(member, other, third);
-    who_is_late_wakes_another(member, other, third);
-    who_takes_any_item_is_woken(member, other, third);
     it_is_refused(member);
     one_of_many_watches();
-    one_that_is_shut_gives_what_is_left(queue, member, other);
     ended(long_taker.thread);
     CHECK(long_taker.item.value == UPPER);
     pq_give_back(member);
-    pq_give_back(other);
-    pq_give_back(third);
     close_and_free(queue);
     close_and_free(long_queue);
     return 0;

@@ -1,6 +1,6 @@
 /* pq_take_or_listen and pq_unlisten: a member that finds nothing listens, and is notified once, by the thread that pushes or shuts; one that
-   listens no more is not notified, and leaves its wake to another; PQ_NOT_DUE has the first item; and pq_notify_fd writes to an eventfd. Pushes
-   at each moment of the calls are tried by wakes.c. */
+   listens no more is not notified, and leaves its wake to another; PQ_NOT_DUE has the first item; and pq_notify_fd writes to an eventfd. Schedules of
+   threads tests/explore tries. */
 #include "../wrapped.h"
 
 #include <sys/eventfd.h>
@@ -159,64 +159,6 @@ static void who_goes_leaves_that_to_another(void) {
     close_and_free(queue);
 }
 
-/* One for each push that a round carries out; a push of a batch each. */
-static void two_pushes_notify_two(void) {
-    pq_queue *queue = opened(5);
-    loop loops[2] = { loop_of(queue), loop_of(queue) };
-    pq_member *posting[2] = { joined(queue), joined(queue) }, *third = joined(queue);
-    const pq_item items[2] = { { 1, 1 }, { 1, 2 } };
-    pq_item item;
-    size_t done = 0;
-    for (int batch = 0; batch < 2; batch++) {
-        CHECK(take(&loops[0]) == PQ_EMPTY && take(&loops[1]) == PQ_EMPTY);
-        CHECK(batch || (pq_post(posting[0], PQ_PUSH, items[0]) == PQ_OK && pq_post(posting[1], PQ_PUSH, items[1]) == PQ_OK));
-        CHECK(batch ? pq_push_many(third, items, 2, PQ_FOREVER, &done, NULL) == PQ_OK && done == 2 : pq_combine(third) == PQ_OK);
-        for (int i = 0; i < 2; i++) {
-            CHECK(notified(&loops[i]) == 1 && take(&loops[i]) == PQ_OK && (batch || pq_poll(posting[i], &item, NULL) == PQ_OK));
-        }
-    }
-    for (int i = 0; i < 2; i++) {
-        pq_give_back(loops[i].member);
-        pq_give_back(posting[i]);
-    }
-    pq_give_back(third);
-    close_and_free(queue);
-}
-
-static void *waits_for_what_is_due(void *own) {
-    pq_item item;
-    CHECK(pq_take_due(pq_own((pq_queue *)own), &item, PQ_FOREVER, NULL) == PQ_SHUT);
-    return NULL;
-}
-
-/* The thread is woken too, and can take none of them yet. */
-static void a_batch_notifies_each_beside_a_thread(void) {
-    enum { MANY = 3 };
-    const uint64_t late = in_ms(3600000);
-    const pq_item items[MANY] = { { late, 1 }, { late, 2 }, { late, 3 } };
-    pq_queue *queue = opened(MANY + 2);
-    loop loops[MANY] = { loop_of(queue), loop_of(queue), loop_of(queue) };
-    pthread_t thread = started(waits_for_what_is_due, queue);
-    size_t done = 0;
-    sleep_ms(50);
-    for (int i = 0; i < MANY; i++) {
-        CHECK(take(&loops[i]) == PQ_EMPTY);
-    }
-    CHECK(pq_push_many(pq_own(queue), items, MANY, PQ_FOREVER, &done, NULL) == PQ_OK && done == MANY);
-    for (int i = 0; i < MANY; i++) {
-        while (!is_set(&loops[i].notified)) {
-            sleep_ms(1);
-        }
-        CHECK(take(&loops[i]) == PQ_OK);
-    }
-    for (int i = 0; i < MANY; i++) {
-        pq_give_back(loops[i].member);
-    }
-    CHECK(pq_shut(queue) == PQ_OK);
-    ended(thread);
-    close_and_free(queue);
-}
-
 /* It is notified where the queue is shut, and where the last item goes that was not due. */
 static void the_end_notifies(void) {
     pq_queue *queue = opened(3);
@@ -322,8 +264,6 @@ int main(void) {
     what_is_not_due_stays();
     who_listens_no_more_is_not_notified();
     who_goes_leaves_that_to_another();
-    two_pushes_notify_two();
-    a_batch_notifies_each_beside_a_thread();
     the_end_notifies();
     it_is_refused();
     one_listens_by_pq_own();

@@ -1,5 +1,5 @@
 /* Own members: more threads than members call by pq_own. A thread's member goes to others while the thread doesn't use it, when the thread
-   ends or leaves, and when the queue is closed; not while it is in a call, or has posted a request, or listens. */
+   ends or leaves; not while it has posted a request, or listens. Calls at any moment, and closing, tests/explore tries. */
 #include "refused.h"
 #include "system_calls.h"
 
@@ -7,9 +7,9 @@ enum { MEMBERS = 2, THREADS = 200, EACH = 50, COMING = 10000, PLACES = 2080 };
 
 static pq_queue *queue;
 
-static int sleeps, has_barriers, refuses_barriers;
+static int sleeps;
 
-/* The library's sleeps come here, and its barriers in all threads. */
+/* The library's sleeps come here. */
 long __wrap_syscall(long number, ...) {
     va_list words;
     long of[6];
@@ -17,13 +17,6 @@ long __wrap_syscall(long number, ...) {
     read_words(words, of);
     va_end(words);
     set(&sleeps, is_set(&sleeps) || (number == SYS_futex && (of[1] & FUTEX_CMD_MASK) == FUTEX_WAIT_BITSET));
-    if (number == SYS_membarrier && refuses_barriers) {
-        return -1;
-    }
-    if (number == SYS_membarrier) {
-        has_barriers = __real_syscall(number, of[0], of[1], of[2]) == 0;
-        return has_barriers ? 0 : -1;
-    }
     return __real_syscall(number, of[0], of[1], of[2], of[3], of[4], of[5]);
 }
 
@@ -241,65 +234,6 @@ static void members_that_are_in_use_are_kept(void) {
     close_and_free(queue);
 }
 
-static void *takes(void *until) {
-    pq_item item;
-    return pq_take(pq_own(queue), &item, *(const uint64_t *)until, NULL) == PQ_OK ? NULL : until;
-}
-
-/* One is in a call: the queue is not closed. Once it is idle, though its thread goes on, it is. */
-static void a_close_takes_idle_ones_back(void) {
-    uint64_t until = PQ_FOREVER;
-    pq_journal *journal = (pq_journal *)&until;
-    helper other;
-    queue = opened(3);
-    begins(&other);
-    does(&other, pushes_one);
-    pushes_one();
-    CHECK(ended(started(takes, &until)) == NULL && ended(started(takes, &until)) == NULL);
-    pthread_t thread = sleeping(takes, &until);
-    for (int i = 0; i < 3; i++) {
-        CHECK(pq_close(queue, &journal) == PQ_MEMBERS_LEFT && journal == NULL);
-        sleep_ms(1);
-    }
-    pushes_one();
-    CHECK(ended(thread) == NULL && pq_close(queue, &journal) == PQ_OK && pq_count(journal, NULL) == 6);
-    does(&other, has_none);
-    pq_free(queue, NULL, NULL);
-    pq_journal_free(journal);
-    ends(&other);
-}
-
-/* When the last of them had it. */
-static uint64_t got;
-
-static void *waits_for_a_member(void *unused) {
-    pq_item item;
-    sleep_ms(1);
-    CHECK(pq_pop(pq_own(queue), &item, PQ_FOREVER, NULL) == PQ_EMPTY);
-    __atomic_store_n(&got, pq_now(), __ATOMIC_RELAXED);
-    return unused;
-}
-
-/* Threads wait for the only member until it is given back, or a call by it ends; and have it then, long before they would try again. */
-static void calls_wait_for_members(int is_joined) {
-    uint64_t best = PQ_FOREVER, until;
-    pq_item item;
-    queue = opened(1);
-    for (int i = 0; i < 20; i++) {
-        pq_member *member = is_joined ? joined(queue) : pq_own(queue);
-        pthread_t one = started(waits_for_a_member, NULL), other = started(waits_for_a_member, NULL);
-        until = in_ms(4);
-        pq_code code = pq_take(member, &item, until, NULL);
-        CHECK((code == PQ_EMPTY || (code == PQ_TIMED_OUT && !is_joined)) && pq_now() >= until);
-        pq_give_back(is_joined ? member : NULL);
-        ended(one);
-        ended(other);
-        best = got - until < best ? got - until : best;
-    }
-    CHECK(best < 5000000);
-    close_and_free(queue);
-}
-
 /* The queue at this address is another one. */
 static void a_new_queue_is_not_taken_for_a_freed_one(void) {
     helper other;
@@ -390,38 +324,11 @@ static void threads_call_while_they_end(void) {
     pq_journal_free(journal);
 }
 
-/* The system refuses the barrier by which a thread sees that a member is idle: then it takes none over. */
-static void without_a_barrier_no_member_is_taken_over(void) {
-    helper other;
-    pq_member *member = NULL;
-    queue = opened(1);
-    refuses_barriers = has_barriers;
-    begins(&other);
-    does(&other, pushes_one);
-    if (refuses_barriers) {
-        CHECK(pq_join(queue, PQ_NOW, &member) == PQ_ALL_JOINED && pq_close(queue, NULL) == PQ_MEMBERS_LEFT);
-        refuses_barriers = 0;
-    }
-    CHECK(pq_join(queue, PQ_NOW, &member) == PQ_OK);
-    does(&other, has_none);
-    pq_give_back(member);
-    ends(&other);
-    /* For the thread's own none is needed. */
-    pushes_one();
-    refuses_barriers = has_barriers;
-    close_and_free(queue);
-    refuses_barriers = 0;
-}
-
 int main(void) {
     many_threads_share_two_members();
     thousands_come_and_go();
     idle_members_are_taken_over();
-    without_a_barrier_no_member_is_taken_over();
     members_that_are_in_use_are_kept();
-    a_close_takes_idle_ones_back();
-    calls_wait_for_members(1);
-    calls_wait_for_members(0);
     a_new_queue_is_not_taken_for_a_freed_one();
     a_queue_is_freed_while_it_is_called();
     threads_call_while_they_end();

@@ -53,37 +53,6 @@ static void a_posted_push_is_not_lost(void) {
     close_and_free(queue);
 }
 
-struct taker {
-    pq_queue *queue;
-    uint64_t until;
-};
-
-static void *takes_what_is_due(void *own) {
-    const struct taker *it = (const struct taker *)own;
-    pq_item item;
-    CHECK(pq_take_due(pq_own(it->queue), &item, it->until, NULL) == PQ_SHUT);
-    return NULL;
-}
-
-/* The last item goes by a posted pop, whose member was given back. A take carries that out at its deadline, and wakes the thread that waits for the
-   item to be due. */
-static void who_finds_the_end_tells_others(void) {
-    pq_queue *queue = opened(3);
-    pq_member *poster = joined(queue);
-    pq_item item = item_of(in_ms(3600000), 1);
-    struct taker late = { queue, PQ_FOREVER }, soon = { queue, in_ms(getenv("SLOWLY") != NULL ? 3000 : 300) };
-    pthread_t threads[2];
-    CHECK(pq_push(poster, item, PQ_FOREVER, NULL) == PQ_OK && pq_shut(queue) == PQ_OK);
-    threads[0] = started(takes_what_is_due, &late);
-    threads[1] = started(takes_what_is_due, &soon);
-    sleep_ms(50);
-    CHECK(pq_post(poster, PQ_POP, item) == PQ_OK);
-    pq_give_back(poster);
-    ended(threads[1]);
-    ended(threads[0]);
-    close_and_free(queue);
-}
-
 enum { SIDES = 8 };
 static pq_queue *shared;
 static int by_own;
@@ -158,7 +127,6 @@ int main(void) {
     alarm(200);
     pushes_are_refused();
     a_posted_push_is_not_lost();
-    who_finds_the_end_tells_others();
     /* They sleep, and nobody pushes. */
     no_item_is_lost(0, 20);
     for (int i = 0; i < rounds; i++) {

@@ -57,7 +57,7 @@ typedef enum pq_code {
     PQ_EXHAUSTED = 11,    /* the member has made all its requests: 2^56, or 2^24 - 1 where the journal fills */
     PQ_NOT_WRITTEN = 31,  /* a write failed */
     PQ_MEMBERS_LEFT = 40, /* a member was not given back, or is in a call */
-    PQ_ALL_JOINED = 41,   /* as many members are in use as the queue was opened for */
+    PQ_ALL_JOINED = 41,   /* as many members are in use as the queue was opened for, or this one is the last awake */
     PQ_NO_MEMBER = 42,    /* the member is NULL */
     PQ_PENDING = 43,      /* the request that the member posted has no answer yet */
     PQ_NOT_PENDING = 44,  /* the member has posted no request */
@@ -131,17 +131,17 @@ pq_code pq_shut(pq_queue *queue);
    PQ_OK; PQ_MEMBERS_LEFT, PQ_NO_MEMORY: the queue stays open; PQ_CLOSED, PQ_FORKED. */
 PQ_CHECKED pq_code pq_close(pq_queue *queue, pq_journal **journal);
 
-/* Frees the queue, closed or not: the program must not use the pointer any more. Memory is freed once joined members are given back, calls have
+/* Frees the queue, closed or not, or NULL. The program must not use it any more. Memory is freed once joined members are given back, calls have
    returned, and threads that listen or have posted by pq_own have ended. Then `left`, unless it is NULL, is called with each item that was left, in
-   the thread that frees the memory; its calls by `queue` return PQ_CLOSED. queue may be NULL. No thread that waits is woken: shut it first. */
+   the thread that frees the memory; calls that `left` makes by `queue` return PQ_CLOSED. No thread that waits is woken: shut the queue first. */
 void pq_free(pq_queue *queue, void (*left)(void *context, pq_item item), void *context);
 
 /* Members. */
 
 /* The calling thread's own member, as a pointer that all threads may share. A thread gets its member at its first call, and gives it back when
    it ends. Where all members are in use, a call takes over one that its thread does not use, or waits for one until its `until`. So more
-   threads than members may call. A thread that waits for an item, or for room, keeps its member meanwhile. So open a queue for more members
-   than threads that wait: else the call that would end their wait may itself wait for ever. */
+   threads than members may call, and wait for an item (pq_take). A thread that waits for room keeps its member. So open a queue with a bound
+   for more members than threads that wait for room: else the take that would end their wait may itself wait for ever. */
 pq_member *pq_own(pq_queue *queue);
 
 /* Gives the calling thread's own member back now, if the thread has one. */
@@ -178,7 +178,8 @@ PQ_CHECKED pq_code pq_peek(pq_member *member, pq_item *item, uint64_t until, uin
 PQ_CHECKED pq_code pq_pop_due(pq_member *member, uint64_t priority, pq_item *item, uint64_t until, uint64_t *number);
 
 /* Waits for an item, and takes the first one out. PQ_OK; PQ_EMPTY: none came until then; PQ_SHUT: the queue is shut and empty. Only PQ_OK has an
-   entry. With PQ_NOW or a deadline that is past it returns PQ_EMPTY also if the queue is shut; so does pq_take_due. */
+   entry. With PQ_NOW or a deadline that is past it returns PQ_EMPTY also if the queue is shut; so does pq_take_due. A thread that waits keeps
+   its member. But of two or more that are not joined one stays awake for other calls: by pq_own a thread then waits without a member. */
 PQ_CHECKED pq_code pq_take(pq_member *member, pq_item *item, uint64_t until, uint64_t *number);
 
 /* Waits until the first item is due, also in a shut queue, and takes it out. Priorities are times (pq_options); by default those of pq_now.
@@ -209,8 +210,7 @@ PQ_CHECKED pq_code pq_reschedule(pq_member *member, uint64_t ticket, uint64_t pr
 /* For programs that never wait: post a request, and poll for its answer. Until then a thread that posts by pq_own keeps its member. */
 enum pq_request { PQ_PUSH = 0, PQ_POP = 1, PQ_PEEK = 2, PQ_REMOVE = 3, PQ_RESCHEDULE = 4 };
 
-/* Posts a push, a pop or a peek, for the next thread that combines. PQ_OK; PQ_SHUT; PQ_BAD_REQUEST, also for a push where the number of
-   items is bounded. */
+/* Posts a push, a pop or a peek, for the next thread that combines. PQ_OK; PQ_SHUT; PQ_BAD_REQUEST, also for a push to a queue with a bound. */
 PQ_CHECKED pq_code pq_post(pq_member *member, uint32_t request, pq_item item);
 
 /* Polls for the answer to the posted request: what its call would have returned; PQ_PENDING: none yet; PQ_NOT_PENDING. */
@@ -219,7 +219,7 @@ PQ_CHECKED pq_code pq_poll(pq_member *member, pq_item *item, uint64_t *number);
 /* Carries out the requests that members have posted. PQ_OK; PQ_TIMED_OUT: another thread has the lock. */
 pq_code pq_combine(pq_member *member);
 
-/* For event loops and futures. A thread that listens by pq_own keeps its member meanwhile. */
+/* For event loops and futures. A thread that listens by pq_own keeps its member. The last that is awake (pq_take) doesn't listen: PQ_ALL_JOINED. */
 
 /* Takes the first item out if it is due (pq_take_due); else the member listens by `timer`, a timerfd of CLOCK_MONOTONIC that no other member
    has. It is readable once the first item is due, when an earlier one comes, on a shut, or sometimes for nothing: then call again, while this

@@ -45,6 +45,7 @@ struct pq_member {
     uint32_t has_left;     /* its last take_or_listen that looked found an item */
     uint32_t drains;       /* it listens, and is counted in `concerned`: for what is left in a shut queue */
     uint32_t looks;        /* it listens, and its call still looks: that call does not notify it */
+    uint32_t sleeps_as;    /* it listens, and is counted so in `sleepers` */
     pq_member *next;       /* of those that are in no use */
     waiter waits;
 } __attribute__((aligned(128)));
@@ -85,6 +86,7 @@ struct pq_queue {
     uint32_t concerned;  /* whom it concerns that an item was taken: DRAIN of each that waits for what is left in a shut queue, and PRODUCER of
                             each that waits for room */
     uint32_t is_shut;
+    uint32_t members; /* how many there may be */
 
     /* Members, under their lock. */
     uint32_t is_closed __attribute__((aligned(64)));
@@ -92,7 +94,8 @@ struct pq_queue {
     uint32_t is_ending; /* a thread frees its memory; the function `left` may call it meanwhile */
     uint32_t is_marked; /* the records of the queue are WANTED */
     uint32_t out;       /* members in use */
-    uint32_t staying;   /* threads for which its memory stays: they wait until an entry is archived, shut it, or wake others */
+    uint32_t staying;   /* threads for which its memory stays: they wait until an entry is archived, or until they may sleep, shut it, or wake
+                           others */
     pq_member *spare;   /* members in no use */
     own *owns;
     wanting *first, **end;
@@ -108,6 +111,10 @@ struct pq_queue {
     uint64_t owed;    /* wakes that are owed, the one that is on its way among them */
     uint32_t on_way;  /* a thread was woken, and has not settled that yet */
     uint64_t watched; /* until when a thread sleeps that watches for what is due; 0: none does */
+    uint32_t sleepers; /* OWN_SLEEPS or JOINED_SLEEPS of each member that sleeps, and IS_JOINED of each that was joined. This and the next two need no
+                          lock. */
+    uint32_t turns;    /* how often one of those that wait without a member may go on: they sleep at it */
+    uint32_t eager;    /* threads that take any item, and so wait or did so in this call */
     uint64_t incoming __attribute__((aligned(64))); /* wakes that are owed, and not in `owed` yet. It needs no lock. */
     uint64_t earliest;    /* an item may be due then, for which alarms are to be rung; PQ_FOREVER: none. It needs no lock. */
     uint32_t alarm_count; /* of the list above. It needs no lock. */
@@ -119,6 +126,7 @@ struct pq_queue {
 };
 
 enum { DRAIN = 1, PRODUCER = 1 << 16 };
+enum { OWN_SLEEPS = 1, JOINED_SLEEPS = 1 << 8, IS_JOINED = 1 << 16 };
 enum { NONE_SAID = 0, SAID = 1, HEARD = 2 };
 
 /* How far apart a thread's calls are: by that a call decides whether it spins (calls.c). Times are nanoseconds. */
@@ -189,6 +197,9 @@ HIDDEN int flatpq_take_back(pq_queue *queue);
 HIDDEN pq_code flatpq_begin_own(pq_member *shared, uint64_t until, own **mine);
 HIDDEN void flatpq_end_own(own *mine);
 HIDDEN int flatpq_has_own(const pq_member *shared);
+HIDDEN uint32_t flatpq_may_sleep(pq_queue *queue, uint32_t as, int listens); /* counts it so, and returns this; or 0 */
+HIDDEN void flatpq_count_awake(pq_queue *queue, uint32_t as);
+HIDDEN void flatpq_call(pq_queue *queue, const uint32_t *count); /* those that wait without a member, if this counts any */
 
 INLINE void flatpq_fence(uint32_t special) {
     if (LIKELY((special & FENCES) == 0)) {
@@ -324,6 +335,7 @@ typedef struct wait {
     pq_member *member;
     uint64_t until;
     core_answer *answer;
+    int is_due;    /* it takes only what is due */
     int is_listed; /* the member is in its list */
     int is_shut;   /* the queue was shut when it was put there */
     int was_woken; /* it was woken, and settles that after its next look */
@@ -331,6 +343,9 @@ typedef struct wait {
     int has_slept;
     int is_notified; /* the call began to listen, and was notified meanwhile */
     uint64_t owed; /* the wakes that were owed before it looks */
+    own *mine;
+    uint32_t sleeps_as; /* it is counted so in `sleepers` */
+    int stays;          /* it is counted in `staying`, and in `eager` where it takes any item */
 } wait;
 
 /* Puts the member into its list, before a step. */

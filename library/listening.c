@@ -29,6 +29,7 @@ static int end_listening(pq_member *member) {
     if (member->keeps & LISTENS) {
         was_notified = flatpq_end_wait(member);
         member->keeps &= ~(uint32_t)LISTENS;
+        flatpq_count_awake(member->queue, member->sleeps_as);
         if (member->drains) {
             __atomic_fetch_sub(&member->queue->concerned, DRAIN, SEQ);
         }
@@ -52,13 +53,22 @@ static pq_code look(wait *it, uint64_t priority) {
         __atomic_fetch_add(&member->queue->concerned, DRAIN, SEQ);
     }
     code = flatpq_step_take_at_once(member, priority, it->answer);
+    if (code == PQ_NOT_DUE) {
+        flatpq_call(member->queue, &member->queue->staying);
+    }
     return code == PQ_EMPTY && it->is_shut ? PQ_TIMED_OUT : code;
 }
 
-/* Has the member listen in this list, and look: it listens no more where that found an item to take, or was refused. */
+/* Has the member listen in this list, and look: it listens no more where that found an item to take, or was refused. The last member that is
+   awake does not listen. */
 static pq_code listen(wait *it, waiters *list, uint64_t priority, void (*notify)(void *context), void *context) {
     pq_member *member = it->member;
     pq_code code;
+    member->sleeps_as = flatpq_may_sleep(member->queue, it->mine != NULL ? OWN_SLEEPS : JOINED_SLEEPS, 1);
+    if (member->sleeps_as == 0) {
+        return PQ_ALL_JOINED;
+    }
+    __atomic_fetch_add(&member->queue->alarm_count, list == &member->queue->alarms, SEQ);
     member->waits.list = list;
     member->waits.priority = priority;
     member->waits.armed = PQ_FOREVER;
@@ -99,15 +109,13 @@ static pq_code take_or_listen(wait *it, uint64_t priority, void (*notify)(void *
 
 pq_code pq_take_or_listen(pq_member *member, uint64_t priority, pq_item *item, uint64_t *number, void (*notify)(void *context), void *context) {
     core_answer answer;
-    wait it = { NULL, PQ_NOW, &answer, 0, 0, 0, 0, 0, 0, 0 };
-    own *mine;
-    pq_code code = flatpq_begin(&member, PQ_NOW, &mine);
+    wait it = { member, PQ_NOW, &answer, 0, 0, 0, 0, 0, 0, 0, 0, NULL, 0, 0 };
+    pq_code code = flatpq_begin(&it.member, PQ_NOW, &it.mine);
     if (code != PQ_OK) {
         return code;
     }
-    it.member = member;
     code = take_or_listen(&it, priority, notify, context);
-    flatpq_end_keeping(mine, member);
+    flatpq_end_keeping(it.mine, it.member);
     if (code == PQ_TIMED_OUT) {
         /* Another thread had the lock for long: this call is to be made again. */
         if (!it.is_notified) {
@@ -160,7 +168,6 @@ static pq_code take_due_or_listen(wait *it, int timer) {
     flatpq_unlisten(member);
     code = flatpq_take_first_at_once(member, priority, it->answer);
     if (code == PQ_EMPTY || code == PQ_NOT_DUE) {
-        __atomic_fetch_add(&queue->alarm_count, 1, SEQ);
         code = listen(it, &queue->alarms, priority, ring, (void *)(intptr_t)timer);
     }
     if (code == PQ_EMPTY || code == PQ_NOT_DUE) {
@@ -178,13 +185,11 @@ static pq_code take_due_or_listen(wait *it, int timer) {
 
 pq_code pq_take_due_or_listen(pq_member *member, int timer, pq_item *item, uint64_t *number) {
     core_answer answer;
-    wait it = { NULL, PQ_NOW, &answer, 0, 0, 0, 0, 0, 0, 0 };
-    own *mine;
-    pq_code code = flatpq_begin(&member, PQ_NOW, &mine);
+    wait it = { member, PQ_NOW, &answer, 0, 0, 0, 0, 0, 0, 0, 0, NULL, 0, 0 };
+    pq_code code = flatpq_begin(&it.member, PQ_NOW, &it.mine);
     if (code == PQ_OK) {
-        it.member = member;
         code = take_due_or_listen(&it, timer);
-        flatpq_end_keeping(mine, member);
+        flatpq_end_keeping(it.mine, it.member);
         flatpq_return_first(code, &answer, item, number);
     }
     return code;

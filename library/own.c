@@ -288,6 +288,45 @@ COLD void flatpq_end_own(own *it) {
     flatpq_unlock(queue);
 }
 
+/*
+ * Members that sleep: their threads wait for an item, or they listen. One member stays awake, so that calls which end get it, and of several that
+ * are not joined one of these. A thread that waits by a joined member keeps that anyway, and so sleeps as it likes.
+ */
+
+static int may_sleep(const pq_queue *queue, uint32_t seen, uint32_t as, int listens) {
+    uint32_t own = seen % JOINED_SLEEPS, asleep = own + seen % IS_JOINED / JOINED_SLEEPS, kept = own + seen / IS_JOINED;
+    if (queue->members == 1 || (as == JOINED_SLEEPS && !listens)) {
+        return 1;
+    }
+    return asleep + 1 < queue->members && (as == JOINED_SLEEPS || own == 0 || kept + 1 < queue->members);
+}
+
+uint32_t flatpq_may_sleep(pq_queue *queue, uint32_t as, int listens) {
+    uint32_t seen = __atomic_load_n(&queue->sleepers, SEQ);
+    while (may_sleep(queue, seen, as, listens)) {
+        if (__atomic_compare_exchange_n(&queue->sleepers, &seen, seen + as, 0, SEQ, SEQ)) {
+            return as;
+        }
+    }
+    return 0;
+}
+
+/* One that waits without a member goes on, and passes this on where it doesn't sleep then. */
+void flatpq_count_awake(pq_queue *queue, uint32_t as) {
+    __atomic_fetch_sub(&queue->sleepers, as, SEQ);
+    if (__atomic_load_n(&queue->staying, SEQ) > 0) {
+        __atomic_fetch_add(&queue->turns, 1, SEQ);
+        flatpq_wake(&queue->turns);
+    }
+}
+
+void flatpq_call(pq_queue *queue, const uint32_t *count) {
+    if (__atomic_load_n(count, SEQ) > 0) {
+        __atomic_fetch_add(&queue->turns, 1, SEQ);
+        flatpq_wake_each(&queue->turns);
+    }
+}
+
 pq_member *pq_own(pq_queue *queue) {
     return &queue->own;
 }

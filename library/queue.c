@@ -52,6 +52,7 @@ pq_code pq_open(const pq_options *options, pq_queue **queue) {
     made->time_unit = asked->time_unit != 0 ? asked->time_unit : 1;
     made->most_items = asked->most_items;
     made->fills = asked->keeping == PQ_FILLS;
+    made->members = members;
     made->earliest = PQ_FOREVER;
     made->own.queue = made;
     made->own.is_shared = 1;
@@ -272,8 +273,13 @@ pq_code flatpq_get_member(pq_queue *queue, uint64_t until, own *record, pq_membe
  */
 
 pq_code pq_join(pq_queue *queue, uint64_t until, pq_member **member) {
+    pq_code code;
     *member = NULL;
-    return flatpq_special & FORKED ? PQ_FORKED : flatpq_get_member(queue, until, NULL, member);
+    code = flatpq_special & FORKED ? PQ_FORKED : flatpq_get_member(queue, until, NULL, member);
+    if (code == PQ_OK) {
+        __atomic_fetch_add(&queue->sleepers, IS_JOINED, SEQ);
+    }
+    return code;
 }
 
 void pq_give_back(pq_member *member) {
@@ -287,6 +293,7 @@ void pq_give_back(pq_member *member) {
         return;
     }
     flatpq_unlisten(member);
+    flatpq_count_awake(queue, IS_JOINED);
     pthread_mutex_lock(&flatpq_members);
     flatpq_give_back(queue, member);
     flatpq_unlock(queue);

@@ -16,6 +16,11 @@
  * wake owed. Threads that take any item are woken first. Where none sleeps a thread that takes what is due is woken, and a member that listens
  * is notified. One that was woken, and finds an item that it can't take yet, notifies another that can.
  *
+ * Not every member sleeps (own.c). A thread whose member has to stay awake counts itself, reads `turns`, looks, gives its member away, and sleeps
+ * until `turns` changes. All others that sleep were announced before they looked. So a push before that thread's look is found by the look, and a
+ * later one owes a wake. Where no taker of any item is woken for it, all that wait without a member are called. So they are where a member
+ * looks, after such a push, and finds an item that it can't take. A member that sleeps no more calls one of them.
+ *
  * A member that is to be woken is first taken out of its list. It is WAKING until the waking thread is done with it, and waits for that.
  * So notify never runs after a call that ended the listening. No lock is held while notify runs.
  *
@@ -28,6 +33,10 @@
 
 static int goes_on(const wait *it, pq_code code) {
     return (code == PQ_EMPTY || code == PQ_NOT_DUE) && !it->is_over;
+}
+
+static int may_sleep(const wait *it, pq_code code) {
+    return goes_on(it, code) && it->sleeps_as != 0;
 }
 
 /* After a look that came to this code. Where the first item is not due, another may take it. */
@@ -102,13 +111,17 @@ static void leave(wait *it) {
 
 /* Looks, takes the first item out up to this priority, and settles: by a step where the member is in its list. Where the lock is held until the
    deadline it tries some times more. An item that became due meanwhile is not left: the wait goes on. */
-static pq_code look(wait *it, uint64_t priority) {
+static pq_code look(wait *it) {
     pq_member *member = it->member;
+    uint64_t priority = it->is_due ? flatpq_due_now(member->queue) : UINT64_MAX;
     pq_code code = it->is_listed ? flatpq_step_take(member, priority, it->until, it->answer) : flatpq_take_first(member, priority, it->until, it->answer);
     if (code == PQ_TIMED_OUT) {
         code = it->is_listed ? flatpq_step_take_at_once(member, priority, it->answer) : flatpq_take_first_at_once(member, priority, it->answer);
     }
     settle(it, code);
+    if (it->sleeps_as != 0 && code == PQ_NOT_DUE) {
+        flatpq_call(member->queue, &member->queue->eager);
+    }
     if (code == PQ_EMPTY || (code == PQ_NOT_DUE && it->answer->item.priority > flatpq_due_now(member->queue))) {
         it->is_over = flatpq_is_late(it->until);
     }
@@ -131,6 +144,52 @@ static void end_wait(wait *it) {
     it->is_listed = 0;
 }
 
+/* The member has to stay awake. Its thread counts itself before it reads `turns`, and then looks. */
+static void stay_without(wait *it) {
+    pq_queue *queue = it->member->queue;
+    it->stays = 1;
+    __atomic_fetch_add(&queue->eager, !it->is_due, SEQ);
+    flatpq_count_staying(queue, 1);
+}
+
+/* It gives its member away, which others may take over, and waits for its turn without one; or until the first item is due, if none watches for
+   that. */
+static pq_code wait_without(wait *it, uint32_t turn, pq_code code) {
+    pq_queue *queue = it->member->queue;
+    uint64_t due = code == PQ_NOT_DUE ? flatpq_due_time(queue, it->answer->item.priority) : PQ_FOREVER;
+    pq_code begun;
+    flatpq_lock_lists(queue);
+    due = queue->watched == 0 || due < queue->watched ? due : PQ_FOREVER;
+    flatpq_unlock_lists(queue);
+    flatpq_end_keeping(it->mine, it->member);
+    flatpq_sleep(&queue->turns, turn, due < it->until ? due : it->until);
+    it->member = &queue->own;
+    begun = flatpq_begin(&it->member, it->until, &it->mine);
+    return begun == PQ_OK ? code : begun;
+}
+
+/* Goes on with a wait whose first look came to this code. */
+static COLD pq_code go_on(wait *it, pq_code code, pq_code (*looks_or_sleeps)(wait *it)) {
+    pq_queue *queue = it->member->queue;
+    while (goes_on(it, code)) {
+        uint32_t turn = __atomic_load_n(&queue->turns, SEQ);
+        if (it->sleeps_as == 0) {
+            it->sleeps_as = flatpq_may_sleep(queue, it->mine != NULL ? OWN_SLEEPS : JOINED_SLEEPS, 0);
+        }
+        if (it->sleeps_as == 0 && !it->stays) {
+            stay_without(it);
+            continue;
+        }
+        it->member->waits.list = it->is_due ? &queue->timers : &queue->takers;
+        code = looks_or_sleeps(it);
+        if (it->sleeps_as == 0 && goes_on(it, code) && !it->member->waits.is_woken) {
+            code = wait_without(it, turn, code);
+        }
+    }
+    leave(it);
+    return code;
+}
+
 /*
  * Taking an item.
  */
@@ -138,8 +197,8 @@ static void end_wait(wait *it) {
 static pq_code look_or_sleep(wait *it) {
     pq_code code;
     flatpq_begin_wait(it);
-    code = look(it, UINT64_MAX);
-    if (goes_on(it, code)) {
+    code = look(it);
+    if (may_sleep(it, code)) {
         sleep_until(it, code, PQ_FOREVER);
     }
     end_wait(it);
@@ -147,16 +206,8 @@ static pq_code look_or_sleep(wait *it) {
 }
 
 static pq_code take(wait *it) {
-    pq_code code = look(it, UINT64_MAX);
-    if (!goes_on(it, code)) {
-        return code;
-    }
-    it->member->waits.list = &it->member->queue->takers;
-    while (goes_on(it, code)) {
-        code = look_or_sleep(it);
-    }
-    leave(it);
-    return code;
+    pq_code code = look(it);
+    return goes_on(it, code) ? go_on(it, code, look_or_sleep) : code;
 }
 
 /*
@@ -197,8 +248,8 @@ static void watch(wait *it) {
 }
 
 static pq_code look_or_watch(wait *it) {
-    pq_code code = look(it, flatpq_due_now(it->member->queue));
-    if (goes_on(it, code)) {
+    pq_code code = look(it);
+    if (may_sleep(it, code)) {
         if (code == PQ_NOT_DUE) {
             watch(it);
         } else {
@@ -213,8 +264,8 @@ static pq_code look_last_or_sleep(wait *it) {
     pq_queue *queue = it->member->queue;
     pq_code code;
     __atomic_fetch_add(&queue->concerned, DRAIN, SEQ);
-    code = look(it, flatpq_due_now(queue));
-    if (goes_on(it, code)) {
+    code = look(it);
+    if (may_sleep(it, code)) {
         sleep_until(it, code, flatpq_due_time(queue, it->answer->item.priority));
     }
     __atomic_fetch_sub(&queue->concerned, DRAIN, SEQ);
@@ -230,43 +281,51 @@ static pq_code due_or_sleep(wait *it) {
 }
 
 static pq_code take_due(wait *it) {
-    pq_code code = look(it, flatpq_due_now(it->member->queue));
+    pq_code code = look(it);
     if (!goes_on(it, code)) {
         return code;
     }
-    it->member->waits.list = &it->member->queue->timers;
-    while (goes_on(it, code)) {
-        code = due_or_sleep(it);
-    }
-    leave(it);
+    code = go_on(it, code, due_or_sleep);
     if (code == PQ_OK ? it->has_slept : code != PQ_EMPTY && code != PQ_SHUT) {
         flatpq_owe(it->member->queue, 1);
     }
     return code;
 }
 
-INLINE pq_code wait_by(pq_code (*takes)(wait *), pq_member *member, pq_item *item, uint64_t until, uint64_t *number) {
+/* The thread sleeps no more. The queue may be gone after this. */
+static COLD void end_staying(const wait *it, pq_queue *queue) {
+    flatpq_count_awake(queue, it->sleeps_as);
+    __atomic_fetch_sub(&queue->eager, it->stays && !it->is_due, SEQ);
+    flatpq_end_keeping(it->mine, it->member);
+    if (it->stays) {
+        flatpq_count_staying(queue, UINT32_MAX);
+    }
+}
+
+INLINE pq_code wait_by(int is_due, pq_member *member, pq_item *item, uint64_t until, uint64_t *number) {
     core_answer answer;
-    wait it = { NULL, until, &answer, 0, 0, 0, 0, 0, 0, 0 };
-    own *mine;
-    pq_code code = flatpq_begin(&member, until, &mine);
+    wait it = { member, until, &answer, is_due, 0, 0, 0, 0, 0, 0, 0, NULL, 0, 0 };
+    pq_code code = flatpq_begin(&it.member, until, &it.mine);
     if (code != PQ_OK) {
         return code;
     }
-    it.member = member;
-    if (member->keeps & LISTENS) {
-        flatpq_unlisten(member);
+    if (it.member->keeps & LISTENS) {
+        flatpq_unlisten(it.member);
     }
-    code = takes(&it);
-    flatpq_end_keeping(mine, member);
+    code = is_due ? take_due(&it) : take(&it);
+    if (it.sleeps_as != 0 || it.stays) {
+        end_staying(&it, it.member->queue);
+    } else {
+        flatpq_end_keeping(it.mine, it.member);
+    }
     flatpq_return_first(code, &answer, item, number);
     return code;
 }
 
 pq_code pq_take(pq_member *member, pq_item *item, uint64_t until, uint64_t *number) {
-    return wait_by(take, member, item, until, number);
+    return wait_by(0, member, item, until, number);
 }
 
 pq_code pq_take_due(pq_member *member, pq_item *item, uint64_t until, uint64_t *number) {
-    return wait_by(take_due, member, item, until, number);
+    return wait_by(1, member, item, until, number);
 }

@@ -95,8 +95,9 @@ static waiter *to_wake(pq_queue *queue) {
     flatpq_add_incoming(queue);
     while (queue->owed > 0 && !queue->on_way) {
         waiter *taker = queue->takers.first, *timer = queue->timers.first, *listener = queue->listeners.first;
-        if (taker == NULL && listener != NULL) {
-            found = found_before(listener, found);
+        if (taker == NULL) {
+            found = listener != NULL ? found_before(listener, found) : found;
+            flatpq_call(queue, timer != NULL ? &queue->eager : &queue->staying);
         }
         if (taker != NULL || timer != NULL) {
             found = found_before(taker != NULL ? taker : timer, found);
@@ -234,6 +235,7 @@ void flatpq_pass_on(pq_queue *queue, uint64_t priority) {
 void flatpq_wake_all(pq_queue *queue, waiter *but) {
     waiter *found;
     int stays;
+    flatpq_call(queue, &queue->staying);
     flatpq_lock_lists(queue);
     stays = but != NULL && but->at != NULL;
     if (stays) {

@@ -67,7 +67,8 @@ static pq_code take_by(taking *takes, enum call call, int which, uint64_t until)
     code = takes(used[which], &item, until, &entry);
     check_call_ends(PQ_POP, code, item, code == PQ_OK || call == CALLS ? entry : 0);
     if (call == TAKES_DUE && code == PQ_NOT_DUE && until != PQ_NOW && item.priority <= until && item.priority + late <= now) {
-        fail("a take returns %s at %llu, and the item was due at %llu", pq_code_text(code), (unsigned long long)now, (unsigned long long)item.priority);
+        fail("a take returns %s at %llu, and the item was due at %llu", pq_code_text(code), (unsigned long long)now,
+             (unsigned long long)item.priority);
     }
     return code;
 }

@@ -104,6 +104,7 @@ void scenario_begin(void) {
     char text[MOST_TEXT], *part, *left = copied(text, played.opening);
     opening it = { .options = { .keeping = PQ_FILLS, .entries = 48 } };
     uint32_t joined;
+    (void)flatpq_may_open(); /* it sets these two at first */
     flatpq_special = 0;
     flatpq_may_spin = 1;
     while ((part = strsep(&left, " ")) != NULL) {

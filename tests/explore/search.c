@@ -25,7 +25,7 @@ static struct {
     int chosen, of, is_wanted;
 } choices[MOST_CHOICES];
 static int choice_count, choice_known;
-static uint64_t seed, random_state, points, points_before = 200, change_at[MOST_CHANGES];
+static uint64_t seed, random_state, points, most_points, change_at[MOST_CHANGES];
 static int lowest_priority;
 /* Of a thread that was preempted: its next step, until another step depends on it. */
 static struct {
@@ -102,7 +102,6 @@ static fiber *first_by_priority(void) {
 }
 
 static fiber *choose_at_random(fiber *mine) {
-    points += mine != NULL;
     for (int i = 0; i < MOST_CHANGES && mine != NULL; i++) {
         if (points != change_at[i]) {
             continue;
@@ -140,6 +139,7 @@ fiber *choose_fiber(fiber *mine, const void *at, enum access access, int *choice
     fiber *found[MOST_FIBERS + 1];
     int ready, count, chosen;
     *choice = -1;
+    points += mine != NULL;
     if (is_random) {
         return choose_at_random(mine);
     }
@@ -180,23 +180,31 @@ static void begin_random(void) {
     random_state = seed * 0x2545f4914f6cdd1du + 1;
     has_late_stores = (int)(seed % 2);
     lowest_priority = -1;
-    points = 0;
     for (int i = 0; i < MOST_CHANGES; i++) {
         /* (with fewer changes in most executions) */
-        change_at[i] = (uint64_t)i <= seed % MOST_CHANGES ? 1 + next_random() % points_before : 0;
+        change_at[i] = (uint64_t)i <= seed % MOST_CHANGES ? 1 + next_random() % most_points : 0;
     }
 }
 
 static void play(void) {
     choice_count = preempted = is_redundant = has_late_stores = 0;
+    points = 0;
     memset(waits_with, 0, sizeof waits_with);
     if (is_random) {
         begin_random();
     }
     execute();
-    if (is_random) {
-        points_before = points > 20 ? points : 20;
-    }
+}
+
+/* Random schedules from now on. Among how many points their changes lie is that of the first schedule, so a seed alone says which one it is. */
+static void begin_random_ones(void) {
+    const uint64_t fewest = 20;
+    bound = 0;
+    choice_known = 0;
+    is_random = 0;
+    play();
+    most_points = points > fewest ? points : fewest;
+    is_random = 1;
 }
 
 /* Sets the next schedule: 0 where there is none. */
@@ -227,8 +235,8 @@ static int replay(const char *text) {
         return 1;
     }
     text += length + 1;
-    is_random = *text != 'b';
-    if (is_random) {
+    if (*text != 'b') {
+        begin_random_ones();
         seed = strtoull(text, NULL, 10);
     } else {
         bound = atoi(text + 1);
@@ -264,12 +272,12 @@ static void explore(int most, long random, double most_seconds) {
     while (whole <= most && explore_bound(whole, begun + most_seconds * (random > 0 ? 0.7 : 1), &each, &redundant)) {
         whole++;
     }
-    is_random = 1;
+    begin_random_ones();
     for (; tried < random && seconds() - begun < most_seconds; tried++, seed++) {
         play();
     }
-    printf("%s: all schedules with up to %d preemptions, %ld, of which %ld were cut; %ld at random; %.1f s\n", played.name, whole - 1, each, redundant,
-           tried, seconds() - begun);
+    printf("%s: all schedules with up to %d preemptions, %ld, of which %ld were cut; %ld at random; %.1f s\n", played.name, whole - 1, each,
+           redundant, tried, seconds() - begun);
 }
 
 int main(int count, char **words) {

@@ -3,7 +3,7 @@
 usage: scripts/build library [--prove]
 
 The core becomes one object, out/core.o; what is known of it stands in out/core.o.told. A core that scripts/prove-all left, and that is as
-the sources are, is taken; --prove has scripts/prove-all prove it first. Else it is built without a proof, in half a minute. It then has no
+the sources are, is taken; --prove has scripts/prove-all prove it first. Else it is built without a proof, in under a minute. It then has no
 check at run time if PROVED names these sources and this toolchain, as a proved one has none. The C sources, library/*.c, are compiled and
 joined to the core in a second.
 

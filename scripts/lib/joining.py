@@ -7,6 +7,7 @@ import os
 import re
 import subprocess
 import tempfile
+from concurrent.futures import ThreadPoolExecutor
 
 from tree import TOP, text_of
 
@@ -75,11 +76,11 @@ def join_core(parts, to):
 
 
 def compiled(room, compiles):
-    """Compiles the C sources by these words: the objects."""
-    objects = []
-    for source in sorted(glob.glob(f"{TOP}/library/*.c")):
-        objects.append(f"{room}/{os.path.basename(source)[:-2]}.o")
-        run([*compiles, f"-I{TOP}/include", "-c", source, "-o", objects[-1]])
+    """Compiles the C sources by these words, on all processors: the objects."""
+    sources = sorted(glob.glob(f"{TOP}/library/*.c"))
+    objects = [f"{room}/{os.path.basename(it)[:-2]}.o" for it in sources]
+    with ThreadPoolExecutor(len(os.sched_getaffinity(0))) as pool:
+        list(pool.map(lambda source, to: run([*compiles, f"-I{TOP}/include", "-c", source, "-o", to]), sources, objects))
     return objects
 
 

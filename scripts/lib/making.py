@@ -53,7 +53,7 @@ def alone(made, teller):
 def built(build_of, to, teller, known):
     """Builds something without any proof. Beside it stands what is known of it, and never that of another: it comes last."""
     kit = kit_folder()
-    teller.tell(f"the {teller.what} is built without any proof, which takes about half a minute, once")
+    teller.tell(f"the {teller.what} is built without any proof, which takes about a minute, once")
     with emptied(f"{to}.room") as room:
         build, ended = build_of(kit, room), threading.Event()
         threading.Thread(target=teller.repeat, args=(ended, lambda: build.stage, SILENCE), daemon=True).start()
@@ -89,9 +89,11 @@ def proved(teller, crate, made):
             return
         proof = telling.Proof(teller, [f"{TOP}/scripts/prove-all", crate], crate)
         teller.tell(f"the {teller.what} is proved and built, which takes about {telling.minutes()} minutes here from nothing")
-        if proof.make() or not os.path.isfile(made):
+        if proof.make():
             proof.tell_all()
             raise NotBuilt(f"it was not proved, so the {teller.what} was not built")
+        if not sources.is_proved(made):
+            raise NotBuilt("the sources changed while they were proved, so they have to be proved again")
     teller.tell("proved and built")
 
 

@@ -4,8 +4,8 @@ The front end lowers only what a program's main reaches. So in a copy of the cra
 that the crate exports. In the module each call gets its own name, and main goes. The toolchain's clang compiles the module as it does that
 of a proved crate.
 
-The module is that of a proved crate but for steps that the front end adds for `rt try`: checks, traps for what they find, and a fill of
-memory that nobody has written. Where the sources were proved elsewhere no check can fail, and the module is compiled without them."""
+Where the sources were proved elsewhere no check can fail. The core is then compiled without them (scripts/lib/unproved_module.py), and
+takes as many instructions as a proved one, within some percent."""
 import glob
 import os
 import re
@@ -14,7 +14,8 @@ import shutil
 import crate_list
 import joining
 from tree import TOP, text_of
-from unproved import TARGET, Build, NotBuilt, OtherToolchain
+from unproved import TARGET, Build, NotBuilt
+from unproved_module import without_checks
 
 CRATE = "queue_c"
 EXPORTED = re.compile(r'#\[unsafe\(no_mangle\)\]\npub extern "C" fn (\w+)\(([^()]*)\)')
@@ -22,10 +23,6 @@ NUMBERS = ("u8", "u16", "u32", "u64", "usize")
 # The call's name in the module has the path of its module.
 PATH_OF_CALL = re.compile(r'@"queue_c::(?:\w+::)*(pq_core_\w+)"')
 BEGINS_CALL = re.compile(r"(?m)^define internal (.*@pq_core_\w+\()")
-# The steps that the front end adds, each in a line, and what of them may not be left.
-FILL = r"llvm\.memset\.p0\.i64\(ptr %r\d+, i8 -86, i64 \d+, i1 false\)"
-ADDED = re.compile(rf'(?m)^  call void @("rattle-llvm-checks::\w+"\(i8 [^()]*\)|llvm\.trap\(\)|{FILL})\n')
-IS_ADDED = re.compile(r'call [^@\n]*@("rattle-llvm-checks::|llvm\.trap\(|llvm\.memset\.p0\.i64\(ptr %\w+, i8 -86)')
 # How the front end has the module compiled and how a proved one is, whose code is for another processor and keeps no frame pointers.
 CHECKED_WORDS, WORDS = ("-fPIE", "-O0", "-fsanitize=address"), ("-fPIC", "-O3")
 ATTRIBUTES = {'sanitize_address "frame-pointer"="all"': "nounwind", '"target-cpu"="x86-64"': '"target-cpu"="x86-64-v2"'}
@@ -105,8 +102,8 @@ class CoreBuild(Build):
     def copy(self):
         """Copies the crates that queue_c stands on, but for proofs, and makes it a program. What is read-only here is not in the copy."""
         names = crate_list.with_below([CRATE])
-        files = [it for name in names for part in ("src", "specs") for it in glob.glob(f"crates/{name}/{part}/**", root_dir=TOP, recursive=True)]
-        for it in files:
+        folders = [f"crates/{name}/{part}" for name in names for part in ("src", "specs")]
+        for it in [it for folder in folders for it in glob.glob(f"{folder}/**", root_dir=TOP, recursive=True)]:
             if os.path.isfile(f"{TOP}/{it}"):
                 os.makedirs(os.path.dirname(f"{self.top}/{it}"), exist_ok=True)
                 shutil.copyfile(f"{TOP}/{it}", f"{self.top}/{it}")
@@ -128,21 +125,13 @@ class CoreBuild(Build):
             text = text.replace(checked, proved)
         return text.replace("define i32 @main()", "define internal i32 @unused_main()")
 
-    def without_checks(self, text):
-        """Returns the text of the module without the steps that the front end adds."""
-        text, steps = ADDED.subn("", text)
-        left = IS_ADDED.search(text)
-        if left or not steps:
-            raise OtherToolchain(f"its checks have another form: {left[0] if left else 'none is there'}")
-        return text
-
     def code(self, given):
         """Compiles the module: its object, and where it has checks that which tells of one."""
         clang = f"{self.kit}/toolchain/bin/clang"
         self.need([clang, f"--target={TARGET}", "--no-default-config", "-emit-llvm", "-x", "ir", "-S", "module.bc", "-o", "module.ll"])
         text = self.exported(text_of(f"{self.room}/module.ll"))
         with open(f"{self.room}/module.ll", "w", encoding="utf-8") as it:
-            it.write(text if self.has_checks else self.without_checks(text))
+            it.write(text if self.has_checks else without_checks(text))
         words = ["module.ll" if it == "module.bc" else it for it in given if it not in CHECKED_WORDS]
         self.need([clang, *words, *WORDS])
         return ["module.o", *([self.tells_of_a_check()] if self.has_checks else [])]

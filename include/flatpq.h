@@ -40,7 +40,7 @@ extern "C" {
 
 /* The version of this header: 10000 * major + 100 * minor + patch. */
 #define PQ_VERSION_MAJOR 0
-#define PQ_VERSION_MINOR 7
+#define PQ_VERSION_MINOR 8
 #define PQ_VERSION_PATCH 0
 #define PQ_VERSION (10000u * PQ_VERSION_MAJOR + 100u * PQ_VERSION_MINOR + PQ_VERSION_PATCH)
 

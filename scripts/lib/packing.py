@@ -156,6 +156,7 @@ def lay_out(library, place):
         copy(file, f"{root}/share/flatpq/examples/{os.path.basename(os.path.dirname(file))}")
     write(f"{root}/share/flatpq/examples/CMakeLists.txt", filled("CMakeLists.txt", words))
     lay_out_crate(library.file, f"{root}/share/flatpq/rust")
+    copy(f"{TOP}/bindings/python/flatpq.py", f"{root}/share/flatpq/python")
     for file in (f"{TOP}/docs/GUIDE.md", f"{TOP}/CHANGELOG.md"):
         copy(file, f"{root}/share/doc/flatpq")
     for name in ("README.md", "PROVED"):

@@ -25,13 +25,13 @@ void proved_begin(void) {
     memset(uses, 0, sizeof uses);
 }
 
-/* No thread uses a member twice in a call while another uses it between. */
+/* No thread uses a member twice in a call while another uses it between, but in one that may give its member up and get it back. */
 static void check_use(const void *handle) {
     int mine = index_of(me), i = 0;
     while (i + 1 < MOST_HANDLES && uses[i].handle != NULL && uses[i].handle != handle) {
         i++;
     }
-    if (me->call == NO_CALL || i + 1 == MOST_HANDLES) {
+    if (me->call == NO_CALL || me->call == TAKES || me->call == TAKES_DUE || i + 1 == MOST_HANDLES) {
         return;
     }
     if (uses[i].handle == handle && uses[i].last != mine && uses[i].call[mine] == me->calls) {

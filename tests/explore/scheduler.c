@@ -15,7 +15,7 @@
 #include <sanitizer/common_interface_defs.h>
 #endif
 
-enum { STACK = 1 << 18, MOST_STEPS = 20000 };
+enum { STACK = 1 << 18, MOST_STEPS = 100000 };
 
 fiber *me, fibers[MOST_FIBERS];
 int fiber_count;
@@ -186,6 +186,7 @@ void block(enum state state, const void *at, uint64_t until) {
     if (mine == NULL) {
         fail("nobody can go on, and the library waits");
     }
+    mine->calls += state == ON_WORD; /* a thread that sleeps may give its member up, and go on by another */
     mine->state = state;
     mine->at = at;
     mine->until = until;

@@ -17,7 +17,7 @@
 #include <time.h>
 #include <unistd.h>
 
-enum { MOST_CHOICES = 20000, MOST_CHANGES = 6 };
+enum { MOST_CHOICES = 100000, MOST_CHANGES = 6 };
 
 int is_random, is_redundant;
 static int bound, preempted;

@@ -21,11 +21,13 @@ use Rattle.std.specs.contracts.prelude.U64PartialEq.TheImpl as wide_equal
 use Rattle.pq_types.specs.contracts.part.U64Part.TheImpl as wide_part
 use Rattle.pq_types.proofs.journal.Line.TheSendSync as line
 use Rattle.pq_book.specs.contracts.entry.Entry as entry
+use Rattle.pq_book.specs.contracts.entry.EntryExact.TheImpl as exactness
 use Rattle.pq_book.specs.contracts.entry.EntryHasTicket.TheImpl as ticketed
 use Rattle.pq_book.specs.contracts.entry.EntryOrd.TheImpl as order
 use Rattle.pq_book.specs.contracts.entry.EntryPartialEq.TheImpl as equality
 use Rattle.pq_book.specs.contracts.entry.EntryPartialOrd.TheImpl as partial_order
 use Rattle.pq_book.proofs.entry.Entry.TheSendSync as entry_sent
+use Rattle.leftist_heap.specs.declared.exact.Exact as Exact
 use Rattle.leftist_heap.specs.declared.store.Store as Store
 use Rattle.leftist_heap.specs.declared.ticket_store.HasTicket as HasTicket
 use Rattle.queue_pool.proofs.pool.Pool.TheSendSync as pool
@@ -66,16 +68,20 @@ compared = equality.ghosts u64 wide_part.ghosts wide_part.dict (clone.ghosts u64
 abbrev half_ordered : PartialOrd.Ghosts row.Denot
 half_ordered = partial_order.ghosts u64 wide_part.ghosts wide_part.dict (clone.ghosts u64) (clone.dict u64) wide_equivalence.ghosts wide_equivalence.dict wide_equal.ghosts wide_equal.dict
 
+-- their ranks
+abbrev ranks : Exact.Ghosts row.Denot
+ranks = exactness.ghosts u64 wide_part.ghosts wide_part.dict (clone.ghosts u64) (clone.dict u64) wide_equivalence.ghosts wide_equivalence.dict wide_equal.ghosts wide_equal.dict
+
 -- their tickets
 abbrev tickets : HasTicket.Ghosts row.Denot
 tickets = ticketed.ghosts u64 wide_part.ghosts wide_part.dict (clone.ghosts u64) (clone.dict u64) wide_equivalence.ghosts wide_equivalence.dict wide_equal.ghosts wide_equal.dict
 
 -- the heap
 abbrev heap_row : RattleType
-heap_row = any_heap.the_row row tickets ordered compared half_ordered
+heap_row = any_heap.the_row row tickets ranks ordered compared half_ordered
 
 heap_sent : IsSend heap_row
-heap_sent = any_heap_sent.the_send row tickets ordered compared half_ordered row_sent
+heap_sent = any_heap_sent.the_send row tickets ranks ordered compared half_ordered row_sent
 
 -- each part whole, since a `search` that goes down through them runs out of steps
 inside_journal_sent : IsSend inside_journal.the_row

@@ -1,11 +1,9 @@
 /* More threads wait for an item, or listen, than a queue has members. One member stays awake, so pushes and counts go on; each item is taken
    by one thread, and each thread ends in time. Without that they hang, and an alarm ends the program. */
 #include "refused.h"
+#include "system_calls.h"
 
-#include <linux/futex.h>
-#include <stdarg.h>
 #include <string.h>
-#include <sys/syscall.h>
 #include <sys/timerfd.h>
 
 enum { MEMBERS = 64, WORKERS = 80, JOBS = 20000, TAKERS = 10, ITEMS = 500, MOST = 128 };
@@ -16,8 +14,6 @@ static pq_queue *queue;
 static uint32_t taken, times[ITEMS];
 static int is_freed;
 
-long __real_syscall(long number, ...);
-long __wrap_syscall(long number, ...);
 static uint32_t asleep;
 static __thread int has_slept;
 
@@ -26,9 +22,7 @@ long __wrap_syscall(long number, ...) {
     va_list words;
     long of[6];
     va_start(words, number);
-    for (int i = 0; i < 6; i++) {
-        of[i] = va_arg(words, long);
-    }
+    read_words(words, of);
     va_end(words);
     if (number == SYS_futex && (of[1] & FUTEX_CMD_MASK) == FUTEX_WAIT_BITSET && !has_slept) {
         has_slept = 1;

@@ -18,6 +18,12 @@ static long moment;
 /* How many other threads sleep, how many wakes the system was asked for, and whether threads that were woken wait before they go on. */
 static int asleep, wakes, is_gated;
 
+static void count_moment(void) {
+    if (is_watched) {
+        moment++;
+    }
+}
+
 static int count_of(const int *count) {
     return __atomic_load_n(count, __ATOMIC_SEQ_CST);
 }
@@ -27,12 +33,12 @@ static void add(int *count, int more) {
 }
 
 int __wrap_clock_gettime(clockid_t clock, struct timespec *time) {
-    moment += is_watched;
+    count_moment();
     return __real_clock_gettime(clock, time);
 }
 
 int __wrap_pthread_mutex_lock(pthread_mutex_t *lock) {
-    moment += is_watched;
+    count_moment();
     return __real_pthread_mutex_lock(lock);
 }
 
@@ -43,7 +49,7 @@ long __wrap_syscall(long number, ...) {
     va_start(rest, number);
     read_words(rest, word);
     va_end(rest);
-    moment += is_watched;
+    count_moment();
     sleeps = number == SYS_futex && (word[1] & FUTEX_CMD_MASK) == FUTEX_WAIT_BITSET;
     add(&wakes, number == SYS_futex && (word[1] & FUTEX_CMD_MASK) == FUTEX_WAKE);
     add(&asleep, sleeps);

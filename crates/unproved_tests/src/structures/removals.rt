@@ -42,10 +42,13 @@ impl<P: Places> Pair<P> {
         }
     }
 
-    // Pushes this item under the next ticket: whether both took it.
+    // Pushes this item under the next ticket: whether both took it. Where all tickets are the same, so are the items of a priority,
+    // as their ranks are.
     fn puts(&mut self, item: Item) -> bool {
         self.last = self.last.saturating_add(self.step);
-        let entry = Entry::of(item, self.last);
+        let priority = item.priority;
+        let value = if self.step == 0 { priority } else { item.value };
+        let entry = Entry::of(Item { priority, value }, self.last);
         let place = self.list.partition_point(|other| *other <= entry);
         place <= self.list.len()
             && self.list.insert(place, entry).is_ok()

@@ -2,6 +2,7 @@
    and nothing of them comes later. */
 #include "../wrapped.h"
 
+#include <signal.h>
 #include <string.h>
 #include <sys/wait.h>
 
@@ -96,7 +97,7 @@ static void calls_return_where_a_thread_stops(void) {
     close_and_free(queue);
 }
 
-/* In a process of its own, which ends with the lock held. */
+/* In a process of its own, which ends with the lock held: by SIGKILL, as no tool is to look for memory that the dead thread held. */
 static void calls_return_where_a_thread_dies(void) {
     pq_queue *queue = opened(3);
     pq_member *member = joined(queue), *posting = joined(queue);
@@ -110,7 +111,7 @@ static void calls_return_where_a_thread_dies(void) {
     pq_give_back(posting);
     CHECK(pq_join(queue, in_ms(30), &posting) == PQ_ALL_JOINED && posting == NULL);
     CHECK(strcmp(pq_code_text(PQ_TIMED_OUT), pq_code_text(PQ_PENDING)) != 0);
-    _exit(7);
+    raise(SIGKILL);
 }
 
 int main(void) {
@@ -121,7 +122,7 @@ int main(void) {
         alarm(100);
         calls_return_where_a_thread_dies();
     }
-    CHECK(waitpid(child, &status, 0) == child && WIFEXITED(status) && WEXITSTATUS(status) == 7);
+    CHECK(waitpid(child, &status, 0) == child && WIFSIGNALED(status) && WTERMSIG(status) == SIGKILL);
     calls_return_where_a_thread_stops();
     return 0;
 }

@@ -12,9 +12,8 @@
 
 /* For how long a call only tries the lock, and for how long it spins in all; how far apart the thread's calls are at least, where it spins. */
 enum { TRIES = 1000, SPINS = 10000, APART = 400 };
-/* How long a nap is: 5 us while at most 8 members are in use, which the kernel's slack makes some 55, and so the tail of a few threads that only
-   call. With more, 8 us for each, so that fewer threads wake at a time. */
-enum { FEW = 8, NAP = 5000, NAP_OF_EACH = 8000 };
+/* How long a nap is: at least, and for each member in use, so that fewer threads wake at a time. */
+enum { NAP = 50000, NAP_OF_EACH = 8000 };
 
 __thread pace flatpq_pace __attribute__((tls_model("initial-exec")));
 
@@ -71,8 +70,8 @@ int flatpq_spins(rest *it) {
 
 /* Naps once, until the deadline at most: 0 where that has come. */
 static int naps(const rest *it) {
-    const uint64_t members = __atomic_load_n(&it->queue->out, __ATOMIC_RELAXED);
-    uint64_t nap = members > FEW ? members * NAP_OF_EACH : NAP;
+    uint64_t nap = (uint64_t)__atomic_load_n(&it->queue->out, __ATOMIC_RELAXED) * NAP_OF_EACH;
+    nap = nap > NAP ? nap : NAP;
     if (it->until != PQ_FOREVER) {
         uint64_t now = it->until == PQ_NOW ? 0 : pq_now();
         if (now >= it->until) {

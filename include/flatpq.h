@@ -102,8 +102,8 @@ typedef struct pq_item {
 
 /* What happens to the journal's older entries. */
 enum pq_keeping {
-    PQ_FORGETS = 0, /* memory keeps the last `entries` of them, 65536 to 16777216; 0 is 65536 */
-    PQ_REFUSES = 1, /* the same, but a request that would make memory forget an unarchived entry is refused (PQ_UNARCHIVED) */
+    PQ_FORGETS = 0, /* memory keeps the last `entries` of them, 16 to 16777216; 0 is 1024 */
+    PQ_REFUSES = 1, /* the same, 0 is 65536; but a request that would make memory forget an unarchived entry is refused (PQ_UNARCHIVED) */
     PQ_FILLS = 2    /* the journal has room for `entries`, 1 to 1048576, and then stays full (PQ_JOURNAL_FULL) */
 };
 

@@ -24,12 +24,24 @@ static void close_journal(core journal) {
     (void)code;
 }
 
+/* How many entries memory keeps, or the journal has room for. */
+static uint32_t entries_of(const pq_options *asked) {
+    const uint32_t forgets = 1024, refuses = 65536;
+    switch (asked->keeping) {
+    case PQ_FORGETS:
+        return or_else(asked->entries, forgets);
+    case PQ_REFUSES:
+        return or_else(asked->entries, refuses);
+    default:
+        return asked->entries;
+    }
+}
+
 pq_code pq_open(const pq_options *options, pq_queue **queue) {
-    const uint32_t most_members = 64, fewest_entries = 65536;
+    const uint32_t most_members = 64;
     const pq_options none = { 0, 0, 0, 0, 0, 0, 0 };
     const pq_options *asked = options != NULL ? options : &none;
     uint32_t members = or_else(asked->members, most_members);
-    uint32_t entries = asked->keeping == PQ_FILLS ? asked->entries : or_else(asked->entries, fewest_entries);
     pq_queue *made;
     pq_code code = flatpq_may_open();
     *queue = NULL;
@@ -43,7 +55,7 @@ pq_code pq_open(const pq_options *options, pq_queue **queue) {
         return PQ_NO_MEMORY;
     }
     memset(made, 0, sizeof *made);
-    code = LEAVE_OUT(pq_core_open(members, asked->keeping, entries, asked->tickets, &made->proved));
+    code = LEAVE_OUT(pq_core_open(members, asked->keeping, entries_of(asked), asked->tickets, &made->proved));
     if (code != PQ_OK) {
         free(made);
         return code;

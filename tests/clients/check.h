@@ -92,8 +92,9 @@ static inline pq_queue *opened_as(uint32_t members, uint32_t keeping, uint32_t e
     return queue;
 }
 
+/* The same, whose journal keeps all entries of a test. */
 static inline pq_queue *opened(uint32_t members) {
-    return opened_as(members, PQ_FORGETS, 0);
+    return opened_as(members, PQ_FORGETS, 65536);
 }
 
 /* Opens a queue that may have so many items, whose journal has room for so many entries. */

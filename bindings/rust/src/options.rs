@@ -10,9 +10,10 @@ use std::time::{Duration, Instant};
 #[derive(Clone, Copy, Debug, PartialEq, Eq, Hash)]
 #[non_exhaustive]
 pub enum Keeping {
-    /// Memory keeps the last so many, 65,536 to 16,777,216; 0 is 65,536.
+    /// Memory keeps the last so many, 16 to 16,777,216; 0 is 1,024.
     Forgets(u32),
-    /// The same, but a request that would make memory forget an entry that is not archived is refused, by [`Error::Unarchived`].
+    /// The same, 0 is 65,536; but a request that would make memory forget an entry that is not archived is refused, by
+    /// [`Error::Unarchived`].
     Refuses(u32),
     /// The journal has room for so many, 1 to 1,048,576, and then stays full: [`Error::JournalFull`].
     Fills(u32),
@@ -36,7 +37,7 @@ pub struct Options<S = ()> {
 }
 
 impl Options {
-    /// For 64 members, with a journal of which memory keeps the last 65,536 entries.
+    /// For 64 members, with a journal of which memory keeps the last 1,024 entries.
     pub fn new() -> Options {
         Options::default()
     }

@@ -126,7 +126,7 @@ calls!(() TaskQueue<K, T>,);
 takes!(TaskQueue);
 
 impl<K: Key, T: Send> TaskQueue<K, T> {
-    /// Opens a queue for 64 members, with a journal of which memory keeps the last 65,536 entries. [`Options`] opens others.
+    /// Opens a queue for 64 members, with a journal of which memory keeps the last 1,024 entries. [`Options`] opens others.
     ///
     /// # Errors
     ///

@@ -54,7 +54,7 @@ impl<S: Store<Entry<P>>, P: Part> Desk<S, P> {
     }
 
     /// A desk with this empty store and so many places, and a long journal, of which the last so many
-    /// lines are kept, 65,536 to 16,777,216; and the pen of each place, in their order. All memory that
+    /// lines are kept, 16 to 16,777,216; and the pen of each place, in their order. All memory that
     /// the desk will ever need is taken here, but for the growth of the store; where some was refused,
     /// there is no desk.
     pub fn lasting(

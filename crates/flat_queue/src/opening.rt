@@ -27,7 +27,7 @@ use crate::waiting::{DeskTag, Waiting};
 use announce_board::{Desk, DeskError, Pen, Testimony};
 use leftist_heap::{Leftist, Store};
 use pq_book::Entry;
-use pq_book::limit::{LONG_PAGE, LONGEST_PAGE};
+use pq_book::limit::{LONG_PAGE, LONGEST_PAGE, SHORTEST_PAGE};
 use pq_types::Part;
 use split_core::ids::check_ids;
 use split_core::laws::law_places;
@@ -83,8 +83,8 @@ impl<S: Store<Entry>> Queue<S> {
         open_long(alloc, ids, store, LONG_PAGE as u32)
     }
 
-    /// The same, with a journal of which memory holds the last so many lines, 65,536 to 16,777,216, else
-    /// `LinesOutOfRange`, behind the refusals of the ids. It has room for 2^56, less those that are more than 65,536.
+    /// The same, with a journal of which memory holds the last so many lines, 16 to 16,777,216, else
+    /// `LinesOutOfRange`, behind the refusals of the ids. It has room for some 2^56, as `room_keeping` has it.
     pub fn keeping(
         alloc: Global,
         ids: &[u64],
@@ -140,7 +140,7 @@ impl<S: Store<Entry<u64>>> Queue<S, u64> {
         open_long(alloc, ids, store, LONG_PAGE as u32)
     }
 
-    /// The same, as `keeping` opens one: memory holds the last so many lines, 65,536 to 16,777,216, else
+    /// The same, as `keeping` opens one: memory holds the last so many lines, 16 to 16,777,216, else
     /// `LinesOutOfRange`, behind the refusals of the ids.
     pub fn wide_keeping(
         alloc: Global,
@@ -245,7 +245,7 @@ fn open_long<S: Store<Entry<P>>, P: Part>(
         return Err(QueueError::Comers(refused));
     }
     let kept = kept as usize;
-    if kept < LONG_PAGE || kept > LONGEST_PAGE {
+    if kept < SHORTEST_PAGE || kept > LONGEST_PAGE {
         return Err(QueueError::LinesOutOfRange);
     }
     law_places();

@@ -7,7 +7,7 @@ ghost use Rattle.queue_c.specs.Lengths.{length_of};
 pub enum Length {
     /// So many, 1 to 1,048,576, which memory has all.
     Lines(u32),
-    /// 2^56, less those that memory has beyond the fewest: it has the last so many, 65,536 to 16,777,216.
+    /// 2^56, or just below: memory has the last so many, 16 to 16,777,216.
     Keeping(u32),
     /// The same, and the calls for C refuse a request that might have memory forget a line that is not archived.
     Archived(u32),

@@ -155,7 +155,7 @@ fn open(
 }
 
 /// Opens a queue of `threads` places for members, 1 to 64, over an array heap. How long its journal is, and what memory keeps of
-/// it, two numbers say. Where `keeping` is 0 the journal lasts for years, and memory keeps its last `entries` lines, 65,536 to
+/// it, two numbers say. Where `keeping` is 0 the journal lasts for years, and memory keeps its last `entries` lines, 16 to
 /// 16,777,216. Where it is 1 it is so, and members are refused each request that might have memory forget a line before it is
 /// archived (52), until an archive goes on behind it. Where it is 2 the journal fills, with `entries` lines, 1 to 1,048,576.
 /// Unless `tickets` is 0 the store keeps the places of tickets, so that a removal takes no longer than a pop.

@@ -9,7 +9,7 @@
 #include <string.h>
 #include <unistd.h>
 
-enum { FEWEST = 65536, MOST = 16777216, WORKERS = 4, PLACES = 2080 };
+enum { FEWEST = 64, MOST = 16777216, WORKERS = 4, PLACES = 2080 };
 
 /* Makes so many requests that find no item. */
 static void makes(pq_member *member, uint32_t calls) {
@@ -86,7 +86,7 @@ static void refuses_what_would_be_forgotten(uint32_t kept) {
 
 /* Polls that find nothing have no entry, so they count for nothing. */
 static void polls_count_for_nothing(void) {
-    pq_queue *queue = opened_as(1, PQ_REFUSES, 0);
+    pq_queue *queue = opened_as(1, PQ_REFUSES, FEWEST);
     pq_member *own = pq_own(queue);
     pq_item item = item_of(7, 8);
     uint64_t number = 0;

@@ -142,7 +142,7 @@ static void a_shut_ends_a_batch_after_a_part(void) {
 
 static void memory_would_forget_in_the_midst(void) {
     enum { KEPT = 65536 };
-    pq_queue *queue = opened_as(1, PQ_REFUSES, KEPT);
+    pq_queue *queue = opened_as(1, PQ_REFUSES, 0);
     pq_member *own = pq_own(queue);
     pq_journal *journal = NULL;
     size_t done = 9;

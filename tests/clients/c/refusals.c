@@ -25,13 +25,13 @@ static void refuses_openings(void) {
     CHECK(pq_open(NULL, &queue) == PQ_OK && queue != NULL);
     close_and_free(queue);
     CHECK(opening(0, PQ_FORGETS, 0, 0) == PQ_OK && opening(64, PQ_REFUSES, 0, 0) == PQ_OK && opening(1, PQ_FILLS, 1, 0) == PQ_OK);
-    CHECK(opening(1, PQ_FORGETS, 65536, 0) == PQ_OK && opening(1, PQ_REFUSES, 65537, 0) == PQ_OK);
+    CHECK(opening(1, PQ_FORGETS, 16, 0) == PQ_OK && opening(1, PQ_REFUSES, 17, 0) == PQ_OK);
     CHECK(opening(64, PQ_FILLS, 1048576, 0) == PQ_OK);
     CHECK(opening(65, PQ_FORGETS, 0, 0) == PQ_BAD_OPTION && opening(UINT32_MAX, PQ_FILLS, 10, 0) == PQ_BAD_OPTION);
     CHECK(opening(1, 3, 0, 0) == PQ_BAD_OPTION && opening(1, UINT32_MAX, 65536, 0) == PQ_BAD_OPTION);
     CHECK(opening(1, PQ_FORGETS, 0, 1) == PQ_OK && opening(1, PQ_FORGETS, 0, 2) == PQ_BAD_OPTION);
     for (uint32_t keeping = PQ_FORGETS; keeping <= PQ_REFUSES; keeping++) {
-        CHECK(opening(1, keeping, 1, 0) == PQ_BAD_OPTION && opening(1, keeping, 65535, 0) == PQ_BAD_OPTION);
+        CHECK(opening(1, keeping, 1, 0) == PQ_BAD_OPTION && opening(1, keeping, 15, 0) == PQ_BAD_OPTION);
         CHECK(opening(1, keeping, 16777217, 0) == PQ_BAD_OPTION && opening(1, keeping, UINT32_MAX, 0) == PQ_BAD_OPTION);
     }
     CHECK(opening(1, PQ_FILLS, 0, 0) == PQ_BAD_OPTION && opening(1, PQ_FILLS, 1048577, 0) == PQ_BAD_OPTION);

@@ -41,9 +41,9 @@ static void counts_what_it_is_passed(void) {
 
 /* A refused archive counts nothing. */
 static void counts_no_refused_archive(void) {
-    pq_queue *queue = opened(1);
+    pq_queue *queue = opened_as(1, PQ_FORGETS, 0);
     pq_journal *journal = NULL;
-    pushes(queue, 65536 + 10);
+    pushes(queue, 1024 + 10);
     CHECK(pq_archive(pq_own(queue), 5, PQ_FOREVER, &journal) == PQ_FORGOTTEN && pq_wait_archived(queue, 5, PQ_NOW) == PQ_TIMED_OUT);
     close_and_free(queue);
 }

@@ -92,7 +92,7 @@ static void codes_are_those_of_the_header() {
 static void openings_are_refused() {
     const auto opening = [](flatpq::options asked) { return flatpq::queue<>::open(asked).error(); };
     CHECK(opening({}) == code::ok && opening({1}) == code::ok && opening({0}) == code::ok && opening({65}) == code::bad_option);
-    CHECK(opening({1, keeping::forgets, 65536}) == code::ok && opening({1, keeping::forgets, 65535}) == code::bad_option);
+    CHECK(opening({1, keeping::forgets, 16}) == code::ok && opening({1, keeping::forgets, 15}) == code::bad_option);
     CHECK(opening({1, keeping::refuses, 16777217}) == code::bad_option && opening({1, keeping::fills, 1048577}) == code::bad_option);
     CHECK(flatpq::task_queue<std::string>::open({65}).error() == code::bad_option);
     auto queue = *flatpq::queue<>::open(flatpq::options().with_keeping(keeping::fills, 1));

@@ -19,7 +19,7 @@ fn openings_are_refused() {
         options.members(65),
         options.keeping(Keeping::Fills(0)),
         options.keeping(Keeping::Fills(1_048_577)),
-        options.keeping(Keeping::Forgets(65_535)),
+        options.keeping(Keeping::Forgets(15)),
         options.keeping(Keeping::Refuses(16_777_217)),
     ] {
         assert_eq!(opened(refused).unwrap_err(), Error::BadOption);
@@ -98,10 +98,10 @@ fn a_refused_batch_ends_with_its_iterator() {
 
 #[test]
 fn what_is_not_archived_is_not_forgotten() {
-    let queue = opened(Options::new().keeping(Keeping::Refuses(65_536))).unwrap();
-    queue.push_many((0..65_536).map(|it| (it, it))).unwrap();
+    let queue = opened(Options::new().keeping(Keeping::Refuses(64))).unwrap();
+    queue.push_many((0..64).map(|it| (it, it))).unwrap();
     assert_eq!(queue.pop(), Err(Error::Unarchived));
-    assert_eq!(queue.archive(0).unwrap().len(), 65_536);
+    assert_eq!(queue.archive(0).unwrap().len(), 64);
     assert_eq!(queue.archive(2).unwrap().before(), 2);
     assert_eq!(queue.pop_due_many(9, 9).unwrap(), [(0, 0), (1, 1)]);
     assert_eq!(queue.archive(1).unwrap_err(), Error::Forgotten);

@@ -1,5 +1,5 @@
 //! Journals: their entries by iterators, their text, and what writing them comes to.
-use flatpq::{Error, Item, NotReadBack, Queue, ReadBack, Request, TaskJournal, TaskQueue, Until};
+use flatpq::{Error, Item, Keeping, NotReadBack, Options, Queue, ReadBack, Request, TaskJournal, TaskQueue, Until};
 use std::fs::File;
 use std::io::{self, Seek, Write};
 use std::time::Duration;
@@ -87,7 +87,7 @@ fn entries_are_written_as_the_library_does() {
 
 #[test]
 fn an_archive_that_goes_on_in_time_loses_no_entry() {
-    let queue = Queue::new().unwrap();
+    let queue: Queue = Options::new().keeping(Keeping::Forgets(65_536)).open().unwrap();
     let (mut archived, mut sum) = (0, 0);
     for round in 0..4 {
         for number in 0..20_000 {

@@ -1,5 +1,5 @@
 // How much of a journal is kept.
-ghost use Rattle.std.specs.Prelude.{◌≡◌};
+ghost use Rattle.std.specs.Prelude.{◌≡◌, ◌<◌};
 ghost use Rattle.pq_book.specs.Pages.{page_of, room_keeping, IsLongPage};
 
 use pq_types::{GREATEST_NUMBER, MOST_LINES};
@@ -16,8 +16,10 @@ pub const LONGEST_PAGE: usize = 16_777_216;
 /// How many lines of a journal with this room are kept: all of one with room for 1,048,576 at most;
 /// else the last 65,536, and one more for each line that its room falls short of 2^56, up to
 /// 16,777,216; of one that falls shorter still the last 65,535, and one fewer for each line, down to 16.
+#[tactic(auto, unfolding(crate::specs::Pages::long_page))]
 pub fn page_of(room: u64) -> usize
-    ensures { result ≡ page_of room }
+    ensures page { result ≡ page_of room }
+    ensures some { 0 < room → 0 < result }
 {
     if room <= MOST_LINES {
         return room as usize;
@@ -33,6 +35,7 @@ pub fn page_of(room: u64) -> usize
 }
 
 /// The room of a long journal of which so many lines are kept.
+#[tactic(auto, unfolding(crate::specs::Pages::long_page, crate::specs::Pages::shortage))]
 pub fn room_keeping(kept: usize) -> u64
     requires { IsLongPage kept }
     ensures room { result ≡ room_keeping kept }

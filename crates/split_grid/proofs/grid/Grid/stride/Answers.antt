@@ -29,3 +29,23 @@ invariant_of-stopped g c =
     subst (λ (x : TableId). Rests x.slots c.exchange.new.seat.me c.take_step-after.result) (sym same)
     (home_rests g.T.Fits.fits _ c.law_places.ensures _ _ _ _ _ _ c.newcomer.invariant step.strode
     (ap (λ m. m.0) c.exchange.ensures.3) step.stored stops)
+
+pub returns-then-is_stopped-clause-stride : goal.returns-then-is_stopped-clause-stride
+returns-then-is_stopped-clause-stride g c = (
+  search rules,
+  record {
+    table = search rules;
+    tag = search rules;
+    comers = search rules;
+    id = search rules;
+    stopped = search rules;
+    value = search rules;
+    bounded = search rules;
+    inside = search rules;
+    few = search rules;
+    scan = search rules;
+    unscanned = search rules;
+    unseen = search rules;
+    unlooked = search rules;
+  },
+)

@@ -13,7 +13,7 @@ use Rattle.desk_core.specs.Testimonies.{after_retiring}
 use Rattle.desk_core.specs.declared.model.Duty.TheVariants.{Retired}
 use Rattle.desk_core.specs.declared.model.PenState.{PenState}
 use Rattle.announce_board.specs.Opening.{HasAll, IsHomeWithAll, AllKnow, LinesAreOfThese, HavePlaces}
-use Rattle.flat_queue.specs.Closing.{ClosesAll, OfEachMember, LinesAreTheirs, retired_pen}
+use Rattle.flat_queue.specs.Closing.{ClosesAll, ClosedAreLinearized, OfEachMember, LinesAreTheirs, retired_pen}
 use Rattle.announce_board.specs.Testimonies.{Testified}
 use Rattle.flat_queue.specs.Gathered.{Gathers, GathersBoth, IsOf}
 use Rattle.flat_queue.specs.Members.{QueueName, Joined}
@@ -27,7 +27,7 @@ retired_at (m ∷ ms) zero p h = (m, refl, cc)
 retired_at (m ∷ ms) (suc k) p h = retired_at ms k p h
 
 -- and the pen of each member is among them
-retires_at : (members : List Joined) (k : ℕ) (m : Joined) → slice_get members k ≡ Some m → slice_get (map retired_pen members) k ≡ Some (retired_pen m)
+pub retires_at : (members : List Joined) (k : ℕ) (m : Joined) → slice_get members k ≡ Some m → slice_get (map retired_pen members) k ≡ Some (retired_pen m)
 retires_at [] zero m h = absurd (cc)
 retires_at [] (suc k) m h = absurd (cc)
 retires_at (n ∷ ms) zero m h = let same : n ≡ m = cc in ap (λ x. Some (retired_pen x)) same
@@ -80,9 +80,9 @@ module _ (queue : QueueName) (members : List Joined) (book : Volume) (here : All
       let is = get_or_from_slice_get members i m m at in let within = slice_get_within members i m at in
       subst (λ (x : Joined). x.pen.room ≡ x.queue.room) is (rooms i m within) ∙ ap (λ (q : QueueName). q.room) (subst (λ (x : Joined). x.queue ≡ queue) is (here i m within))
 
-  pub closes_all : IsHomeWithAll queue.room (map retired_pen members) book → AllKnow (map retired_pen members) book → LinesAreOfThese (map retired_pen members) book.journal
+  pub closes_all : ClosedAreLinearized → IsHomeWithAll queue.room (map retired_pen members) book → AllKnow (map retired_pen members) book → LinesAreOfThese (map retired_pen members) book.journal
       → HavePlaces queue.places (map retired_pen members) → ClosesAll queue members book
-  closes_all home know only placed =
+  closes_all linearized home know only placed =
       let knows : OfEachMember members (λ m. Knows queue.room m.pen book.journal) =
       λ i m at. subst (λ n. Knows n m.pen book.journal) (each_room i m at) (knew m.pen.room m.pen book.journal (know i (retired_pen m) (retires_at members i m at))) in
       record {
@@ -91,4 +91,5 @@ module _ (queue : QueueName) (members : List Joined) (book : Volume) (here : All
         idle = λ i m at idle. idle_known queue.room m.pen book.journal (knows i m at) idle;
         apart = λ i j m n at there e. placed.apart i j (retired_pen m) (retired_pen n) (retires_at members i m at) (retires_at members j n there) e;
         only = λ i l at. let (k, p, there, is) = only i l at in let (m, found, same) = retired_at members k p there in (k, m, found, ap (λ (x : PenState). x.place) same ∙ is);
+        linearized = linearized queue.room members book home each_room knows;
       }

@@ -31,3 +31,4 @@ pub mod TakeStepping
 pub mod CallStepping
 pub mod Dues
 pub mod DueStepping
+pub mod ClosedHistories

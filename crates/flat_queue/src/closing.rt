@@ -5,13 +5,14 @@ ghost use Rattle.desk_core.specs.Calls.{calls_of};
 ghost use Rattle.desk_core.specs.Knows.{Knows};
 ghost use Rattle.announce_board.specs.Tokens.{is_idle};
 ghost use Rattle.announce_board.specs.Opening.{IsHomeBook, IsHomeWith, IsHeld, IsHeldWith};
-ghost use Rattle.flat_queue.specs.Closing.{ClosesAll, retired_pen};
+ghost use Rattle.flat_queue.specs.Closing.{ClosesAll, ClosedAreLinearized, retired_pen};
 ghost use Rattle.flat_queue.specs.Gathered.{Gathers, IsOf};
 
 use crate::gathered::both;
 use crate::member::{Member, Newcomer};
 use crate::queue::Queue;
 use announce_board::{Desk, LockHeld, Testimony};
+use desk_core::laws::{law_calls_are_lines, law_dealt_runs_are_linearizable, law_times};
 use leftist_heap::Store;
 use pq_book::{Book, Entry};
 use pq_types::Part;
@@ -74,7 +75,8 @@ impl<S: Store<Entry<P>>, P: Part> Queue<S, P> {
     /// Closes the queue with all its members and those newcomers that have not joined: the Book. No member leads, so it is
     /// always at home. Of each member it has the calls that the member has read, and at most the entered answer for which it
     /// waits; of an idle member exactly its calls; and it has no line of another place. What each member last saw in its
-    /// record still stood there at the end. Takes no memory, and never waits.
+    /// record still stood there at the end. Its journal linearizes one history (Herlihy and Wing 1990), which has all that each
+    /// member keeps of its calls. Takes no memory, and never waits.
     pub fn close_all(
         self,
         members: Vec<Member<S, P>>,
@@ -86,6 +88,7 @@ impl<S: Store<Entry<P>>, P: Part> Queue<S, P> {
         requires led_not { All (λ m. m.pen.leading ≡ false) members.items }
         ensures { ClosesAll self members.items result }
     {
+        law_closed_are_linearized();
         let Queue {
             grid,
             desk,
@@ -99,6 +102,15 @@ impl<S: Store<Entry<P>>, P: Part> Queue<S, P> {
         grid.close();
         desk.close_all(all)
     }
+}
+
+// What the members of a closed queue keep of their calls is of one history, which its journal linearizes.
+fn law_closed_are_linearized()
+    ensures { ClosedAreLinearized }
+{
+    law_calls_are_lines();
+    law_dealt_runs_are_linearizable();
+    law_times();
 }
 
 // The last testimony of these members, who retire, with the licences of these newcomers, who won't join, and with those that no

@@ -52,7 +52,7 @@ returns g c =
     let whole = c.all_of.ensures.gathers more (subst (Gathers table [] more) (sym c.into_licences.ensures) c.self.invariant.licensed) in
     let told = ap (λ (t : Testified). t.pens) (is_told table pens (n + more) c.all_of.result c.unwrap-all.result c.unwrap-all.ensures whole) in
     let book = c.close_all.result in
-    closes_all c.args.self members book c.requires.members c.all_of.ensures.rooms
+    closes_all c.args.self members book c.requires.members c.all_of.ensures.rooms c.law_closed_are_linearized.ensures
     (subst (λ r. IsHomeWithAll r pens book) (ap (λ (q : QueueName). q.room) c.self.view_is)
     (subst (λ ps. IsHomeWithAll c.self.inside.desk.room ps book) told c.close_all.ensures.home))
     (subst (λ ps. AllKnow ps book) told c.close_all.ensures.knows)

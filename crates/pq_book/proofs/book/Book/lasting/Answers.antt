@@ -15,7 +15,7 @@ pub invariant_of-result : goal.invariant_of-result
 invariant_of-result g c =
     let long : IsLongRoom c.args.room = search rules in
     empty g.P.Part.wide (g.S.Store.content c.args.store) c.args.room (page_of c.args.room) c.in-Ok.journal c.requires c.in-Ok.ensures.0 c.in-Ok.ensures.1
-        (c.in-Ok.ensures.2 ∙ c.page_of.ensures.page) long
+    (c.in-Ok.ensures.2 ∙ c.page_of.ensures.page) long
 
 pub returns-clause-out_of_range : goal.returns-clause-out_of_range
 returns-clause-out_of_range g c =

@@ -11,7 +11,8 @@ enum { AT_ONCE = 64 };
 /* Items to push, or room for the items that are popped; and how far the batch is. */
 typedef struct batch {
     pq_member *member;
-    const pq_item *pushed; /* NULL of pops */
+    uint32_t kind; /* KIND_PUSHED or KIND_POPPED, and these are its items */
+    const pq_item *pushed;
     pq_item *popped;
     uint64_t bound;
     uint64_t until;
@@ -39,7 +40,7 @@ static void watch(const pq_item *items, size_t count, void (*tell)(pq_item item)
 static pq_code try_part(const batch *it, size_t count, core_popped *told) {
     core *proved = &it->member->proved;
     pq_code code;
-    if (it->pushed != NULL) {
+    if (it->kind == KIND_PUSHED) {
         watch(it->pushed + it->done, count, flatpq_tsan_push);
         code = LEAVE_OUT(pq_core_try_push_many(proved, it->pushed + it->done, count, &told->batch));
     } else {
@@ -63,12 +64,12 @@ static pq_code refusal(uint32_t refused) {
 /* What a try that found the lock free came to: what refused the next item, or of pops that took none why. */
 static pq_code came_to(batch *it, const core_popped *told) {
     const core_batch *did = &told->batch;
-    const core_answer answer = { it->pushed != NULL ? KIND_PUSHED : KIND_POPPED, did->owes_wake, 0, { 0, 0 } };
-    if (it->pushed == NULL && did->done == 0 && did->refused == 0) {
+    const core_answer answer = { it->kind, did->owes_wake, 0, { 0, 0 } };
+    if (it->kind == KIND_POPPED && did->done == 0 && did->refused == 0) {
         it->next = told->next.item;
         return flatpq_looked(it->member, &told->next);
     }
-    if (it->pushed == NULL) {
+    if (it->kind == KIND_POPPED) {
         watch(it->popped + it->done, (size_t)did->done, flatpq_tsan_pop);
     }
     count_done(it, (size_t)did->done, did->first);
@@ -141,7 +142,7 @@ pq_code pq_push_many(pq_member *member, const pq_item *items, size_t count, uint
     code = flatpq_begin(&member, until, &mine);
     *done = 0;
     if (code == PQ_OK) {
-        batch all = { member, items, NULL, 0, until, 0, 0, { 0, 0 } };
+        batch all = { member, KIND_PUSHED, items, NULL, 0, until, 0, 0, { 0, 0 } };
         code = member->queue->most_items == 0 ? carry_out_all(&all, count) : push_each(&all, count);
         return_done(&all, done, number);
         flatpq_end(mine);
@@ -160,7 +161,7 @@ pq_code pq_pop_due_many(pq_member *member, uint64_t priority, pq_item *items, si
     code = flatpq_begin(&member, until, &mine);
     *done = 0;
     if (code == PQ_OK) {
-        batch all = { member, NULL, items, priority, until, 0, 0, { 0, 0 } };
+        batch all = { member, KIND_POPPED, NULL, items, priority, until, 0, 0, { 0, 0 } };
         code = carry_out_all(&all, room);
         if (code == PQ_NOT_DUE && all.done == 0) {
             *items = all.next;

@@ -273,7 +273,7 @@ INLINE pq_code ask(uint32_t request, call *it) {
         return ask_fully(request, it);
     }
     if (!LIKELY(is_plain(request, it->member))) {
-        return it->member->is_shared ? ask_by_own(request, it) : push_within(it, NULL);
+        return request == PQ_PUSH && !it->member->is_shared ? push_within(it, NULL) : ask_by_own(request, it);
     }
     code = step_call_once(request, POSTS_NOTHING, it);
     return is_done(request, code, it) ? returned(request, it) : go_on(request, code, it, NULL);

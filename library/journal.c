@@ -20,11 +20,9 @@ pq_journal *flatpq_new_journal(void) {
 }
 
 void flatpq_fill_journal(pq_journal *made, core proved) {
-    pq_code code;
     made->proved = proved;
-    code = pq_core_lines(&made->proved, &made->count);
-    code = pq_core_lines_before(&made->proved, &made->before);
-    (void)code;
+    (void)pq_core_lines(&made->proved, &made->count);
+    (void)pq_core_lines_before(&made->proved, &made->before);
 }
 
 /* Copies entries. No other thread does it for this one, so it tries the lock often before it rests. */

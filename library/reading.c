@@ -55,7 +55,7 @@ static int is_as_written(const char *line, size_t length) {
             return 0;
         }
     }
-    return strtoul(strchr(line, ' '), NULL, 10) < PLACES;
+    return strtoul(line + strcspn(line, " "), NULL, 10) < PLACES;
 }
 
 /* Earlier versions wrote no checksums. The first line of such a text ends in a word that is none, as an empty queue has no item to return.

@@ -63,7 +63,7 @@ void flatpq_begin_wait(wait *it) {
     pq_queue *queue = it->member->queue;
     waiter *waits = &it->member->waits;
     flatpq_lock_lists(queue);
-    it->was_woken = waits->is_woken;
+    it->was_woken = (int)waits->is_woken;
     it->owed = queue->owed + __atomic_load_n(&queue->incoming, SEQ);
     waits->is_woken = 0;
     __atomic_store_n(&waits->word, ASLEEP, SEQ);

@@ -1,6 +1,6 @@
-/* pq_take_due_or_listen: the timer of a member that listens is readable once the first item is due, after a push of an earlier one, and after a
-   shut. A push of a later one does not ring it, nor does any after pq_unlisten. Each refusal has its code, and a thread that has the lock for long
-   has the loop call again some times a millisecond. Schedules of threads tests/explore tries, and loops beside threads many_events.c. */
+/* pq_take_due_or_listen: the timer of a member that listens is readable once the first item is due, and after a push of an earlier one. No
+   push rings it after pq_unlisten. Each refusal has its code, and a thread that has the lock for long has the loop call again some times a
+   millisecond. Schedules of threads tests/explore tries, and loops beside threads many_events.c. */
 #include "../wrapped.h"
 
 #include <sys/eventfd.h>
@@ -95,40 +95,6 @@ static void what_went_rings_for_nothing(pq_queue *queue, pq_member *member) {
     CHECK(close(it.timer) == 0);
 }
 
-/* A push of the same time, or of a later one, does not ring; one of an earlier does, in whatever way it comes. */
-static void an_earlier_one_rings(pq_queue *queue, pq_member *member) {
-    const uint64_t base = in_ms(HOUR);
-    alarm_of it = alarm_by(member), second = alarm_by(joined(queue));
-    pq_member *posts = joined(queue);
-    pq_item item;
-    size_t done;
-    push(pq_own(queue), base);
-    CHECK(take(&it) == PQ_NOT_DUE && take(&second) == PQ_NOT_DUE && is_quiet(&it));
-    for (uint64_t way = 0; way < 3; way++) {
-        const pq_item later[] = { { base, 1 }, { base + 1, 2 }, { UINT64_MAX, 3 } }, earlier[] = { { base - 2 * way, 4 }, { base - 2 * way - 1, 5 } };
-        const pq_item *all[] = { later, earlier };
-        for (size_t is_earlier = 0; is_earlier < 2; is_earlier++) {
-            const size_t count = is_earlier ? 2 : 3;
-            for (size_t i = 0; i < count && way < 2; i++) {
-                const pq_item one = all[is_earlier][i];
-                CHECK(way == 0 ? pq_push(posts, one, PQ_FOREVER, NULL) == PQ_OK : pq_post(posts, PQ_PUSH, one) == PQ_OK);
-                CHECK(way == 0 || (pq_combine(pq_own(queue)) == PQ_OK && pq_poll(posts, &item, NULL) == PQ_OK));
-            }
-            CHECK(way < 2 || (pq_push_many(posts, all[is_earlier], count, PQ_FOREVER, &done, NULL) == PQ_OK && done == count));
-            CHECK(is_earlier ? rings(&it) && rings(&second) : is_quiet(&it) && is_quiet(&second));
-        }
-        CHECK(take(&it) == PQ_NOT_DUE && it.item.priority == base - 2 * way - 1 && is_quiet(&it));
-        CHECK(take(&second) == PQ_NOT_DUE && second.item.priority == base - 2 * way - 1 && is_quiet(&second));
-    }
-    push(pq_own(queue), 0);
-    CHECK(rings(&it) && take(&it) == PQ_OK && it.item.priority == 0 && rings(&second) && take(&second) == PQ_NOT_DUE);
-    while (pop(queue) == PQ_OK) {
-    }
-    CHECK(pq_unlisten(it.member) == 0 && close(it.timer) == 0);
-    end(&second);
-    pq_give_back(posts);
-}
-
 static void who_listens_no_more_is_not_rung(pq_queue *queue, pq_member *member) {
     alarm_of it = alarm_by(member), other = alarm_by(joined(queue));
     pq_item item;
@@ -144,50 +110,6 @@ static void who_listens_no_more_is_not_rung(pq_queue *queue, pq_member *member) 
     push(pq_own(queue), 0);
     CHECK(is_quiet(&it) && is_quiet(&other) && close(other.timer) == 0 && take(&it) == PQ_OK);
     CHECK(close(it.timer) == 0);
-}
-
-static void notify(void *context) {
-    ++*(int *)context;
-}
-
-/* An alarm takes no wake from a member that listens otherwise, nor from a thread; and one member may do both in turn. */
-static void others_are_notified_too(pq_queue *queue, pq_member *member) {
-    alarm_of it = alarm_by(member);
-    pq_member *other = joined(queue);
-    int notified = 0;
-    CHECK(take(&it) == PQ_EMPTY && pq_take_or_listen(other, 0, &it.item, NULL, notify, &notified) == PQ_EMPTY);
-    push(pq_own(queue), 0);
-    CHECK(notified == 1 && rings(&it) && take(&it) == PQ_OK);
-    CHECK(pq_take_or_listen(other, 0, &it.item, NULL, notify, &notified) == PQ_EMPTY && take(&it) == PQ_EMPTY);
-    CHECK(pq_take_or_listen(it.member, 0, &it.item, NULL, notify, &notified) == PQ_EMPTY && notified == 1);
-    /* The other was notified, and goes: this one is. */
-    push(pq_own(queue), 0);
-    CHECK(notified == 2 && is_quiet(&it) && pop(queue) == PQ_OK && pq_unlisten(other) == 0 && notified == 3);
-    /* It had been notified when it began to listen by its timer: another is notified in its place. */
-    CHECK(pq_take_or_listen(it.member, 0, &it.item, NULL, notify, &notified) == PQ_EMPTY);
-    push(pq_own(queue), 0);
-    CHECK(notified == 4 && pop(queue) == PQ_OK && pq_take_or_listen(other, 0, &it.item, NULL, notify, &notified) == PQ_EMPTY);
-    CHECK(take(&it) == PQ_EMPTY && notified == 5 && is_quiet(&it) && pq_unlisten(it.member) == 1);
-    pq_give_back(other);
-    CHECK(close(it.timer) == 0);
-}
-
-/* What is left in a queue that is shut comes out when it is due; and who waits for it learns that another took the last. */
-static void the_end_rings(void) {
-    pq_queue *queue = opened(3);
-    const uint64_t first = soon(), last = in_ms(HOUR);
-    alarm_of it = alarm_by(joined(queue)), late = alarm_by(joined(queue));
-    CHECK(take(&it) == PQ_EMPTY && take(&late) == PQ_EMPTY);
-    push(pq_own(queue), first);
-    push(pq_own(queue), last);
-    CHECK(take(&it) == PQ_NOT_DUE && pq_shut(queue) == PQ_OK && rings(&it) && rings(&late));
-    CHECK(take(&it) == PQ_NOT_DUE && take(&late) == PQ_NOT_DUE && rings(&it) && pq_now() >= first && take(&it) == PQ_OK && rings(&late));
-    CHECK(take(&late) == PQ_NOT_DUE && late.item.priority == last && take(&it) == PQ_NOT_DUE && is_quiet(&it) && is_quiet(&late));
-    CHECK(pop(queue) == PQ_OK && rings(&it) && rings(&late) && take(&it) == PQ_SHUT && take(&late) == PQ_SHUT);
-    CHECK(take(&it) == PQ_SHUT && pq_unlisten(it.member) == 0 && is_item(it.item, 9, 9));
-    end(&it);
-    end(&late);
-    close_and_free(queue);
 }
 
 /* Times are those of the options, to both ends of 64 bits. */
@@ -233,27 +155,6 @@ static void it_is_refused(pq_queue *queue, pq_member *member) {
     close_and_free(full);
 }
 
-/* The only member of a queue: a thread that listens by pq_own keeps it, until it ends. */
-static void *listen_by_own(void *context) {
-    alarm_of *it = (alarm_of *)context;
-    CHECK(take(it) == PQ_EMPTY && pq_place(it->member) != UINT32_MAX);
-    return NULL;
-}
-
-static void one_listens_by_pq_own(void) {
-    pq_queue *queue = opened(1);
-    alarm_of it = alarm_by(pq_own(queue));
-    pq_member *member = NULL;
-    CHECK(take(&it) == PQ_EMPTY && pq_join(queue, in_ms(20), &member) == PQ_ALL_JOINED && pq_close(queue, NULL) == PQ_MEMBERS_LEFT);
-    push(it.member, 0);
-    CHECK(rings(&it) && take(&it) == PQ_OK && take(&it) == PQ_EMPTY && pq_unlisten(it.member) == 1);
-    pq_leave(queue);
-    ended(started(listen_by_own, &it));
-    push(it.member, 0);
-    CHECK(is_quiet(&it) && close(it.timer) == 0);
-    close_and_free(queue);
-}
-
 /* While another thread has the lock the call returns PQ_EMPTY, and the timer is readable soon, not at once. */
 static void a_lock_that_is_held_costs_little(void) {
     pq_queue *queue = opened(3);
@@ -284,15 +185,11 @@ int main(void) {
     pq_member *member = joined(queue);
     it_rings_once_the_first_is_due(queue, member);
     what_went_rings_for_nothing(queue, member);
-    an_earlier_one_rings(queue, member);
     who_listens_no_more_is_not_rung(queue, member);
-    others_are_notified_too(queue, member);
     it_is_refused(queue, member);
     pq_give_back(member);
     close_and_free(queue);
-    the_end_rings();
     times_are_those_of_the_options();
-    one_listens_by_pq_own();
     a_lock_that_is_held_costs_little();
     return 0;
 }

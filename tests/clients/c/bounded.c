@@ -159,48 +159,11 @@ static pq_journal *nothing_is_lost(uint32_t items) {
     return journal;
 }
 
-/* Producers share few members, and one thread takes. Each push has a deadline, after which the other threads get its member. */
-enum { SHARING = 8, MEMBERS = 3 };
-
-static void *push_by_few(void *own) {
-    struct side *it = (struct side *)own;
-    for (pq_code code = PQ_OK; it->count < each; it->count += code == PQ_OK) {
-        code = pq_push(pq_own(shared), item_of(1, it->first + it->count), in_ms(1), NULL);
-        CHECK(code == PQ_OK || code == PQ_FULL || code == PQ_TIMED_OUT);
-    }
-    return NULL;
-}
-
-static void members_are_few(uint32_t items) {
-    pq_options options = { MEMBERS, 0, 0, 0, 0, 0, 1 };
-    struct side sides[SHARING];
-    uint64_t sum = 0, count;
-    each = items;
-    CHECK(pq_open(&options, &shared) == PQ_OK);
-    memset(sides, 0, sizeof sides);
-    for (uint64_t i = 0; i < SHARING; i++) {
-        sides[i].first = i * each;
-        sides[i].thread = started(push_by_few, &sides[i]);
-    }
-    count = (uint64_t)SHARING * each;
-    for (uint64_t i = 0; i < count; i++) {
-        pq_item item;
-        CHECK(pq_take(pq_own(shared), &item, PQ_FOREVER, NULL) == PQ_OK);
-        sum += item.value;
-    }
-    for (int i = 0; i < SHARING; i++) {
-        ended(sides[i].thread);
-    }
-    CHECK(sum == count * (count - 1) / 2 && size_of(shared) == 0);
-    close_and_free(shared);
-}
-
 int main(int count, char **words) {
     (void)words;
     is_refused_at_its_deadline();
     no_push_is_posted();
     bounds_may_be_any();
-    members_are_few(requests(500));
     has_deadlines = 1;
     pq_journal_free(nothing_is_lost(requests(5000)));
     has_deadlines = 0;

@@ -162,17 +162,6 @@ static void one_of_many_watches(void) {
     pq_journal_free(journal);
 }
 
-static void it_is_refused(pq_member *member) {
-    pq_queue *full = opened_as(1, PQ_FILLS, 1);
-    pq_item item = item_of(9, 9);
-    CHECK(pq_take_due(NULL, &item, PQ_FOREVER, NULL) == PQ_NO_MEMBER);
-    CHECK(pq_post(member, PQ_PEEK, item) == PQ_OK && pq_take_due(member, &item, PQ_FOREVER, NULL) == PQ_PENDING);
-    CHECK(pq_combine(member) == PQ_OK && pq_poll(member, &item, NULL) == PQ_EMPTY && is_item(item, 9, 9));
-    push(pq_own(full), 0, 1);
-    CHECK(pq_take_due(pq_own(full), &item, PQ_FOREVER, NULL) == PQ_JOURNAL_FULL && is_item(item, 9, 9));
-    close_and_free(full);
-}
-
 int main(void) {
     pq_queue *queue = opened(2), *long_queue = opened(1);
     pq_member *member = joined(queue);
@@ -185,7 +174,6 @@ int main(void) {
     nothing_comes_before_its_time(member);
     nothing_comes_before_its_time(pq_own(queue));
     times_are_those_of_the_options();
-    it_is_refused(member);
     one_of_many_watches();
     ended(long_taker.thread);
     CHECK(long_taker.item.value == UPPER);

@@ -141,7 +141,8 @@ static const struct {
     int inside;
 } cases[] = {
     { "tt", 0 }, { "tp", 0 }, { "dp", 0 }, { "tdp", 0 }, { "ddp", 0 }, { "tpo", 0 }, { "dos", 0 }, { "tto", 0 }, { "too", 0 }, { "ttps", 0 },
-    { "tdps", 0 }, { "ddps", 0 }, { "ttpp", 0 }, { "tpos", 0 }, { "ts", 2 }, { "ds", 2 }, { "tp", 2 }, { "dp", 2 }, { "to", 2 }, { "tps", 2 }
+    { "tdps", 0 }, { "ddps", 0 }, { "ttpp", 0 }, { "tpos", 0 }, { "ts", 2 }, { "ds", 2 }, { "tp", 2 }, { "dp", 2 }, { "to", 2 }, { "tps", 2 },
+    { "tos", 2 }
 };
 
 int main(void) {

@@ -1,28 +1,25 @@
-/* pq_take_or_listen and pq_unlisten: a member that finds nothing listens, and is notified once, by the thread that pushes or shuts; one that
-   listens no more is not notified, and leaves its wake to another; PQ_NOT_DUE has the first item; and pq_notify_fd writes to an eventfd. Schedules of
-   threads tests/explore tries. */
-#include "../wrapped.h"
+/* pq_take_or_listen and pq_unlisten: a member that finds nothing listens, and is notified once, by the thread that pushes; one that listens no more is
+   not notified; PQ_NOT_DUE has the first item; and pq_notify_fd writes to an eventfd. Schedules of threads tests/explore tries. */
+#include "../check.h"
 
 #include <sys/eventfd.h>
 
-/* What is notified: how often, and by which thread; and for how long that takes. */
+/* What is notified: how often, and by which thread. */
 typedef struct loop {
     pq_member *member;
     pthread_t by;
-    int notified, begins, takes_long;
+    int notified;
 } loop;
 
 static void notify(void *context) {
     loop *it = (loop *)context;
     it->by = pthread_self();
-    set(&it->begins, 1);
-    sleep_ms(it->takes_long);
-    set(&it->notified, it->notified + 1);
+    it->notified++;
 }
 
 /* How often it was notified since this was last asked. */
 static int notified(loop *it) {
-    int count = is_set(&it->notified);
+    int count = it->notified;
     it->notified = 0;
     return count;
 }
@@ -37,7 +34,7 @@ static pq_code take(loop *it) {
 }
 
 static loop loop_of(pq_queue *queue) {
-    loop it = { joined(queue), pthread_self(), 0, 0, 0 };
+    loop it = { joined(queue), pthread_self(), 0 };
     return it;
 }
 
@@ -107,124 +104,27 @@ static void who_listens_no_more_is_not_notified(void) {
     pq_queue *queue = opened(3);
     loop it = loop_of(queue);
     pq_member *other = joined(queue);
-    pthread_t thread;
     CHECK(pq_unlisten(it.member) == 0 && take(&it) == PQ_EMPTY && pq_unlisten(it.member) == 1 && pq_unlisten(it.member) == 0);
     push(other, 3);
     CHECK(notified(&it) == 0 && take(&it) == PQ_OK && take(&it) == PQ_EMPTY);
     push(other, 3);
-    CHECK(notified(&it) == 1 && pq_unlisten(it.member) == 0 && take(&it) == PQ_OK);
-    /* Its notify runs in another thread: pq_unlisten returns after it. */
-    CHECK(take(&it) == PQ_EMPTY);
-    it.begins = 0;
-    it.takes_long = 30;
-    thread = started(push_one, other);
-    while (!is_set(&it.begins)) {
-    }
-    CHECK(pq_unlisten(it.member) == 0 && is_set(&it.notified) == 1);
-    ended(thread);
-    it.takes_long = 0;
-    CHECK(notified(&it) == 1 && take(&it) == PQ_OK && take(&it) == PQ_EMPTY);
-    /* So does one that is given back. */
+    CHECK(notified(&it) == 1 && pq_unlisten(it.member) == 0 && take(&it) == PQ_OK && take(&it) == PQ_EMPTY);
+    /* Nor is one that is given back. */
     pq_give_back(it.member);
     push(other, 3);
     CHECK(notified(&it) == 0);
-    pq_give_back(other);
-    close_and_free(queue);
-}
-
-/* One was notified, and listens no more without a take, or is refused; or it knew when the first item is due: another is notified in its place. */
-static void who_goes_leaves_that_to_another(void) {
-    pq_queue *queue = opened(3);
-    loop first = loop_of(queue), second = loop_of(queue);
-    pq_member *other = joined(queue);
-    pq_item item = item_of(9, 9);
-    CHECK(take(&first) == PQ_EMPTY && take(&second) == PQ_EMPTY);
-    push(other, 3);
-    CHECK(notified(&first) == 1 && notified(&second) == 0 && pq_unlisten(first.member) == 0 && notified(&second) == 1);
-    CHECK(take(&second) == PQ_OK && take(&first) == PQ_EMPTY && take(&second) == PQ_EMPTY);
-    push(other, 3);
-    CHECK(notified(&first) == 1 && pq_post(first.member, PQ_PEEK, item) == PQ_OK && take(&first) == PQ_PENDING && notified(&second) == 1);
-    CHECK(pq_combine(other) == PQ_OK && pq_poll(first.member, &item, NULL) == PQ_OK && take(&second) == PQ_OK && take(&second) == PQ_EMPTY);
-    CHECK(take(&first) == PQ_EMPTY);
-    push(other, 3);
-    CHECK(notified(&second) == 1 && notified(&first) == 0);
-    CHECK(take_up_to(&second, 2, &item) == PQ_NOT_DUE && pq_unlisten(second.member) == 1 && notified(&first) == 1);
-    CHECK(take_up_to(&first, 2, &item) == PQ_NOT_DUE && take_up_to(&second, 2, &item) == PQ_NOT_DUE);
-    /* A call that is refused in between changes nothing. */
-    CHECK(pq_post(first.member, PQ_PEEK, item) == PQ_OK && take_up_to(&first, 2, &item) == PQ_PENDING && notified(&second) == 0);
-    pq_give_back(first.member);
-    CHECK(notified(&second) == 1 && pq_combine(other) == PQ_OK);
-    pq_give_back(second.member);
-    pq_give_back(other);
-    close_and_free(queue);
-}
-
-/* It is notified where the queue is shut, and where the last item goes that was not due. */
-static void the_end_notifies(void) {
-    pq_queue *queue = opened(3);
-    loop it = loop_of(queue), late = loop_of(queue);
-    pq_member *other = joined(queue);
-    pq_item item;
-    CHECK(take(&it) == PQ_EMPTY && pq_post(other, PQ_PUSH, item_of(5, 6)) == PQ_OK && pq_shut(queue) == PQ_OK && notified(&it) == 1);
-    CHECK(take_up_to(&it, 4, &item) == PQ_NOT_DUE && take_up_to(&late, 4, &item) == PQ_NOT_DUE && is_item(item, 5, 6));
-    CHECK(notified(&it) == 0 && notified(&late) == 0 && take_up_to(&it, 5, &item) == PQ_OK && notified(&late) == 1);
-    CHECK(take(&late) == PQ_SHUT && take(&it) == PQ_SHUT && take(&it) == PQ_SHUT && pq_unlisten(it.member) == 0);
-    CHECK(notified(&it) == 0 && notified(&late) == 0);
-    pq_give_back(it.member);
-    pq_give_back(late.member);
     pq_give_back(other);
     close_and_free(queue);
 }
 
 static void it_is_refused(void) {
     pq_queue *queue = opened_as(2, PQ_FILLS, 1);
-    loop it = { NULL, pthread_self(), 0, 0, 0 };
+    loop it = { NULL, pthread_self(), 0 };
     pq_item item = item_of(9, 9);
     CHECK(take(&it) == PQ_NO_MEMBER && pq_unlisten(NULL) == 0);
     it.member = joined(queue);
     CHECK(take(&it) == PQ_EMPTY && pq_peek(pq_own(queue), &item, PQ_FOREVER, NULL) == PQ_EMPTY && notified(&it) == 1);
     CHECK(take_up_to(&it, 9, &item) == PQ_JOURNAL_FULL && is_item(item, 9, 9) && pq_unlisten(it.member) == 0);
-    pq_give_back(it.member);
-    close_and_free(queue);
-}
-
-/* The only member of a queue: a thread that listens by pq_own keeps it, and another gets it once that listens no more, or ends. */
-static void *listen_by_own(void *context) {
-    loop *it = (loop *)context;
-    CHECK(take(it) == PQ_EMPTY);
-    return NULL;
-}
-
-static void one_listens_by_pq_own(void) {
-    pq_queue *queue = opened(1);
-    loop it = { pq_own(queue), pthread_self(), 0, 0, 0 }, other = it;
-    pq_member *member = NULL;
-    CHECK(pq_unlisten(it.member) == 0 && take(&it) == PQ_EMPTY && pq_place(it.member) != UINT32_MAX);
-    CHECK(pq_join(queue, in_ms(20), &member) == PQ_ALL_JOINED && pq_close(queue, NULL) == PQ_MEMBERS_LEFT);
-    push(it.member, 3);
-    CHECK(notified(&it) == 1 && pq_unlisten(it.member) == 0 && pq_join(queue, PQ_NOW, &member) == PQ_OK);
-    push(member, 3);
-    CHECK(notified(&it) == 0);
-    pq_give_back(member);
-    CHECK(take(&it) == PQ_OK && take(&it) == PQ_OK && take(&it) == PQ_EMPTY);
-    pq_leave(queue);
-    ended(started(listen_by_own, &other));
-    push(it.member, 3);
-    CHECK(notified(&it) == 0 && notified(&other) == 0);
-    close_and_free(queue);
-}
-
-/* It never waits: another thread has the lock. */
-static void it_does_not_wait_for_the_lock(void) {
-    pq_queue *queue = opened(3);
-    loop it = loop_of(queue);
-    uint64_t begun;
-    holder own;
-    hold(&own, queue, HOLDS_AND_STOPS);
-    begun = pq_now();
-    CHECK(take(&it) == PQ_EMPTY && notified(&it) == 1 && pq_now() - begun < 1000000000);
-    let_go(&own);
-    CHECK(take(&it) == PQ_OK && take(&it) == PQ_EMPTY && notified(&it) == 0);
     pq_give_back(it.member);
     close_and_free(queue);
 }
@@ -263,11 +163,7 @@ int main(void) {
     it_is_notified_once();
     what_is_not_due_stays();
     who_listens_no_more_is_not_notified();
-    who_goes_leaves_that_to_another();
-    the_end_notifies();
     it_is_refused();
-    one_listens_by_pq_own();
-    it_does_not_wait_for_the_lock();
     a_descriptor_is_written_to();
     return 0;
 }

@@ -1,11 +1,10 @@
-/* The thread that has the lock is put aside: the others sleep, and use little of a processor, until it goes on; then all are served. And a pop of
-   what is due that found the lock held counts for nothing, in a queue that refuses rather than forget. */
+/* The thread that has the lock is put aside: the others sleep, and use little of a processor, until it goes on; then all are served. */
 #include "../wrapped.h"
 
 #include <string.h>
 #include <sys/resource.h>
 
-enum { KEPT = 65536, THREADS = 3, CALLS = 5 };
+enum { THREADS = 3, CALLS = 5 };
 static pq_queue *queue;
 
 struct side {
@@ -15,7 +14,6 @@ struct side {
     long naps;
     uint64_t used; /* nanoseconds of a processor, in its call */
     uint64_t took; /* nanoseconds of its call */
-    size_t done;
 };
 
 /* The nanoseconds for which the calling thread has had a processor. */
@@ -80,62 +78,11 @@ static void the_others_sleep(int number, int milliseconds) {
     close_and_free(queue);
 }
 
-static void *pop_what_is_due(void *own) {
-    struct side *it = (struct side *)own;
-    const uint32_t tries = requests(30000);
-    for (uint32_t i = 0; i < tries; i++) {
-        pq_item item = item_of(1, 2);
-        pq_code code = pq_pop_due(it->member, 9, &item, PQ_NOW, NULL);
-        CHECK(code == PQ_OK || code == PQ_EMPTY || code == PQ_TIMED_OUT);
-        it->done += code == PQ_OK;
-        code = i % 3 == 0 ? pq_push(it->member, item, PQ_NOW, NULL) : PQ_TIMED_OUT;
-        CHECK(code == PQ_OK || code == PQ_TIMED_OUT);
-        it->done += code == PQ_OK;
-    }
-    return NULL;
-}
-
-/* Archives all entries: how many these were. */
-static size_t archived(pq_member *member, uint64_t before) {
-    pq_journal *journal = NULL;
-    size_t count;
-    CHECK(pq_archive(member, before, PQ_FOREVER, &journal) == PQ_OK);
-    count = pq_count(journal, NULL);
-    pq_journal_free(journal);
-    return count;
-}
-
-/* Once all entries are archived as many requests are let through as memory keeps. */
-static void what_was_refused_counts_for_nothing(void) {
-    struct side sides[2];
-    size_t entries;
-    pq_item item;
-    queue = opened_as(2, PQ_REFUSES, KEPT);
-    memset(sides, 0, sizeof sides);
-    for (int i = 0; i < 2; i++) {
-        sides[i].member = joined(queue);
-        sides[i].thread = started(pop_what_is_due, &sides[i]);
-    }
-    ended(sides[0].thread);
-    ended(sides[1].thread);
-    entries = archived(sides[0].member, 0);
-    CHECK(entries == sides[0].done + sides[1].done && archived(sides[0].member, entries) == 0);
-    for (int i = 0; i < KEPT; i++) {
-        pq_code code = pq_peek(sides[0].member, &item, PQ_FOREVER, NULL);
-        CHECK(code == PQ_OK || code == PQ_EMPTY);
-    }
-    CHECK(pq_peek(sides[0].member, &item, PQ_FOREVER, NULL) == PQ_UNARCHIVED);
-    pq_give_back(sides[0].member);
-    pq_give_back(sides[1].member);
-    close_and_free(queue);
-}
-
 int main(void) {
     for (int number = 0; number < CALLS; number++) {
         the_others_sleep(number, 10);
         the_others_sleep(number, 100);
     }
     CHECK(all_used < all_took / 5);
-    what_was_refused_counts_for_nothing();
     return 0;
 }

@@ -3,7 +3,7 @@
 #include "refused.h"
 #include "system_calls.h"
 
-enum { MEMBERS = 2, THREADS = 200, EACH = 50, COMING = 10000, PLACES = 2080 };
+enum { THREADS = 200, COMING = 10000 };
 
 static pq_queue *queue;
 
@@ -103,42 +103,6 @@ static void leaves(void) {
     pq_leave(queue);
     has_none();
     pq_leave(queue);
-}
-
-/* What the threads that share two members pushed, less what they popped. */
-static uint64_t balance;
-
-static void *calls_by_turns(void *unused) {
-    pq_member *own = pq_own(queue);
-    (void)unused;
-    for (uint64_t i = 1; i <= EACH; i++) {
-        pq_item item = item_of(i % 3, i);
-        CHECK(pq_push(own, item, PQ_FOREVER, NULL) == PQ_OK);
-        __atomic_fetch_add(&balance, i, __ATOMIC_RELAXED);
-        CHECK((i % 2 == 0 ? pq_pop(own, &item, PQ_FOREVER, NULL) : pq_take(own, &item, in_ms(100000), NULL)) == PQ_OK);
-        __atomic_fetch_sub(&balance, item.value, __ATOMIC_RELAXED);
-    }
-    return NULL;
-}
-
-static void many_threads_share_two_members(void) {
-    const uint32_t threads = requests(THREADS);
-    pthread_t running[THREADS];
-    uint64_t serials[PLACES] = { 0 };
-    pq_entry entry;
-    queue = opened_as(MEMBERS, PQ_FILLS, 2 * THREADS * EACH);
-    for (uint32_t i = 0; i < threads; i++) {
-        running[i] = started(calls_by_turns, NULL);
-    }
-    for (uint32_t i = 0; i < threads; i++) {
-        ended(running[i]);
-    }
-    pq_journal *journal = closed(queue);
-    CHECK(balance == 0 && pq_count(journal, NULL) == 2 * threads * EACH);
-    for (size_t i = 0; i < 2 * threads * EACH; i++) {
-        CHECK(pq_read(journal, i, &entry) == PQ_OK && entry.reply == PQ_OK && entry.serial == ++serials[entry.place]);
-    }
-    pq_journal_free(journal);
 }
 
 /* Whether the item of this value was popped. */
@@ -325,7 +289,6 @@ static void threads_call_while_they_end(void) {
 }
 
 int main(void) {
-    many_threads_share_two_members();
     thousands_come_and_go();
     idle_members_are_taken_over();
     members_that_are_in_use_are_kept();

@@ -1,11 +1,8 @@
 /* Programs that never wait. A poll by pq_pop_due with PQ_NOW leaves no entry where it takes nothing, however many there are; it takes the
-   first item out, whatever its priority; and it does not wait for the lock. Requests are posted, and other members answer them. While
-   threads push, one that polls gets each item once. */
-#include "../wrapped.h"
+   first item out, whatever its priority. Requests are posted, and other members answer them. */
+#include "../check.h"
 
-#include <sched.h>
-
-enum { POLLS = 1000000, PUSHERS = 2, EACH = 2000 };
+enum { POLLS = 1000000 };
 
 /* Polls: whether it returns this, and leaves item and number as they were. */
 static int returns(pq_member *member, pq_code code) {
@@ -80,62 +77,9 @@ static void posts_are_answered_by_another(void) {
     pq_journal_free(journal);
 }
 
-static void polls_do_not_wait_for_the_lock(void) {
-    pq_queue *queue = opened(2);
-    pq_member *own = pq_own(queue);
-    pq_item item;
-    holder other;
-    hold(&other, queue, HOLDS_AND_STOPS);
-    for (int i = 0; i < 1000; i++) {
-        CHECK(returns(own, PQ_TIMED_OUT) && pq_push(own, item_of(1, 2), PQ_NOW, NULL) == PQ_TIMED_OUT);
-        CHECK(pq_pop(own, &item, PQ_NOW, NULL) == PQ_TIMED_OUT && pq_combine(own) == PQ_TIMED_OUT);
-    }
-    CHECK(pq_poll(own, &item, NULL) == PQ_NOT_PENDING);
-    let_go(&other);
-    for (uint32_t i = 1; i <= other.pushed; i++) {
-        CHECK(takes(own, item_of(1, 100), other.pushed + i));
-    }
-    close_and_free(queue);
-}
-
-static void *pushes_all(void *queue) {
-    for (uint64_t i = requests(EACH); i > 0; i--) {
-        CHECK(pq_push(pq_own((pq_queue *)queue), item_of(i % 3, i), PQ_FOREVER, NULL) == PQ_OK);
-    }
-    return NULL;
-}
-
-static void one_that_polls_gets_each_item_once(void) {
-    pq_queue *queue = opened(PUSHERS + 1);
-    pthread_t threads[PUSHERS];
-    int count[EACH + 1] = { 0 };
-    for (int i = 0; i < PUSHERS; i++) {
-        threads[i] = started(pushes_all, queue);
-    }
-    for (uint32_t left = PUSHERS * requests(EACH); left > 0;) {
-        pq_item item = item_of(0, 0);
-        pq_code code = pq_pop_due(pq_own(queue), 2, &item, PQ_NOW, NULL);
-        CHECK(code == PQ_OK || code == PQ_EMPTY || code == PQ_TIMED_OUT);
-        if (code == PQ_OK) {
-            CHECK(item.priority == item.value % 3 && ++count[item.value] <= PUSHERS);
-            left--;
-        } else {
-            sched_yield();
-        }
-    }
-    for (int i = 0; i < PUSHERS; i++) {
-        ended(threads[i]);
-    }
-    pq_journal *journal = closed(queue);
-    CHECK(pq_count(journal, NULL) == 2 * PUSHERS * requests(EACH));
-    pq_journal_free(journal);
-}
-
 int main(void) {
     polls_leave_no_entry();
     a_poll_takes_the_first();
     posts_are_answered_by_another();
-    polls_do_not_wait_for_the_lock();
-    one_that_polls_gets_each_item_once();
     return 0;
 }

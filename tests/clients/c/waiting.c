@@ -1,5 +1,5 @@
-/* pq_take: it ends at its deadline and not before, or with the first item, for which a sleeping thread is woken; each item goes to one taker;
-   a take without an item has no entry; signals and a cancellation don't end it, a full journal does. By joined members and by pq_own. */
+/* pq_take: it ends at its deadline and not before, or with the first item, for which a sleeping thread is woken; a take without an item
+   has no entry; signals and a cancellation don't end it. By joined members and by pq_own. */
 #define _GNU_SOURCE
 #include "../check.h"
 
@@ -8,7 +8,6 @@
 #include <unistd.h>
 
 static const uint64_t UPPER = (uint64_t)1 << 32;
-static pq_queue *queue;
 static uint64_t entries; /* how many requests there were that have one */
 
 static void push(pq_member *member, uint64_t priority, uint64_t value) {
@@ -113,69 +112,6 @@ static void is_woken_soon(pq_member *member, pq_member *other) {
     CHECK(is_soon && close(ends[0]) == 0 && close(ends[1]) == 0);
 }
 
-enum { TAKERS = 6, PUSHERS = 2, MOST = 1000 };
-static int each, by_own, got[PUSHERS * MOST];
-
-static pq_member *member_of(int own) {
-    return own ? pq_own(queue) : joined(queue);
-}
-
-static void *push_each(void *number) {
-    pq_member *member = member_of(by_own);
-    const uint64_t first = (uint64_t)(uintptr_t)number * MOST;
-    for (uint64_t i = 0; i < (uint64_t)each; i++) {
-        if (i % 5 == 0) {
-            sleep_ms((int)(i % 2));
-        }
-        CHECK(pq_push(member, item_of(i % 3, first + i), PQ_FOREVER, NULL) == PQ_OK);
-    }
-    if (!by_own) {
-        pq_give_back(member);
-    }
-    return NULL;
-}
-
-/* Takes until it gets an item of the last priority. */
-static void *take_each(void *unused) {
-    pq_member *member = member_of(by_own);
-    pq_item item = item_of(0, 0);
-    (void)unused;
-    while (pq_take(member, &item, PQ_FOREVER, NULL) == PQ_OK && item.priority < UINT64_MAX) {
-        __atomic_fetch_add(&got[item.value], 1, __ATOMIC_RELAXED);
-    }
-    CHECK(item.priority == UINT64_MAX);
-    if (!by_own) {
-        pq_give_back(member);
-    }
-    return NULL;
-}
-
-static void each_item_goes_to_one_taker(pq_member *member, int own) {
-    pthread_t takers[TAKERS], pushers[PUSHERS];
-    by_own = own;
-    each = (int)requests(MOST);
-    memset(got, 0, sizeof got);
-    for (int i = 0; i < TAKERS; i++) {
-        takers[i] = started(take_each, NULL);
-    }
-    for (int i = 0; i < PUSHERS; i++) {
-        pushers[i] = started(push_each, (void *)(uintptr_t)i);
-    }
-    for (int i = 0; i < PUSHERS; i++) {
-        ended(pushers[i]);
-    }
-    for (int i = 0; i < TAKERS; i++) {
-        push(member, UINT64_MAX, 0);
-    }
-    for (int i = 0; i < TAKERS; i++) {
-        ended(takers[i]);
-    }
-    for (int i = 0; i < PUSHERS * MOST; i++) {
-        CHECK(got[i] == (i % MOST < each));
-    }
-    entries += (uint64_t)(2 * PUSHERS * each + TAKERS);
-}
-
 static void catch_signal(int number) {
     CHECK(number == SIGUSR1);
 }
@@ -223,30 +159,11 @@ static void is_no_cancellation_point(pq_member *member) {
     CHECK(ended(started(cancel_and_wait, member)) == PTHREAD_CANCELED && has_waited);
 }
 
-static void is_refused(pq_member *member) {
-    pq_item item = item_of(9, 9);
-    CHECK(pq_take(NULL, &item, PQ_FOREVER, NULL) == PQ_NO_MEMBER);
-    CHECK(pq_post(member, PQ_PEEK, item) == PQ_OK && pq_take(member, &item, PQ_FOREVER, NULL) == PQ_PENDING);
-    CHECK(pq_combine(member) == PQ_OK && pq_poll(member, &item, NULL) == PQ_EMPTY && is_item(item, 9, 9));
-    entries++;
-}
-
-static void a_full_journal_ends_it(void) {
-    pq_queue *full = opened_as(1, PQ_FILLS, 1);
-    pq_item item = item_of(9, 9);
-    uint64_t until = in_ms(60000), number = 9;
-    CHECK(pq_peek(pq_own(full), &item, PQ_FOREVER, &number) == PQ_EMPTY && number == 1);
-    CHECK(pq_take(pq_own(full), &item, PQ_FOREVER, NULL) == PQ_JOURNAL_FULL && pq_take(pq_own(full), &item, until, NULL) == PQ_JOURNAL_FULL);
-    CHECK(pq_now() < until && is_item(item, 9, 9));
-    close_and_free(full);
-    CHECK(pq_take(pq_own(queue), &item, PQ_NOW, NULL) == PQ_EMPTY);
-}
-
 int main(void) {
     pq_member *member, *other, *own;
     pq_journal *journal;
     uint64_t before = 0;
-    queue = opened(2 + TAKERS + PUSHERS);
+    pq_queue *queue = opened(4);
     member = joined(queue);
     other = joined(queue);
     own = pq_own(queue);
@@ -260,11 +177,7 @@ int main(void) {
     is_woken_soon(own, own);
     signals_do_not_end_it(own, other);
     is_no_cancellation_point(member);
-    is_refused(member);
     pq_leave(queue);
-    each_item_goes_to_one_taker(other, 0);
-    each_item_goes_to_one_taker(other, 1);
-    a_full_journal_ends_it();
     pq_give_back(member);
     pq_give_back(other);
     journal = closed(queue);

@@ -1,11 +1,10 @@
 /* How many wakes the system is asked for: one of a thread is on its way at a time, a batch wakes as many as wait at most, and nobody is woken without
-   need; and each call that carries a push out wakes. What is there already is taken at once. That no wake is lost tests/explore tries. The linker
+   need; and a joining that carries a push out wakes. What is there already is taken at once. That no wake is lost tests/explore tries. The linker
    puts the functions __wrap_.. in place of the system's. */
 #include "../check.h"
 #include "system_calls.h"
 
 #include <sched.h>
-#include <string.h>
 
 int __real_clock_gettime(clockid_t clock, struct timespec *time);
 int __wrap_clock_gettime(clockid_t clock, struct timespec *time);
@@ -63,7 +62,6 @@ long __wrap_syscall(long number, ...) {
 
 static pq_queue *queue;
 static pq_member *taker, *other, *third;
-static int notified;
 enum { SLEEPERS = 5 };
 
 static struct sleeper {
@@ -122,11 +120,6 @@ static void one_returns(int i, pq_code code) {
     CHECK(sleepers[i].code == code);
 }
 
-static void notify(void *context) {
-    CHECK(context == &notified);
-    notified++;
-}
-
 static void push(void) {
     CHECK(pq_push(other, item_of(0, 4), PQ_FOREVER, NULL) == PQ_OK);
 }
@@ -174,26 +167,6 @@ static void one_wake_is_on_its_way_at_a_time(void) {
     end();
 }
 
-static void a_batch_asks_for_one_wake(void) {
-    pq_item items[10];
-    size_t done = 0;
-    memset(items, 0, sizeof items);
-    begin();
-    for (int i = 0; i < SLEEPERS; i++) {
-        one_sleeps(i);
-    }
-    wakes = 0;
-    add(&is_gated, 1);
-    CHECK(pq_push_many(other, items, 10, PQ_FOREVER, &done, NULL) == PQ_OK && done == 10 && count_of(&wakes) == 1);
-    add(&is_gated, -1);
-    for (int i = 0; i < SLEEPERS; i++) {
-        one_returns(i, PQ_OK);
-    }
-    CHECK(count_of(&wakes) == SLEEPERS);
-    CHECK(pq_pop_due_many(other, 0, items, 10, PQ_FOREVER, &done, NULL) == PQ_OK && done == 10 - SLEEPERS);
-    end();
-}
-
 /* Two items wake two of the threads, which take both; the others sleep on. */
 static void a_batch_wakes_as_many_as_it_has_items(void) {
     const pq_item items[2] = { { 0, 4 }, { 0, 4 } };
@@ -235,47 +208,25 @@ static void nobody_is_woken_without_need(void) {
     end();
 }
 
-/* A push that was posted is carried out by another member's request, of each kind, or by a joining: that wakes. */
-static void who_carries_out_a_push_wakes(void) {
-    for (int kind = 0; kind < 7; kind++) {
-        pq_item item;
-        pq_code code = PQ_OK;
-        pq_member *last;
-        begin();
-        last = joined(queue);
-        CHECK(kind == 6 || pq_take_or_listen(taker, 9, &item, NULL, notify, &notified) == PQ_EMPTY);
-        notified = 0;
-        if (kind == 6) {
-            one_sleeps(0);
-        }
-        CHECK(pq_post(third, PQ_PUSH, item_of(3, 4)) == PQ_OK && notified == 0);
-        switch (kind) {
-        case 0: code = pq_combine(other); break;
-        case 1: code = pq_pop(other, &item, PQ_FOREVER, NULL); break;
-        case 2: code = pq_peek(other, &item, PQ_FOREVER, NULL); break;
-        case 3: code = pq_pop_due(other, 2, &item, PQ_FOREVER, NULL) == PQ_NOT_DUE ? PQ_OK : PQ_EMPTY; break;
-        case 4: code = pq_push(other, item_of(5, 6), PQ_FOREVER, NULL); break;
-        default:
-            /* A member that was given back with its request posted is handed out again after a round. */
-            pq_give_back(third);
-            third = joined(queue);
-        }
-        CHECK(code == PQ_OK && notified == (kind < 6));
-        if (kind == 6) {
-            one_returns(0, PQ_OK);
-        }
-        pq_give_back(last);
-        end();
-    }
+/* A member that was given back with its push posted is handed out again after a round: that wakes. */
+static void who_joins_wakes(void) {
+    begin();
+    pq_member *last = joined(queue);
+    one_sleeps(0);
+    CHECK(pq_post(third, PQ_PUSH, item_of(3, 4)) == PQ_OK && count_of(&asleep) == 1);
+    pq_give_back(third);
+    third = joined(queue);
+    one_returns(0, PQ_OK);
+    pq_give_back(last);
+    end();
 }
 
 int main(void) {
     alarm(200);
     what_is_there_is_taken_at_once();
     one_wake_is_on_its_way_at_a_time();
-    a_batch_asks_for_one_wake();
     a_batch_wakes_as_many_as_it_has_items();
     nobody_is_woken_without_need();
-    who_carries_out_a_push_wakes();
+    who_joins_wakes();
     return 0;
 }

@@ -39,20 +39,10 @@ static void a_descriptor_is_readable_where_an_item_may_be() {
     CHECK(!is_readable(fd) && queue.close());
 }
 
-static void one_that_ends_wakes_another() {
+// One that is assigned has the other's descriptor, and none of its own from before.
+static void one_is_assigned() {
     auto queue = *flatpq::queue<>::open();
-    auto second = *queue.listen();
-    {
-        auto first = *queue.listen();
-        CHECK(first.take_or_listen().error() == code::empty && second.take_or_listen().error() == code::empty);
-        CHECK(queue.push(3u, 4) && is_readable(first.fd()) != is_readable(second.fd()));
-        if (is_readable(second.fd())) {
-            std::swap(first, second);
-        }
-    }
-    CHECK(is_readable(second.fd()) && *second.take_or_listen() == (item<>{3, 4}));
-    // One that is assigned has the other's descriptor, and none of its own from before.
-    auto other = *queue.listen();
+    auto second = *queue.listen(), other = *queue.listen();
     const int fd = other.fd();
     CHECK(second.take_or_listen().error() == code::empty && other.take_or_listen().error() == code::empty);
     second = std::move(other);
@@ -176,7 +166,7 @@ static void listeners_without_a_descriptor() {
 int main() {
     listeners_without_a_descriptor();
     a_descriptor_is_readable_where_an_item_may_be();
-    one_that_ends_wakes_another();
+    one_is_assigned();
     payloads_come_so();
     a_timer_is_readable_when_the_first_is_due();
     a_callback_is_called_once();

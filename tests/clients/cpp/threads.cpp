@@ -1,17 +1,15 @@
-// A hundred threads call a queue of eight members themselves: each item comes out once, whichever call takes it, and the journal has each call.
-// Threads that wait are woken by a push, and a shut queue ends all waits.
+// A hundred threads call a queue of eight members themselves: each item comes out once, whichever call takes it. A shut queue ends all
+// waits.
 #include "../check.h"
 #include "flatpq_tasks.hpp"
 
 #include <algorithm>
 #include <atomic>
 #include <memory>
-#include <string>
 #include <thread>
 #include <vector>
 
 using namespace std::chrono_literals;
-using clock_of = std::chrono::steady_clock;
 using flatpq::code;
 
 template <class Work> static void run(std::uint32_t count, Work work) {
@@ -44,34 +42,6 @@ static void each_item_comes_out_once() {
     CHECK(queue.close()->size() == 2ull * threads * each);
 }
 
-// Members move between threads, and each call's number is that of its entry, under its member's place.
-static void the_journal_has_each_call() {
-    constexpr std::uint32_t threads = 64, each = 20;
-    flatpq::queue<> queue({threads, flatpq::keeping::fills, 2 * threads * each});
-    std::vector<flatpq::member<>> members;
-    for (std::uint32_t i = 0; i < threads; ++i) {
-        members.push_back(queue.join().value());
-    }
-    std::vector<std::uint32_t> places(threads);
-    std::vector<std::vector<std::uint64_t>> numbers(threads);
-    run(threads, [&](std::uint32_t thread) {
-        auto member = std::move(members[thread]);
-        places[thread] = member.place();
-        for (std::uint32_t i = 0; i < each; ++i) {
-            numbers[thread].push_back(member.push(i % 7, thread).value());
-            numbers[thread].push_back(member.pop().number());
-        }
-    });
-    const auto journal = queue.close().value();
-    for (std::uint32_t thread = 0; thread < threads; ++thread) {
-        for (std::size_t i = 0; i < numbers[thread].size(); ++i) {
-            const auto entry = *journal.read(numbers[thread][i] - 1);
-            CHECK(entry.number == numbers[thread][i] && entry.place == places[thread] && entry.serial == i + 1);
-            CHECK(i % 2 != 0 ? entry.request == flatpq::request::pop : entry.item == flatpq::item<>(i / 2 % 7, thread));
-        }
-    }
-}
-
 // No payload is lost where a queue is shut while threads push and take.
 static void a_shut_queue_ends_all_waits(std::chrono::milliseconds a_while) {
     flatpq::task_queue<std::unique_ptr<int>> queue({8});
@@ -101,22 +71,6 @@ static void a_shut_queue_ends_all_waits(std::chrono::milliseconds a_while) {
     CHECK(pushed == taken && queue.close()->take().error() == code::empty);
 }
 
-// A timer service that is stopped: what is left is cleared before or after its end.
-static void timers_are_stopped(bool clears_first) {
-    flatpq::task_queue<std::string, clock_of::time_point> service({4});
-    for (int i = 0; i < 5; ++i) {
-        CHECK(service.push(clock_of::now() + 1h, "a timer that nobody waits for any more"));
-    }
-    std::thread stops([&] {
-        auto member = service.join().value();
-        std::this_thread::sleep_for(10ms);
-        CHECK(!clears_first || *member.clear() == 5);
-        CHECK(service.shut() == code::ok && (clears_first || *member.clear() == 5));
-    });
-    run(3, [&](std::uint32_t) { CHECK(service.take_due(1h).error() == code::shut); });
-    stops.join();
-}
-
 static flatpq::queue<> *late_queue = nullptr;
 
 /// Pushes as its thread ends, after the thread gave its member back.
@@ -137,12 +91,9 @@ static void a_thread_that_ends_calls_still() {
 
 int main() {
     each_item_comes_out_once();
-    the_journal_has_each_call();
     for (int i = 0; i < 5; ++i) {
         a_shut_queue_ends_all_waits(std::chrono::milliseconds(i));
     }
-    timers_are_stopped(true);
-    timers_are_stopped(false);
     a_thread_that_ends_calls_still();
     return 0;
 }

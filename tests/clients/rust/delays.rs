@@ -1,9 +1,7 @@
 //! What users of a queue of delays expect that resets and removes them, case by case, as those of tokio's `DelayQueue` do. A case is a script
-//! over times in milliseconds, which has a clock of its own: no case sleeps. The last tests sleep, and are woken.
-use flatpq::{Due, Error, Options, TaskQueue};
+//! over times in milliseconds, which has a clock of its own.
+use flatpq::{Options, TaskQueue};
 use std::collections::HashMap;
-use std::thread;
-use std::time::{Duration, Instant};
 
 enum Step {
     /// A payload goes in, and is to come out at this time.
@@ -121,46 +119,4 @@ fn each_case_goes_as_expected() {
             assert!(delays.does(step), "{case}: step {number}");
         }
     }
-}
-
-const MOMENT: Duration = Duration::from_millis(20);
-
-/// The last delay is removed, for which a service waits that is shut: it ends then.
-#[test]
-fn a_removal_of_the_last_ends_a_service_that_is_shut() {
-    let queue: TaskQueue<Instant, u32> = Options::new().tickets(true).open().unwrap();
-    let late = Instant::now() + 5000 * MOMENT;
-    let tickets = [1, 2].map(|payload| queue.push(late, payload).unwrap());
-    thread::scope(|threads| {
-        let waits = threads.spawn(|| queue.take_due());
-        thread::sleep(MOMENT);
-        queue.shut().unwrap();
-        assert_eq!(queue.remove(tickets[0]), Ok(Some((late, 1))));
-        thread::sleep(MOMENT);
-        assert!(!waits.is_finished());
-        assert_eq!(queue.remove(tickets[1]), Ok(Some((late, 2))));
-        assert_eq!(waits.join().unwrap(), Err(Error::Shut));
-    });
-    assert!(Instant::now() < late);
-}
-
-/// Resets wake who waits, and what is reset to a later time doesn't come out at the old one.
-#[test]
-fn a_reset_to_now_wakes_one_who_waits() {
-    let queue: TaskQueue<Instant, u32> = Options::new().tickets(true).open().unwrap();
-    let (soon, late) = (Instant::now() + 3 * MOMENT, Instant::now() + 5000 * MOMENT);
-    let tickets = [(soon, 1), (late, 2)].map(|(due, payload)| queue.push(due, payload).unwrap());
-    thread::scope(|threads| {
-        let waits = threads.spawn(|| queue.take_due().unwrap().1);
-        thread::sleep(MOMENT);
-        queue.reschedule(tickets[0], late).unwrap().unwrap();
-        thread::sleep(3 * MOMENT);
-        assert!(!waits.is_finished());
-        queue
-            .reschedule(tickets[1], Instant::now())
-            .unwrap()
-            .unwrap();
-        assert_eq!(waits.join().unwrap(), 2);
-    });
-    assert_eq!(queue.pop_due(Instant::now()), Ok(Due::Later(late)));
 }

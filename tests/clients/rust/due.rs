@@ -1,7 +1,6 @@
 //! A delay queue: a payload comes out once it is due and not before. What an earlier push, a deadline and a shut do to a thread that waits is
 //! in `expected.rs`.
 use flatpq::{Due, Error, Key, Options, TaskQueue, TickKey, TimeKey};
-use std::thread;
 use std::time::{Duration, Instant};
 
 const UNIT: Duration = Duration::from_millis(1);
@@ -78,41 +77,4 @@ fn a_type_of_keys_has_its_unit() {
     assert_eq!(queue.take_due(), Ok((soon, "soon")));
     assert!(began.elapsed() < 1000 * UNIT);
     assert!(Instant::now().to_number() ^ 1 << 63 >= soon.0 * 1000);
-}
-
-type Timers = TaskQueue<Instant, u32>;
-
-/// Workers wait for what is due in a minute, and the queue is shut. Once the last payload was taken out they return at once.
-#[test]
-fn workers_go_once_a_shut_queue_is_empty() {
-    let takes: [fn(&Timers) -> Option<u32>; 4] = [
-        |queue| queue.pop().unwrap().map(|(_, it)| it),
-        |queue| queue.take().ok().map(|(_, it)| it),
-        |queue| queue.drain().map(|it| it.unwrap().1).last(),
-        |queue| {
-            queue
-                .listener()
-                .unwrap()
-                .try_take()
-                .unwrap()
-                .map(|(_, it)| it)
-        },
-    ];
-    for take in takes {
-        let queue = TaskQueue::new().unwrap();
-        let late = Instant::now() + Duration::from_secs(60);
-        queue.push(late, 1).unwrap();
-        thread::scope(|scope| {
-            let workers = [(); 3].map(|()| scope.spawn(|| queue.take_due()));
-            thread::sleep(10 * UNIT);
-            queue.shut().unwrap();
-            thread::sleep(5 * UNIT);
-            assert!(workers.iter().all(|it| !it.is_finished()));
-            assert_eq!(take(&queue), Some(1));
-            for worker in workers {
-                assert_eq!(worker.join().unwrap(), Err(Error::Shut));
-            }
-        });
-        assert!(Instant::now() < late);
-    }
 }

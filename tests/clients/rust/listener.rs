@@ -77,44 +77,6 @@ fn a_timer_is_readable_once_the_first_is_due() {
 }
 
 #[test]
-fn timers_and_threads_get_all() {
-    const EACH: u64 = 1000;
-    let queue = TaskQueue::new().unwrap();
-    let listens = || {
-        let mut listener = queue.due_listener().unwrap();
-        let mut sum = 0;
-        loop {
-            match listener.try_take_due() {
-                Ok(Due::Got(moment, number)) => {
-                    assert!(moment <= Instant::now());
-                    sum += number;
-                }
-                Ok(_) => assert!(is_readable(&listener, 60_000)),
-                Err(error) => {
-                    assert_eq!(error, Error::Shut);
-                    return sum;
-                }
-            }
-        }
-    };
-    let takes = || -> u64 { std::iter::from_fn(|| queue.take_due().ok().map(|it| it.1)).sum() };
-    let sum: u64 = thread::scope(|scope| {
-        let loops = [(); 2].map(|()| scope.spawn(listens));
-        let taking = scope.spawn(takes);
-        for number in 0..EACH {
-            let later = Duration::from_micros(number * 7919 % 3000);
-            queue.push(Instant::now() + later, number).unwrap();
-            if number % 100 == 0 {
-                thread::sleep(Duration::from_micros(200));
-            }
-        }
-        queue.shut().unwrap();
-        loops.map(|it| it.join().unwrap()).iter().sum::<u64>() + taking.join().unwrap()
-    });
-    assert_eq!(sum, EACH * (EACH - 1) / 2);
-}
-
-#[test]
 fn loops_and_threads_get_all() {
     const EACH: u64 = 2000;
     let queue = TaskQueue::new().unwrap();

@@ -18,7 +18,12 @@ void check_begin(pq_options options, int is_observed) {
     ending = STANDS;
     loses = count_done = heard_end = 0;
     observer = NULL;
-    if (pq_open(&options, &queue) != PQ_OK || (is_observed && pq_join(queue, PQ_NOW, &observer) != PQ_OK)) {
+    if (played.wraps != NULL) {
+        played.wraps->opens(&options);
+    } else {
+        (void)!pq_open(&options, &queue);
+    }
+    if (queue == NULL || (is_observed && pq_join(queue, PQ_NOW, &observer) != PQ_OK)) {
         fail("no queue");
     }
 }
@@ -155,6 +160,9 @@ void check_settled(void) {
         check_awaiting(i);
     }
     check_members();
+    if (played.wraps != NULL) {
+        played.wraps->settles();
+    }
     if (!observe(&it)) {
         return;
     }
@@ -179,9 +187,18 @@ void check_shut_at_end(void) {
     for (int i = 0; i < fiber_count; i++) {
         waits |= fibers[i].state != ENDED;
     }
-    if (waits && ending == STANDS && pq_shut(queue) != PQ_OK) {
+    if (waits && ending == STANDS && (played.wraps != NULL ? played.wraps->shuts() : pq_shut(queue)) != PQ_OK) {
         fail("the queue is not shut");
     }
+}
+
+static void free_queue(void) {
+    if (played.wraps != NULL) {
+        played.wraps->frees();
+    } else {
+        pq_free(queue, NULL, NULL);
+    }
+    descriptors_end();
 }
 
 void check_end(void) {
@@ -192,7 +209,7 @@ void check_end(void) {
     }
     pq_give_back(observer);
     if (ending == CLOSED) {
-        pq_free(queue, NULL, NULL);
+        free_queue();
         return;
     }
     if (queue->concerned != 0 || queue->alarm_count != 0 || queue->staying != 0 || queue->first != NULL || queue->takers.first != NULL
@@ -206,5 +223,5 @@ void check_end(void) {
     }
     check_journal(journal, all, count_done, heard_end);
     pq_journal_free(journal);
-    pq_free(queue, NULL, NULL);
+    free_queue();
 }

@@ -6,15 +6,14 @@
 
 #include "inside.h"
 #include "points.h"
+#include "wrapping.h"
 
 #include <ucontext.h>
 
-enum { MOST_FIBERS = 8, MOST_TIMERS = 8, MOST_LATE = 8 };
+enum { MOST_TIMERS = 8, MOST_LATE = 8 };
 /* When an execution begins, in nanoseconds. */
 enum { BEGIN = 1000000 };
 
-/* In which call a thread of a scenario is: check.c knows by it whether it could go on. */
-enum call { NO_CALL, CALLS, TAKES, TAKES_DUE, PUSHES, LISTENS_FOR, LISTENS_FOR_DUE, HAS_ALARM, AWAITS };
 enum state { READY, ON_MUTEX, ON_WORD, NAPS, SLEEPS, ENDED };
 
 /* A thread of a scenario. */
@@ -43,15 +42,13 @@ typedef struct fiber {
 /* scheduler.c: fibers, and virtual time. `me` is NULL outside of all fibers. */
 extern fiber *me, fibers[MOST_FIBERS];
 extern int fiber_count;
-extern uint64_t now, timers[MOST_TIMERS];
+extern uint64_t timers[MOST_TIMERS];
 int index_of(const fiber *it);
 uint64_t next_time(void); /* when the first of those that sleep goes on; PQ_FOREVER: none does */
 int is_ready(const fiber *it);
 void pass_time(uint64_t to);
 void block(enum state state, const void *at, uint64_t until);
-void wake_word(const void *word);
 void execute(void);
-void fail(const char *why, ...) __attribute__((format(printf, 1, 2), noreturn));
 void print_trace(void);
 
 /* search.c: which fiber goes on. */
@@ -77,22 +74,25 @@ void system_begin(void);
 void proved_begin(void);
 void end_thread(void); /* the destructor of its key runs */
 
+/* descriptors.c */
+void descriptors_begin(void);
+void descriptors_end(void);
+uint64_t *timer_of(int descriptor);
+long descriptor_write(int descriptor);
+
 /* scenario.c: what is played. */
 typedef struct scenario {
     const char *name;
     char *opening, *threads[MOST_FIBERS];
-    int count, holds; /* the lock is held around each proved call */
+    int count, holds;     /* the lock is held around each proved call */
+    const wrapper *wraps; /* by which its queue is opened */
 } scenario;
 extern scenario played;
 void scenario_read(const char *name, const char *text);
 void scenario_begin(void);
 void scenario_run(int which);
 
-/* requests.c, listeners.c, members.c: what a thread can do, by a word and up to three numbers. One that is left out is PQ_FOREVER. */
-typedef struct word {
-    const char *text;
-    void (*does)(int which, const uint64_t *numbers);
-} word;
+/* requests.c, listeners.c, members.c: what a thread can do. */
 extern const word request_words[], listener_words[], member_words[];
 extern pq_member *used[MOST_FIBERS]; /* the member of each thread */
 extern uint32_t posted[MOST_FIBERS]; /* what it posted; UINT32_MAX: that was refused */
@@ -102,7 +102,6 @@ void members_begin(void);
 void put(uint64_t priority);
 void use_members(int joined);
 void give_back(int which);
-void sleep_at(const uint32_t *at, uint32_t seen, uint64_t until);
 
 /* check.c, journal.c: what holds whenever nobody can run, and at the end of each execution. */
 typedef struct done {
@@ -116,8 +115,6 @@ extern pq_queue *queue;
 extern enum ending { STANDS, CLOSED, FREED } ending; /* what the scenario has done to its queue */
 extern int loses;                                    /* a pop that was posted is given back, so no call returns its item */
 void check_begin(pq_options options, int is_observed);
-void check_call_begins(enum call call, uint64_t limit, uint64_t number);
-void check_call_ends(uint32_t request, pq_code code, pq_item item, uint64_t number);
 void check_settled(void);
 void check_end(void);
 void check_shut_at_end(void);

@@ -55,11 +55,31 @@ static void follow(size_t number, const pq_entry *entry) {
     }
 }
 
+static int is_of(const done *it, const pq_entry *entry) {
+    const int is_same = it->number == UNNUMBERED ? memcmp(&it->item, &entry->item, sizeof it->item) == 0 : it->number == entry->number;
+    return it->code == PQ_OK && is_same;
+}
+
+/* The index of the entry that took this call's item out. */
+static size_t place_of_done(const pq_journal *journal, const done *it) {
+    const size_t count = pq_count(journal, NULL);
+    size_t i = 0;
+    for (pq_entry entry; i < count; i++) {
+        if (pq_read(journal, i, &entry) == PQ_OK && entry.request == it->request && is_of(it, &entry)) {
+            break;
+        }
+    }
+    return i;
+}
+
 /* A call returned this entry, and no other did. */
 static void check_done(const pq_journal *journal, const done *all, int which) {
     const done *it = &all[which];
     pq_entry entry;
-    if (it->number == 0 || it->request > PQ_RESCHEDULE) {
+    if (it->number == UNNUMBERED && place_of_done(journal, it) == pq_count(journal, NULL)) {
+        fail("a call returned the item %llu, and no entry took it out", (unsigned long long)it->item.value);
+    }
+    if (it->number == 0 || it->number == UNNUMBERED || it->request > PQ_RESCHEDULE) {
         return;
     }
     for (int i = 0; i < which; i++) {
@@ -80,7 +100,7 @@ static void check_returned(const pq_entry *entry, const done *all, int count) {
         return;
     }
     for (int i = 0; i < count; i++) {
-        returned += all[i].number == entry->number && all[i].code == PQ_OK;
+        returned += (all[i].request == PQ_POP || all[i].request == PQ_REMOVE) && is_of(&all[i], entry);
     }
     if (returned != 1) {
         fail("entry %llu took an item out, and %d calls returned it", (unsigned long long)entry->number, returned);

@@ -42,7 +42,7 @@ static pq_code begin_listening(int which, uint64_t priority, pq_item *first) {
 
 void sleep_at(const uint32_t *at, uint32_t seen, uint64_t until) {
     scheduler_point("wait", at, READS, __FILE__, __LINE__);
-    while (*at == seen && until > now) {
+    while (*at == seen && until > now && !(is_over && me->call == SERVES)) {
         block(ON_WORD, at, until);
     }
 }

@@ -122,7 +122,7 @@ static void sleep_to(int which, const uint64_t *numbers) {
 
 /* Something is to be done after this: nothing is settled meanwhile. */
 static void nap(int which, const uint64_t *numbers) {
-    block(NAPS, NULL, now + numbers[0] - BEGIN);
+    nap_for(numbers[0] - BEGIN);
 }
 
 static void tell(int which, const uint64_t *numbers) {

@@ -8,11 +8,7 @@
 #include <sys/timerfd.h>
 #include <time.h>
 #include "core.h"
-
-/* What the step after a point does to the word there. FREES: to each word of the block. NOTHING: others see nothing of it. */
-enum access { NOTHING, READS, WRITES, LOCKS, TRIES_LOCK, UNLOCKS, FREES };
-
-void scheduler_point(const char *what, const void *at, enum access access, const char *file, int line);
+#include "access.h"
 
 /* system.c: what the library calls instead of the system. */
 void system_drain(void); /* the stores that this thread has delayed are made */

@@ -14,8 +14,12 @@ void requests_begin(void) {
     ticket = value = 0;
 }
 
+uint64_t next_value(void) {
+    return ++value;
+}
+
 static pq_item new_item(uint64_t priority) {
-    const pq_item made = { priority, ++value };
+    const pq_item made = { priority, next_value() };
     return made;
 }
 

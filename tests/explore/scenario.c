@@ -5,7 +5,8 @@
  *
  * Of the queue: members=N (joined ones, one a thread where it is left out), own=N (threads use their own members, of so many), tickets, bound=N,
  * entries=N (its journal fills; else it has 48), forgets, item=PRIORITY (it is there, and `remove` and `move` mean the first), held (the lock
- * is held around each proved call), unobserved (the scenario ends the queue), no-barriers, no-keys (the system refuses them), fences.
+ * is held around each proved call), unobserved (the scenario ends the queue), no-barriers, no-keys (the system refuses them), fences; cpp or rust
+ * (that wrapper opens it, its words come before those here, and calls in C are by threads' own members).
  * The tables of requests.c, listeners.c and members.c have the words of threads. A time is in us or ms from the beginning. A deadline may be
  * `now`; one that is left out is for ever.
  */
@@ -33,11 +34,22 @@ static uint64_t time_or_number(const char *text) {
     return number;
 }
 
+static const wrapper *wrapper_of(const char *opening) {
+    if (strstr(opening, "cpp") != NULL) {
+        return &cpp_wrapper;
+    }
+    if (strstr(opening, "rust") != NULL && &rust_wrapper == NULL) {
+        fail("the wrapper in Rust is not linked");
+    }
+    return strstr(opening, "rust") != NULL ? &rust_wrapper : NULL;
+}
+
 void scenario_read(const char *name, const char *text) {
     char *left = strdup(text), *part = strsep(&left, "|");
     played.name = name;
     played.opening = part;
     played.holds = strstr(part, "held") != NULL;
+    played.wraps = wrapper_of(part);
     while ((part = strsep(&left, "|")) != NULL) {
         if (played.count == MOST_FIBERS) {
             fail("a scenario has at most %d threads", MOST_FIBERS);
@@ -86,7 +98,7 @@ static void read_option(opening *it, char *text) {
         it->is_unobserved = 1;
     } else if (strcmp(name, "fences") == 0) {
         flatpq_special = FENCES;
-    } else if (strcmp(name, "held") != 0) {
+    } else if (strcmp(name, "held") != 0 && (played.wraps == NULL || strcmp(name, played.wraps->name) != 0)) {
         fail("no queue is '%s'", name);
     }
 }
@@ -112,25 +124,25 @@ void scenario_begin(void) {
             read_option(&it, part);
         }
     }
-    if (it.own > 0 && it.item_count > 0) {
-        fail("no thread is there yet that has a member of its own, by which to push");
-    }
     joined = it.own > 0 ? 0 : it.options.members != 0 ? it.options.members : (uint32_t)played.count;
     it.options.members = it.own + joined;
     check_begin(it.options, !it.is_unobserved);
-    use_members((int)joined);
+    use_members(it.item_count > 0 && joined == 0 ? 1 : (int)joined);
     for (int i = 0; i < it.item_count; i++) {
         put(it.items[i]);
+    }
+    for (int i = 0; i < MOST_FIBERS && (joined == 0 || played.wraps != NULL); i++) {
+        give_back(i);
     }
 }
 
 static void do_word(int which, char **words, int count) {
-    const word *const tables[] = { request_words, listener_words, member_words };
+    const word *const tables[] = { played.wraps != NULL ? played.wraps->words : request_words, request_words, listener_words, member_words };
     uint64_t numbers[] = { PQ_FOREVER, PQ_FOREVER, PQ_FOREVER };
     for (int i = 1; i < count; i++) {
         numbers[i - 1] = time_or_number(words[i]);
     }
-    for (int i = 0; i < 3; i++) {
+    for (int i = 0; i < 4; i++) {
         for (const word *it = tables[i]; it->text != NULL; it++) {
             if (strcmp(it->text, words[0]) == 0) {
                 it->does(which, numbers);
@@ -155,6 +167,9 @@ void scenario_run(int which) {
         if (count > 0) {
             do_word(which, words, count);
         }
+    }
+    if (played.wraps != NULL) {
+        played.wraps->thread_ends(which);
     }
     give_back(which);
 }

@@ -18,8 +18,8 @@
 enum { STACK = 1 << 18, MOST_STEPS = 100000 };
 
 fiber *me, fibers[MOST_FIBERS];
-int fiber_count;
-uint64_t now, timers[MOST_TIMERS];
+int fiber_count, is_over;
+uint64_t now, executions, timers[MOST_TIMERS];
 static ucontext_t outside;
 static thread first_thread;
 static pace first_pace;
@@ -205,6 +205,14 @@ void wake_word(const void *word) {
     }
 }
 
+void nap_for(uint64_t nanoseconds) {
+    block(NAPS, NULL, now + nanoseconds);
+}
+
+int scheduler_thread(void) {
+    return me != NULL ? index_of(me) : -1;
+}
+
 static void record(const char *what, const char *file, int line) {
     const struct step it = { index_of(me), line, what, file, now };
     steps[step_count++] = it;
@@ -283,27 +291,39 @@ static void begin(void) {
     }
     flatpq_thread = first_thread;
     flatpq_pace = first_pace;
-    step_count = fiber_count = 0;
+    step_count = fiber_count = is_over = 0;
     now = BEGIN;
+    executions++;
     for (int i = 0; i < MOST_TIMERS; i++) {
         timers[i] = PQ_FOREVER;
     }
     races_begin();
     system_begin();
+    descriptors_begin();
     proved_begin();
     requests_begin();
     listeners_begin();
     members_begin();
 }
 
-/* Plays a schedule: until all have ended or sleep for ever, and once more after a shut. */
+/* Those that serve others end. */
+static void end_service(void) {
+    is_over = 1;
+    for (int i = 0; i < fiber_count; i++) {
+        if (fibers[i].state == ON_WORD && fibers[i].call == SERVES) {
+            fibers[i].state = READY;
+        }
+    }
+}
+
+/* Plays a schedule: until all have ended or sleep for ever, once more after a shut, and once more for those that serve. */
 void execute(void) {
     begin();
     scenario_begin();
     while (fiber_count < played.count) {
         make_fiber(fiber_count++);
     }
-    for (int round = 0; round < 2; round++) {
+    for (int round = 0; round < 3; round++) {
         thread kept = flatpq_thread;
         int choice;
         fiber *first = choose_fiber(NULL, NULL, NOTHING, &choice);
@@ -314,6 +334,8 @@ void execute(void) {
         flatpq_thread = kept;
         if (round == 0) {
             check_shut_at_end();
+        } else if (round == 1) {
+            end_service();
         }
     }
     for (int i = 0; i < fiber_count; i++) {

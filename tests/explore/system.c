@@ -186,6 +186,8 @@ long system_call(const char *file, int line, long number, ...) {
         for (int i = 0; i < fiber_count && result == 0; i++) {
             drain(&fibers[i]);
         }
+    } else if (number == SYS_write) {
+        result = descriptor_write(va_arg(all, int));
     } else {
         fail("a system call, %ld, of which the explorer knows nothing", number);
     }
@@ -195,11 +197,12 @@ long system_call(const char *file, int line, long number, ...) {
 
 int system_set_timer(int timer, const struct itimerspec *at) {
     const uint64_t time = (uint64_t)at->it_value.tv_sec * second + (uint64_t)at->it_value.tv_nsec;
-    scheduler_point("timer", &timers[timer], WRITES, __FILE__, __LINE__);
-    timers[timer] = time == 0 ? PQ_FOREVER : time;
+    uint64_t *set = timer_of(timer);
+    scheduler_point("timer", set, WRITES, __FILE__, __LINE__);
+    *set = time == 0 ? PQ_FOREVER : time;
     for (int i = 0; i < fiber_count; i++) {
-        if (fibers[i].state == SLEEPS && fibers[i].at == &timers[timer]) {
-            fibers[i].until = timers[timer];
+        if (fibers[i].state == SLEEPS && fibers[i].at == set) {
+            fibers[i].until = *set;
             races_enable(i, me != NULL ? index_of(me) : i);
         }
     }

@@ -1,12 +1,12 @@
 //! Code of the user that a call of the library gives rise to: wakers, and drops of payloads. It may call the library, and panic, so it
 //! runs once that call has returned.
+use crate::sync::{channel, thread_local, AtomicBool, Builder, Mutex, MutexGuard, Sender};
 use std::cell::Cell;
 use std::panic::{catch_unwind, AssertUnwindSafe};
-use std::sync::atomic::{AtomicBool, Ordering};
-use std::sync::mpsc::{channel, Sender};
-use std::sync::{Mutex, MutexGuard, PoisonError};
+use std::sync::atomic::Ordering;
+use std::sync::PoisonError;
 use std::task::Waker;
-use std::{io, mem, ptr, thread};
+use std::{io, mem, ptr};
 
 /// What is run after a call.
 #[derive(Default)]
@@ -115,7 +115,7 @@ fn start() -> bool {
 fn start_waking() -> io::Result<Sender<Waker>> {
     let (sender, wakers) = channel::<Waker>();
     let wake_each = move || wakers.into_iter().for_each(wake_caught);
-    let thread = thread::Builder::new().name("flatpq wakers".to_string());
+    let thread = Builder::new().name("flatpq wakers".to_string());
     thread.spawn(wake_each).map(|_| sender)
 }
 

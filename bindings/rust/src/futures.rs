@@ -3,6 +3,7 @@ use crate::after::{self, locked};
 use crate::error::{Due, Error};
 use crate::key::{Key, TimeKey};
 use crate::raw::Notify;
+use crate::sync::Mutex;
 use crate::tasks::{Shared, TaskMember, TaskQueue};
 use std::collections::BTreeMap;
 use std::future::Future;
@@ -10,7 +11,7 @@ use std::mem;
 use std::os::raw::c_void;
 use std::pin::Pin;
 use std::sync::atomic::{AtomicU64, Ordering};
-use std::sync::{Arc, Mutex};
+use std::sync::Arc;
 use std::task::{Context, Poll, Waker};
 use std::time::Instant;
 

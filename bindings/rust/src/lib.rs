@@ -73,6 +73,7 @@ mod listener;
 mod options;
 mod payload;
 mod raw;
+mod sync;
 mod tasks;
 
 pub use batches::Pushed;

@@ -10,11 +10,12 @@ use crate::key::{Key, TimeKey};
 use crate::options::Options;
 use crate::payload::{self, payload_of, value_of};
 use crate::raw::{self, RawMember, RawOptions, RawQueue};
+use crate::sync::AtomicBool;
 use std::cell::Cell;
 use std::marker::PhantomData;
 use std::os::raw::c_void;
 use std::os::unix::io::{AsRawFd, BorrowedFd};
-use std::sync::atomic::{AtomicBool, Ordering};
+use std::sync::atomic::Ordering;
 use std::sync::{Arc, Mutex};
 use std::{fmt, iter::FusedIterator};
 
@@ -391,8 +392,8 @@ impl<K, T> TaskMember<K, T> {
         }
     }
 
-    /// Ends the listening, and drops the waker: whether the member listened, and no call had begun to wake its task. If false, a wake may
-    /// still come.
+    /// Ends the listening, and drops the waker: whether the member listened, and no call had begun to wake its task since it listened last. A
+    /// wake that had begun may still come.
     pub fn unlisten(&mut self) -> bool {
         // SAFETY: the member is there, and in this call alone.
         let listened = after::calling(|| unsafe { raw::pq_unlisten(self.raw.inside()) } == 1);

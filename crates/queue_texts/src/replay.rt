@@ -273,6 +273,7 @@ impl<S: TicketStore<Entry<P>>, A: Allocator, P: Part> Replay<S, A, P> {
 
     /// What the lines leave: the store, which holds the items that are in the queue then, how many lines came before those that
     /// are kept, and these, the last 65,536. The replay is handed over in a place, which is empty then, as a Book is.
+    #[tactic(auto, unfolding(pq_book::specs::Pages::long_page))]
     pub fn take_parts(place: &mut Option<Self>) -> (S, u64, Vec<Line<P>, A>)
         requires { IsSome place.old }
         ensures { IfSome place.old (λ replay. Leaves replay.journal (S.content result.0) result.1 result.2.items) }

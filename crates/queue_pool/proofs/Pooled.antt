@@ -8,7 +8,7 @@ use Rattle.std.specs.List.{All}
 use Rattle.pq_types.specs.Asked.{Answer}
 use Rattle.announce_board.specs.Tokens.{is_idle}
 use Rattle.announce_board.specs.Asking.{LooksBy}
-use Rattle.flat_queue.specs.Members.{QueueName, Joined, StaysAtPlace}
+use Rattle.flat_queue.specs.Members.{QueueName, Coming, Joined, StaysAtPlace}
 use Rattle.flat_queue.specs.Turns.{LeadsBy, FindsLockHeld, LooksInVainBy}
 use Rattle.flat_queue.specs.TrailSweeping.{MakesTrailRoundBy}
 use Rattle.queue_pool.specs.Pool.{IsIdleAt, WaitsAt, FindsAnswerBy, AllInVainBy, FirstInVainBy, FirstAnsweredBy, AskedInVainBy, FirstToldBy, FirstLedBy, FirstFoundHeld}
@@ -130,3 +130,10 @@ all_members here queue idle waiting members same are wait e =
       subst (All led_not) (sym e)
           (All-append led_not idle waiting (All-weaker (IsIdleAt queue) led_not (λ m h. h.2) idle are) (All-weaker (WaitsAt queue) led_not (λ m h. h.2) waiting wait)),
     )
+
+-- the newcomers of a pool are of its queue, and none comes behind those that have not joined
+pub all_newcomers : (here queue : QueueName) (unjoined newcomers all : List Coming) → here ≡ queue → unjoined ≡ [] → All (λ (n : Coming). n.queue ≡ queue) newcomers
+    → all ≡ unjoined ++ newcomers → All (λ (n : Coming). n.queue ≡ here) all
+all_newcomers here queue unjoined newcomers all same none are e =
+    let of_queue = λ (n : Coming). n.queue ≡ here in
+    subst (All of_queue) (sym (e ∙ ap (λ l. l ++ newcomers) none)) (All-weaker (λ (n : Coming). n.queue ≡ queue) of_queue (λ n h. h ∙ sym same) newcomers are)

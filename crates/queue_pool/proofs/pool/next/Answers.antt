@@ -1,8 +1,10 @@
 use Rattle.std.proofs.Common.{◌≡◌, sym, refl, subst, inl, inr, [], length, rules}
+use Rattle.std.specs.Prelude.{Some}
 use Rattle.std.proofs.lemmas.List.{append-nil}
+use Rattle.std.proofs.lemmas.List.Elements.{All-pop}
 use Rattle.std.proofs.lemmas.Option.{IfSome_then}
 use Rattle.flat_queue.specs.Members.{Coming}
-use Rattle.queue_pool.specs.Pool.{FirstJoins}
+use Rattle.queue_pool.specs.Pool.{IsIdleAt, FirstJoins}
 use Rattle.queue_pool.proofs.Pooled.{all_rest, all_asked, if_none_then}
 use Rattle.queue_pool.proofs.pool.next.Goals as goal
 
@@ -15,6 +17,14 @@ pub returns-in-Some-pop_front-clause-newcomers : goal.returns-in-Some-pop_front-
 returns-in-Some-pop_front-clause-newcomers g c =
     let here = λ (n : Coming). n.queue ≡ c.args.queue.now in
     all_rest here c.args.newcomers.now.items c.pop_front.new.self.items c.pop_front.result c.pop_front.ensures.items c.requires.newcomers
+
+pub returns-in-Some-clause-idle : goal.returns-in-Some-clause-idle
+returns-in-Some-clause-idle g c =
+    (All-pop (IsIdleAt c.args.queue.now) c.args.idle.now.items c.pop.new.self.items c.pop.result c.pop.ensures.items c.requires.idle).0
+
+pub returns-in-Some-clause-is_idle : goal.returns-in-Some-clause-is_idle
+returns-in-Some-clause-is_idle g c =
+    (All-pop (IsIdleAt c.args.queue.now) c.args.idle.now.items c.pop.new.self.items (Some c.in-Some.member) c.in-Some.ensures.items c.requires.idle).1
 
 pub returns-in-Some-clause-comes : goal.returns-in-Some-clause-comes
 returns-in-Some-clause-comes g c = record { from = inl (search rules) }

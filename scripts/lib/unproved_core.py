@@ -1,11 +1,11 @@
 """Builds the core of the library without any proof: one object that shows the calls pq_core_.. of crates/queue_c.
 
 The front end lowers only what a program's main reaches. So in a copy of the crates queue_c becomes a program, whose main makes each call
-that the crate exports. In the module each call gets its own name, and main goes. The toolchain's clang compiles the module as it does that
-of a proved crate.
+that the crate exports. The module then shows each call by its own name, and no main. The toolchain's clang compiles it as it does that of a
+proved crate.
 
-Where the sources were proved elsewhere no check can fail. The core is then compiled without them (scripts/lib/unproved_module.py), and
-takes a quarter more instructions than a proved one, as the front end drops hints to inline."""
+The front end drops hints to inline, which are put in again (scripts/lib/hints.py). Where the sources were proved elsewhere no check can fail.
+The core is then compiled without them (scripts/lib/unproved_module.py), and has the instructions of a proved one."""
 import glob
 import os
 import re
@@ -13,6 +13,7 @@ import shutil
 
 import crate_list
 import joining
+from hints import with_hints
 from tree import TOP, text_of
 from unproved import TARGET, Build, NotBuilt
 from unproved_module import without_checks
@@ -20,9 +21,9 @@ from unproved_module import without_checks
 CRATE = "queue_c"
 EXPORTED = re.compile(r'#\[unsafe\(no_mangle\)\]\npub extern "C" fn (\w+)\(([^()]*)\)')
 NUMBERS = ("u8", "u16", "u32", "u64", "usize")
-# The call's name in the module has the path of its module.
-PATH_OF_CALL = re.compile(r'@"queue_c::(?:\w+::)*(pq_core_\w+)"')
-BEGINS_CALL = re.compile(r"(?m)^define internal (.*@pq_core_\w+\()")
+# A call as a function of the module, and the one that shows it by its own name, which a proved crate has too.
+CALL = re.compile(r'(?m)^define internal noundef (\w+) (@"queue_c::(?:\w+::)*(pq_core_\w+)")\((.*)\) (#\d+) \{$')
+SHOWN = "define noundef {0} @{2}({3}) {4} {{\n  %result = call noundef {0} {1}({3})\n  ret {0} %result\n}}\n"
 # How the front end has the module compiled and how a proved one is, whose code is for another processor and keeps no frame pointers.
 CHECKED_WORDS, WORDS = ("-fPIE", "-O0", "-fsanitize=address"), ("-fPIC", "-O3")
 ATTRIBUTES = {'sanitize_address "frame-pointer"="all"': "nounwind", '"target-cpu"="x86-64"': '"target-cpu"="x86-64-v2"'}
@@ -118,18 +119,18 @@ class CoreBuild(Build):
 
     def exported(self, text):
         """Returns the text of the module where it exports the calls, and no main."""
-        text, calls = BEGINS_CALL.subn(r"define \1", PATH_OF_CALL.sub(r"@\1", text))
-        if not calls:
+        shown = [SHOWN.format(*it) for it in CALL.findall(text)]
+        if not shown:
             raise NotBuilt(f"crates/{CRATE} exports no call pq_core_..")
         for checked, proved in ATTRIBUTES.items():
             text = text.replace(checked, proved)
-        return text.replace("define i32 @main()", "define internal i32 @unused_main()")
+        return "".join([text.replace("define i32 @main()", "define internal i32 @unused_main()"), *shown])
 
     def code(self, given):
         """Compiles the module: its object, and where it has checks that which tells of one."""
         clang = f"{self.kit}/toolchain/bin/clang"
         self.need([clang, f"--target={TARGET}", "--no-default-config", "-emit-llvm", "-x", "ir", "-S", "module.bc", "-o", "module.ll"])
-        text = self.exported(text_of(f"{self.room}/module.ll"))
+        text = with_hints(self.exported(text_of(f"{self.room}/module.ll")), [f"{self.top}/crates", f"{self.kit}/rattle"])
         with open(f"{self.room}/module.ll", "w", encoding="utf-8") as it:
             it.write(text if self.has_checks else without_checks(text))
         words = ["module.ll" if it == "module.bc" else it for it in given if it not in CHECKED_WORDS]

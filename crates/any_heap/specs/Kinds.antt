@@ -1,5 +1,5 @@
 -- What contracts see of a heap of either kind.
-use Rattle.leftist_heap.specs.ArrayHeap.{Holding}
+use Rattle.leftist_heap.specs.Holding.{Holding}
 use Rattle.any_heap.specs.declared.kind.Kind.{Kind}
 use Rattle.any_heap.specs.declared.kind.Kind.TheVariants.{Plain, Ticketed}
 

@@ -14,7 +14,7 @@ pub struct AnyHeap<T: HasTicket> {
 }
 
 impl<T: HasTicket> Model for AnyHeap<T> {
-    ghost use Rattle.leftist_heap.specs.ArrayHeap.{Holding};
+    ghost use Rattle.leftist_heap.specs.Holding.{Holding};
     ghost use Rattle.any_heap.specs.Kinds.{held_in};
 
     ghost Value = { Holding T };

@@ -1,5 +1,5 @@
 -- What the array of a heap says of the content.
-use Rattle.std.proofs.Common.{◌≡◌, Bool, true, List, [], ◌∷◌, length, slice_get, Option, Some, None, MatchOption, refl, sym, ◌∙◌, ap, arith}
+use Rattle.std.proofs.Common.{◌≡◌, Bool, true, List, [], ◌∷◌, length, slice_get, Option, Some, None, MatchOption, refl, sym, ap, arith}
 use Rattle.std.specs.List.{AllByRecursion}
 use Rattle.std.specs.Option.{option_copied}
 use denote.Ref.{Bor}
@@ -29,12 +29,6 @@ module _ {X : Type 0} (goes_before : X → X → Bool) where
     pub content-pushed : (x : X) (xs ys : List X) → IsPermutation (x ∷ xs) ys
         → with_items_by goes_before ys [] ≡ with_item_by goes_before x (with_items_by goes_before xs [])
     content-pushed x xs ys p = content-permuted goes_before o (x ∷ xs) ys p
-
-    -- the array without its lowest item, and then in another order
-    pub content-popped : (x : X) (xs ys zs : List X) → IsPermutation xs (x ∷ ys) → AllByRecursion (λ y. goes_before x y ≡ true) ys
-        → IsPermutation ys zs → with_items_by goes_before xs [] ≡ x ∷ with_items_by goes_before zs []
-    content-popped x xs ys zs p low q =
-        sym (content-permuted goes_before o xs (x ∷ ys) p) ∙ content-lowest x ys low ∙ ap (λ l. x ∷ l) (sym (content-permuted goes_before o ys zs q))
 
     -- the first of the array is the first of the content
     pub content-first : (xs : List X) → IsHeapBy goes_before xs → slice_get xs 0 ≡ first_of (with_items_by goes_before xs [])

@@ -1,5 +1,5 @@
 -- How a heap is kept while one item rises or sinks.
-use Rattle.std.proofs.Common.{◌≡◌, ◌+◌, ◌<◌, ◌≤◌, ◌≢◌, ◌⊎◌, inl, inr, ⊎_elim, eqb, ltb, ℕ, zero, suc, Bool, true, false, List, [], ◌∷◌, ◌++◌, length, get_or, refl, ◌-◌, sym, ◌∙◌, ap, subst, arith}
+use Rattle.std.proofs.Common.{◌≡◌, ◌+◌, ◌<◌, ◌≤◌, ◌≢◌, ◌⊎◌, inl, inr, ⊎_elim, eqb, ltb, ℕ, zero, suc, Bool, true, false, List, [], ◌∷◌, ◌++◌, length, get_or, refl, sym, ◌∙◌, ap, subst, arith}
 use borrow.Author.Tests.{eqb-true, eqb-false, ltb-true, ltb-false}
 use Rattle.std.specs.List.{SwappedAt, AllByRecursion}
 use Rattle.std.proofs.Math.ListN.{length-append, get_or-append}
@@ -162,15 +162,3 @@ pub low_first : {X : Type 0} (goes_before : X → X → Bool) → IsOrder goes_b
     → AllByRecursion (λ y. goes_before x y ≡ true) xs
 low_first goes_before o x xs h =
     all_from (λ y. goes_before x y ≡ true) xs (λ k d l. first_before goes_before o (x ∷ xs) h (suc k) (omega arith) d)
-
--- the first of a heap of n items may stand before all that are left, of which the last took its place
-pub low_popped : {X : Type 0} (goes_before : X → X → Bool) → IsOrder goes_before → (xs ys : List X) (x : X) (n : ℕ) → IsHeapBy goes_before xs
-    → x ≡ get_or xs 0 x → n ≡ length xs → length ys + 1 ≡ n
-    → ((d : X) → 1 < n → get_or ys 0 d ≡ get_or xs (n - 1) d)
-    → ((k : ℕ) (d : X) → k ≢ 0 → k + 1 < n → get_or ys k d ≡ get_or xs k d)
-    → AllByRecursion (λ y. goes_before x y ≡ true) ys
-low_popped goes_before o [] ys x n h is count size end same = absurd (omega arith)
-low_popped goes_before o (z ∷ zs) ys x n h is count size end same =
-    all_from (λ y. goes_before x y ≡ true) ys (λ k d l. by_place k 0
-    (λ e. by goes_before _ _ _ _ is (ap (λ m. get_or ys m d) e ∙ end d (omega arith)) (first_before goes_before o (z ∷ zs) h (n - 1) (omega arith) d))
-    (λ m. by goes_before _ _ _ _ is (same k d m (omega arith)) (first_before goes_before o (z ∷ zs) h k (omega arith) d)))

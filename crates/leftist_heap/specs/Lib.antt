@@ -3,7 +3,7 @@ pub mod Order
 pub mod Tree
 pub mod Merge
 pub mod Node
-pub mod ArrayHeap
+pub mod Holding
 pub mod Sifting
 pub mod AnyStore
 pub mod Tickets

@@ -2,11 +2,12 @@
 ghost use Rattle.std.specs.Prelude.{◌≡◌, []};
 ghost use Rattle.leftist_heap.specs.AnyStore.{items_in, room_in, kind_of};
 
-use crate::array_heap::ArrayHeap;
-use crate::exact::Exact;
 use crate::leftist::Leftist;
+use crate::places::NoPlaces;
 use crate::sorted_vec::SortedVec;
 use crate::store::Store;
+use crate::ticket_heap::TicketHeap;
+use crate::ticket_store::HasTicket;
 use std::alloc::Allocator;
 
 /// The kinds of store that a program may choose among.
@@ -23,13 +24,13 @@ pub enum StoreKind {
 /// A store of a kind that is chosen when it is made. Whatever the kind, it answers the same: each
 /// call is that of the store in it, with the memory and the time that this one takes.
 #[derive(Drop)]
-pub enum AnyStore<T: Exact, A: Allocator + Clone> {
+pub enum AnyStore<T: HasTicket, A: Allocator + Clone> {
     Leftist(Leftist<T, A>),
-    Array(ArrayHeap<T, A>),
+    Array(TicketHeap<T, NoPlaces, A>),
     Sorted(SortedVec<T, A>),
 }
 
-impl<T: Exact, A: Allocator + Clone> AnyStore<T, A> {
+impl<T: HasTicket, A: Allocator + Clone> AnyStore<T, A> {
     /// A store of this kind with no items. Takes no memory.
     pub fn new(alloc: A, kind: StoreKind) -> Self
         ensures empty { items_in result ≡ [] }
@@ -37,7 +38,7 @@ impl<T: Exact, A: Allocator + Clone> AnyStore<T, A> {
     {
         match kind {
             StoreKind::Leftist => AnyStore::Leftist(Leftist::new(alloc)),
-            StoreKind::Array => AnyStore::Array(ArrayHeap::new(alloc)),
+            StoreKind::Array => AnyStore::Array(TicketHeap::new(alloc, NoPlaces)),
             StoreKind::Sorted => AnyStore::Sorted(SortedVec::new(alloc)),
         }
     }
@@ -54,7 +55,7 @@ impl<T: Exact, A: Allocator + Clone> AnyStore<T, A> {
     }
 }
 
-impl<T: Exact, A: Allocator + Clone> Store<T> for AnyStore<T, A> {
+impl<T: HasTicket, A: Allocator + Clone> Store<T> for AnyStore<T, A> {
     ghost content = { items_in };
 
     ghost room = { room_in };

@@ -1,7 +1,7 @@
 //! Stores of the combining priority queue: the trait `Store`, the sorted vector, which is the
 //! queue's definition as a plain program, the leftist heap, and a heap in one array. From a
-//! `TicketStore` an item is removed by its ticket, wherever it waits: the heap in one array that
-//! does so keeps the place of each ticket beside it.
+//! `TicketStore` an item is removed by its ticket, wherever it waits: the heap in one array does
+//! so, and may keep the place of each ticket beside it.
 //!
 //! To the layer above it promises that each call of a store is the queue's rule on an ascending
 //! list, that a refused push changes nothing, and that no push is refused while there is room. Of
@@ -10,7 +10,6 @@
 #![tactic(auto)]
 
 pub mod any_store;
-pub mod array_heap;
 pub mod exact;
 pub mod flat_places;
 pub mod global_places;
@@ -28,7 +27,6 @@ pub mod ticket_store;
 pub mod tree_places;
 
 pub use any_store::{AnyStore, StoreKind};
-pub use array_heap::ArrayHeap;
 pub use exact::Exact;
 pub use flat_places::FlatPlaces;
 pub use global_places::GlobalPlaces;

@@ -1,9 +1,10 @@
 // A heap in one array whose room is part of its type.
 ghost use Rattle.std.specs.Prelude.{◌≡◌, [], IfOk};
 
-use crate::array_heap::ArrayHeap;
-use crate::exact::Exact;
+use crate::places::NoPlaces;
 use crate::store::Store;
+use crate::ticket_heap::TicketHeap;
+use crate::ticket_store::HasTicket;
 use std::alloc::{AllocError, Allocator};
 use std::marker::Model;
 
@@ -11,11 +12,11 @@ use std::marker::Model;
 /// while there are fewer. Contracts see it as the ascending list of its items; since its room is
 /// part of its type, whoever is generic over stores can rely on it.
 #[derive(Drop)]
-pub struct ReservedHeap<T: Exact, A: Allocator, const ROOM: usize> {
-    heap: ArrayHeap<T, A>,
+pub struct ReservedHeap<T: HasTicket, A: Allocator, const ROOM: usize> {
+    heap: TicketHeap<T, NoPlaces, A>,
 }
 
-impl<T: Exact, A: Allocator, const ROOM: usize> Model for ReservedHeap<T, A, ROOM> {
+impl<T: HasTicket, A: Allocator, const ROOM: usize> Model for ReservedHeap<T, A, ROOM> {
     ghost use Rattle.std.specs.Prelude.{List, ◌≤◌};
 
     ghost Value = { List T };
@@ -25,17 +26,17 @@ impl<T: Exact, A: Allocator, const ROOM: usize> Model for ReservedHeap<T, A, ROO
     ghost invariant = { λ h. ROOM ≤ h.heap.room };
 }
 
-impl<T: Exact, A: Allocator, const ROOM: usize> ReservedHeap<T, A, ROOM> {
+impl<T: HasTicket, A: Allocator, const ROOM: usize> ReservedHeap<T, A, ROOM> {
     /// A heap with no items. All memory that `ROOM` items need is taken here.
     pub fn new(alloc: A) -> Result<Self, AllocError>
         ensures { IfOk result (λ heap. heap ≡ []) }
     {
-        let heap = ArrayHeap::with_capacity(alloc, ROOM)?;
+        let heap = TicketHeap::with_capacity(alloc, NoPlaces, ROOM)?;
         Ok(ReservedHeap { heap })
     }
 }
 
-impl<T: Exact, A: Allocator, const ROOM: usize> Store<T> for ReservedHeap<T, A, ROOM> {
+impl<T: HasTicket, A: Allocator, const ROOM: usize> Store<T> for ReservedHeap<T, A, ROOM> {
     ghost content = { λ h. h };
 
     ghost room = { λ _. ROOM };

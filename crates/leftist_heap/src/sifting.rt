@@ -1,15 +1,14 @@
-// How an item rises and sinks in an array heap whose places have eight below them.
-ghost use Rattle.std.specs.Prelude.{◌≡◌, ◌+◌, ◌^◌, ◌<◌, ◌≤◌, ◌≢◌, false, length, slice_index_or, IsTrue};
+// How the lowest of the items below a place is found in an array heap whose places have eight below them.
+ghost use Rattle.std.specs.Prelude.{◌≡◌, ◌+◌, ◌<◌, ◌≤◌, ◌≢◌, false, slice_index_or, IsTrue};
 ghost use Rattle.std.specs.List.{swap};
-ghost use Rattle.std.specs.List.Sorted.{IsPermutation};
 ghost use Rattle.core.specs.Mem.Slots.Ownership.{Filled};
-ghost use Rattle.core.specs.Mem.Slots.{slots_items, slots_filled, slots_len, SamePlaces, IsFull, Refills};
+ghost use Rattle.core.specs.Mem.Slots.{slots_items, slots_filled, slots_len, SamePlaces};
 ghost use Rattle.std_alloc.specs.Vec.Detached.{HasHole, seen};
 ghost use Rattle.leftist_heap.specs.Order.{by_rank};
-ghost use Rattle.leftist_heap.specs.Sifting.{Compares, IsHeapBy, IsLowerSpot, IsLowest, IsRising, IsSinking};
+ghost use Rattle.leftist_heap.specs.Sifting.{Compares, IsLowerSpot, IsLowest};
 
 use crate::exact::Exact;
-use core::slots::{Slots, with_slots};
+use core::slots::Slots;
 
 // How many places are below each. Those from `8 i - 6` to `8 i + 1` are below place i, and below the first is the second alone. Each step
 // down waits for the memory that decides the next, and with eight below there are a third of the steps that there are with two. Eight
@@ -106,113 +105,4 @@ pub(crate) fn move_hole<T>(row: &mut Slots<T>, hole: usize, item: &T, other: usi
     ensures items { seen row.new other item.now ≡ swap (seen row.old hole item.now) hole other }
 {
     row.shift(other, hole);
-}
-
-// Moves the hole up until its item may stand after the one above it, and returns its place.
-fn rise_from<T: Exact>(row: &mut Slots<T>, mut hole: usize, item: &T) -> usize
-    requires hole { HasHole row.old hole }
-    requires small { slots_len row.old < 2 ^ 63 }
-    requires rising { IsRising (by_rank T.rank_of) (seen row.old hole item.now) hole }
-    ensures hole { HasHole row.new result × SamePlaces row.old row.new }
-    ensures permutation { IsPermutation (seen row.old hole item.now) (seen row.new result item.now) }
-    ensures heap { IsHeapBy (by_rank T.rank_of) (seen row.new result item.now) }
-{
-    while 0 < hole {
-        let above = (hole + 6) / BELOW;
-        if !is_lower(item, row.get(above)) {
-            return hole;
-        }
-        move_hole(row, hole, item, above);
-        hole = above;
-    }
-    hole
-}
-
-// Moves the hole from the first place down to one with none below it, by way of the lowest item below it each time, and returns its place.
-fn sink_to_end<T: Exact>(row: &mut Slots<T>, item: &T) -> usize
-    requires hole { HasHole row.old 0 }
-    requires more { 1 < slots_len row.old }
-    requires small { slots_len row.old < 2 ^ 63 }
-    requires sinking { IsSinking (by_rank T.rank_of) (seen row.old 0 item.now) 0 }
-    ensures hole { HasHole row.new result × SamePlaces row.old row.new }
-    ensures permutation { IsPermutation (seen row.old 0 item.now) (seen row.new result item.now) }
-    ensures rising { IsRising (by_rank T.rank_of) (seen row.new result item.now) result }
-{
-    move_hole(row, 0, item, 1);
-    let mut hole = 1;
-    let len = row.len();
-    // The places up to this one have eight below them, and only the next one may have fewer.
-    let last_full = (len - 2) / BELOW;
-    while hole <= last_full {
-        let low = lowest_of_eight(row, BELOW * (hole - 1) + 2);
-        move_hole(row, hole, item, low);
-        hole = low;
-    }
-    let last_group = BELOW * last_full + 2;
-    if last_full + 1 < hole || last_group == len {
-        return hole;
-    }
-    let low = lowest_from(row, last_group);
-    move_hole(row, hole, item, low);
-    low
-}
-
-// The row after its item at this place rose.
-fn risen<T: Exact>(mut row: Slots<T>, state: (), at: usize) -> (Slots<T>, (), ())
-    requires full { IsFull row }
-    requires within { at < slots_len row }
-    requires small { slots_len row < 2 ^ 63 }
-    requires rising { IsRising (by_rank T.rank_of) (slots_items row) at }
-    ensures refills { Refills row result.0 }
-    ensures permutation { IsPermutation (slots_items row) (slots_items result.0) }
-    ensures heap { IsHeapBy (by_rank T.rank_of) (slots_items result.0) }
-{
-    let item = row.take(at);
-    let hole = rise_from(&mut row, at, &item);
-    row.put(hole, item);
-    (row, state, ())
-}
-
-// The row after its first item sank. It came from the end, so most of the time it goes there: it does so without a look at it, and then
-// rises.
-fn sunk<T: Exact>(mut row: Slots<T>, state: (), _argument: ()) -> (Slots<T>, (), ())
-    requires full { IsFull row }
-    requires more { 1 < slots_len row }
-    requires small { slots_len row < 2 ^ 63 }
-    requires sinking { IsSinking (by_rank T.rank_of) (slots_items row) 0 }
-    ensures refills { Refills row result.0 }
-    ensures permutation { IsPermutation (slots_items row) (slots_items result.0) }
-    ensures heap { IsHeapBy (by_rank T.rank_of) (slots_items result.0) }
-{
-    let item = row.take(0);
-    let end = sink_to_end(&mut row, &item);
-    let hole = rise_from(&mut row, end, &item);
-    row.put(hole, item);
-    (row, state, ())
-}
-
-// Moves the item at this place up until it stands below one that may stand before it.
-pub fn rise<T: Exact>(items: &mut [T], at: usize)
-    requires within { at < length items.old }
-    requires small { length items.old < 2 ^ 63 }
-    requires rising { IsRising (by_rank T.rank_of) items.old at }
-    ensures permutation { IsPermutation items.old items.new }
-    ensures heap { IsHeapBy (by_rank T.rank_of) items.new }
-{
-    let mut nothing = ();
-    unsafe { with_slots(items, &mut nothing, at, risen) }
-}
-
-// Moves the first item down until none that stands below it has to stand before it.
-pub fn sink<T: Exact>(items: &mut [T])
-    requires small { length items.old < 2 ^ 63 }
-    requires sinking { IsSinking (by_rank T.rank_of) items.old 0 }
-    ensures permutation { IsPermutation items.old items.new }
-    ensures heap { IsHeapBy (by_rank T.rank_of) items.new }
-{
-    if items.len() < 2 {
-        return;
-    }
-    let mut nothing = ();
-    unsafe { with_slots(items, &mut nothing, (), sunk) }
 }

@@ -3,6 +3,7 @@ ghost use Rattle.std.specs.Prelude.{◌≡◌, ◌+◌, ◌^◌, ◌<◌, ◌≤
 ghost use Rattle.std.specs.List.Sorted.{IsPermutation};
 ghost use Rattle.leftist_heap.specs.Order.{not_above_by, by_rank};
 ghost use Rattle.leftist_heap.specs.Sifting.{IsHeapBy};
+ghost use Rattle.leftist_heap.specs.Store.{first_of, rest_of};
 ghost use Rattle.leftist_heap.specs.Places.{IsPlaced, IsTicketHeap, HasNone, Finds, IsLowerThanFound, StillKeeps};
 
 use crate::exact::Exact;
@@ -29,7 +30,7 @@ pub struct TicketHeap<T: HasTicket, P: Places, A: Allocator> {
 impl<T: HasTicket, P: Places, A: Allocator> Model for TicketHeap<T, P, A> {
     ghost use Rattle.std.specs.Prelude.{vec_capacity};
     ghost use Rattle.leftist_heap.specs.Order.{not_above_by, by_rank};
-    ghost use Rattle.leftist_heap.specs.ArrayHeap.{Holding, holding};
+    ghost use Rattle.leftist_heap.specs.Holding.{Holding, holding};
     ghost use Rattle.leftist_heap.specs.Places.{IsTicketHeap};
 
     ghost Value = { Holding T };
@@ -181,6 +182,26 @@ impl<T: HasTicket, P: Places, A: Allocator> TicketHeap<T, P, A> {
             is_placed: true,
         })
     }
+
+    /// How many items there is room for. Takes no memory.
+    pub fn capacity(&self) -> usize
+        ensures { result ≡ self.now.room }
+    {
+        self.heap.capacity()
+    }
+
+    /// Takes the lowest item out, where there is one. Takes no memory, and the room stays.
+    #[inline(always)]
+    pub fn pop(&mut self) -> Option<T>
+        ensures item { result ≡ first_of self.old.items }
+        ensures rest { self.new.items ≡ rest_of self.old.items }
+        ensures room { self.new.room ≡ self.old.room }
+    {
+        if self.heap.is_empty() {
+            return None;
+        }
+        Some(take_out(&mut self.heap, &mut self.places, 0))
+    }
 }
 
 impl<T: HasTicket, P: Places, A: Allocator> Store<T> for TicketHeap<T, P, A> {
@@ -200,10 +221,7 @@ impl<T: HasTicket, P: Places, A: Allocator> Store<T> for TicketHeap<T, P, A> {
 
     #[inline(always)]
     fn pop(&mut self) -> Option<T> {
-        if self.heap.is_empty() {
-            return None;
-        }
-        Some(take_out(&mut self.heap, &mut self.places, 0))
+        self.pop()
     }
 
     fn least(&self) -> Option<&T> {

@@ -17,6 +17,23 @@ pub trait HasTicket: Exact {
         ensures { result ≡ ticket_of self.now };
 }
 
+// A number is its own ticket.
+impl HasTicket for u32 {
+    ghost ticket_of = { λ n. n };
+
+    fn ticket(&self) -> u64 {
+        u64::from(*self)
+    }
+}
+
+impl HasTicket for u64 {
+    ghost ticket_of = { λ n. n };
+
+    fn ticket(&self) -> u64 {
+        *self
+    }
+}
+
 /// A store from which an item can be removed by its ticket, wherever it waits.
 pub trait TicketStore<T: HasTicket>: Store<T> {
     /// Takes out the first item with this ticket, where there is one. Takes no memory.

@@ -12,7 +12,7 @@ use crate::start_line::StartLine;
 use crate::words::{Kind, Trial};
 use crate::work::{Worked, work};
 use flat_queue::{Newcomer, Queue, QueueError};
-use leftist_heap::{ArrayHeap, Store};
+use leftist_heap::{NoPlaces, Store, TicketHeap};
 use pq_book::Entry;
 use std::alloc::{AllocError, Global};
 use std::sync::{Mutex, Wait};
@@ -26,7 +26,7 @@ pub fn run<R: Threads + Wait + Clock + Sync>(
     alloc: Global,
     trial: Trial<'_>,
 ) -> Result<Ended, BenchError> {
-    match ArrayHeap::with_capacity(alloc, trial.load.items as usize) {
+    match TicketHeap::with_capacity(alloc, NoPlaces, trial.load.items as usize) {
         Ok(heap) if trial.kind == Kind::MutexBook => run_book(rt, alloc, heap, trial),
         Ok(heap) => run_queue(rt, alloc, heap, trial),
         Err(_) => Err(BenchError::NoMemory),

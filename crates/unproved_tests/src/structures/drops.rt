@@ -6,7 +6,7 @@ ghost use Rattle.std.specs.Cmp.{partial_order_from_own_ties};
 ghost use Rattle.std.proofs.Common.{rules};
 ghost use Rattle.std.proofs.lemmas.Map.Lookups.{exact_unsigned};
 
-use leftist_heap::{AnyStore, Exact, MOST_ITEMS, ReservedHeap, Store, StoreKind};
+use leftist_heap::{AnyStore, Exact, HasTicket, MOST_ITEMS, ReservedHeap, Store, StoreKind};
 use std::alloc::Global;
 use std::cell::Cell;
 use std::cmp::Ordering;
@@ -73,6 +73,14 @@ impl Exact for Tallied<'_> {
 
     fn rank(&self) -> u128 {
         u128::from(self.number)
+    }
+}
+
+impl HasTicket for Tallied<'_> {
+    ghost ticket_of = { λ n. n };
+
+    fn ticket(&self) -> u64 {
+        u64::from(self.number)
     }
 }
 

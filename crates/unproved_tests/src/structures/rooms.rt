@@ -1,6 +1,6 @@
 // Room that is kept: what is reserved, and what is refused.
 use super::gives_all;
-use leftist_heap::{ArrayHeap, MOST_ITEMS, ReservedHeap, Store};
+use leftist_heap::{MOST_ITEMS, NoPlaces, ReservedHeap, Store, TicketHeap};
 use std::alloc::{Allocator, Global};
 use test_aids::Refusing;
 
@@ -36,7 +36,7 @@ fn keeps_room_for_eight<A: Allocator, S: Store<u32>>(refusing: &Refusing<A>, mut
 
 // Whether a heap in one array does.
 fn array_keeps_room<A: Allocator>(refusing: &Refusing<Global>, alloc: A) -> bool {
-    match ArrayHeap::with_capacity(alloc, 8) {
+    match TicketHeap::with_capacity(alloc, NoPlaces, 8) {
         Ok(heap) => heap.capacity() == 8 && keeps_room_for_eight(refusing, heap),
         Err(_) => false,
     }
@@ -61,7 +61,7 @@ fn pushes_within_the_room_take_no_memory(rt: HostRuntime) {
 #[test]
 fn room_is_asked_for_at_once_and_may_be_refused(rt: HostRuntime) {
     let refusing = Refusing::onwards(rt.alloc(), 1);
-    assert!(rt; ArrayHeap::<u32, _>::with_capacity(&refusing, 1).is_err());
+    assert!(rt; TicketHeap::<u32, _, _>::with_capacity(&refusing, NoPlaces, 1).is_err());
     assert!(rt; ReservedHeap::<u32, _, 1>::new(&refusing).is_err());
     assert!(rt; refusing.requests() == 2);
 }

@@ -1,7 +1,7 @@
 use Rattle.std.proofs.Common.{◌∙◌, ap, slice_get}
 use Rattle.leftist_heap.specs.Store.{first_of}
 use Rattle.leftist_heap.specs.Order.{not_above_by}
-use Rattle.leftist_heap.specs.ArrayHeap.{Holding}
+use Rattle.leftist_heap.specs.Holding.{Holding}
 use Rattle.leftist_heap.proofs.Orders.{exact_order}
 use Rattle.leftist_heap.proofs.ByRank.{heap_in_order}
 use Rattle.leftist_heap.proofs.Arrays.{content-first, first_seen}

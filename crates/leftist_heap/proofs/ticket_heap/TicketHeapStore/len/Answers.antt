@@ -1,6 +1,6 @@
 use Rattle.std.proofs.Common.{sym, ◌∙◌, ap, subst, length, []}
 use Rattle.leftist_heap.specs.Order.{IsAscendingBy, not_above_by}
-use Rattle.leftist_heap.specs.ArrayHeap.{Holding}
+use Rattle.leftist_heap.specs.Holding.{Holding}
 use Rattle.leftist_heap.proofs.Orders.{exact_order}
 use Rattle.leftist_heap.proofs.Contents.{with_items-ascending}
 use Rattle.leftist_heap.proofs.Arrays.{length-content}

@@ -1,7 +1,7 @@
 use Rattle.std.proofs.Common.{◌∙◌, sym, subst, ap, length}
 use Rattle.leftist_heap.specs.Tickets.{item_with}
 use Rattle.leftist_heap.specs.Order.{not_above_by}
-use Rattle.leftist_heap.specs.ArrayHeap.{Holding}
+use Rattle.leftist_heap.specs.Holding.{Holding}
 use Rattle.leftist_heap.specs.Places.{HasNone, IsFirstWith}
 use Rattle.leftist_heap.proofs.Orders.{exact_order}
 use Rattle.leftist_heap.proofs.Removals.{content_none, item_there}

@@ -1,11 +1,11 @@
 use Rattle.std.proofs.Common.{sym, ◌∙◌, ap}
 use Rattle.leftist_heap.specs.Store.{first_of, rest_of}
 use Rattle.leftist_heap.specs.Order.{not_above_by}
-use Rattle.leftist_heap.specs.ArrayHeap.{Holding}
+use Rattle.leftist_heap.specs.Holding.{Holding}
 use Rattle.leftist_heap.proofs.Orders.{exact_order}
 use Rattle.leftist_heap.proofs.ByRank.{heap_in_order}
 use Rattle.leftist_heap.proofs.Removals.{content_first, still_ticket_heap}
-use Rattle.leftist_heap.proofs.ticket_heap.TicketHeapStore.pop.Goals as goal
+use Rattle.leftist_heap.proofs.ticket_heap.TicketHeap.pop.Goals as goal
 
 pub invariant_of-self : goal.invariant_of-self
 invariant_of-self g c =

@@ -11,6 +11,7 @@ pub mod Holes
 pub mod Shuffles
 pub mod Arrays
 pub mod Sifts
+pub mod Depths
 pub mod ByRank
 pub mod Placings
 pub mod Removals

@@ -1,5 +1,5 @@
 -- What a removal by ticket takes of the content.
-use Rattle.std.proofs.Common.{◌≡◌, ◌==◌, ℕ, Bool, true, false, List, [], ◌∷◌, length, get_or, if◌then◌else◌, remove, Some, None, refl, sym, ◌∙◌, ap, subst, arith}
+use Rattle.std.proofs.Common.{◌≡◌, ◌==◌, ◌+◌, ⊎_elim, ℕ, Option, Bool, true, false, List, [], ◌∷◌, length, get_or, if◌then◌else◌, remove, Some, None, refl, sym, ◌∙◌, ap, subst, arith}
 use borrow.Author.Tests.{eqb-true, eq-eqb, ne_eqb}
 use Rattle.core.proofs.slice.Lists.{any-default}
 use Rattle.std.specs.List.{AllByRecursion}
@@ -8,11 +8,11 @@ use Rattle.std.proofs.lemmas.List.Sorted.{length_permutation, IsPermutation-remo
 use Rattle.leftist_heap.specs.Order.{IsAscendingBy, with_item_by, with_items_by, by_rank}
 use Rattle.leftist_heap.specs.Tickets.{item_with, without_ticket}
 use Rattle.leftist_heap.specs.Sifting.{IsHeapBy}
-use Rattle.leftist_heap.specs.Places.{Table, IsFirstWith, HasNone, IsPlaced, IsTicketHeap}
-use Rattle.leftist_heap.proofs.Orders.{IsExactOrder, as_order, by_bool}
+use Rattle.leftist_heap.specs.Places.{Table, Finds, IsFirstWith, HasNone, IsLowerThanFound, IsPlaced, IsTicketHeap}
+use Rattle.leftist_heap.proofs.Orders.{IsOrder, IsExactOrder, as_order, by_bool, itself}
 use Rattle.leftist_heap.proofs.Contents.{put-first, put-behind, put-front, all-with_items, with_items-ascending}
 use Rattle.leftist_heap.proofs.Shuffles.{content-permuted}
-use Rattle.leftist_heap.proofs.Sifts.{by, all_from, first_before}
+use Rattle.leftist_heap.proofs.Sifts.{by, by_place, all_from, first_before}
 use Rattle.leftist_heap.proofs.ByRank.{ranked_permuted, ranked_without}
 use Rattle.std.specs.declared.cmp.Ordering.{Ordering}
 
@@ -74,6 +74,25 @@ module _ {X : Type 0} (ticket_of : X → ℕ) (ticket : ℕ) where
             ap (item_with ticket_of ticket) put ∙ item_here x (y ∷ ys) true its,
             ap (without_ticket ticket_of ticket) put ∙ rest_here x (y ∷ ys) true its,
           ))
+
+-- of one item more it is the first with the ticket, if it may stand before the one that was found
+pub found_here : {X : Type 0} (ticket_of : X → ℕ) (goes_before : X → X → Bool) → IsOrder goes_before → (xs : List X) (n ticket : ℕ) (found : Option ℕ)
+    → Finds ticket_of goes_before xs n ticket found → IsLowerThanFound goes_before xs n found true
+    → ((d : X) → ticket_of (get_or xs n d) ≡ ticket) → IsFirstWith ticket_of goes_before xs (n + 1) ticket n
+found_here ticket_of goes_before o xs n ticket None h low has = record {
+  within = omega arith;
+  has = has;
+  first = λ k d l e. by_place k n
+      (λ here. by goes_before _ _ _ _ refl (ap (λ m. get_or xs m d) here) (itself goes_before o (get_or xs n d)))
+      (λ other. absurd (h k d (omega arith) e));
+}
+found_here ticket_of goes_before o xs n ticket (Some j) h low has = record {
+  within = omega arith;
+  has = has;
+  first = λ k d l e. by_place k n
+      (λ here. by goes_before _ _ _ _ refl (ap (λ m. get_or xs m d) here) (itself goes_before o (get_or xs n d)))
+      (λ other. ⊎_elim (λ u. o.trans _ _ _ (u.1 d) (h.first k d (omega arith) e)) (λ u. let f = u.0 in cc) low);
+}
 
 -- what is left of a ticket heap is one
 pub still_ticket_heap : {X : Type 0} (cmp : X → X → Ordering) (rank_of ticket_of : X → ℕ) (xs zs : List X) (x : X) → IsPermutation xs (x ∷ zs)

@@ -5,6 +5,7 @@ pub mod Merge
 pub mod Node
 pub mod Holding
 pub mod Sifting
+pub mod Depth
 pub mod AnyStore
 pub mod Tickets
 pub mod Places

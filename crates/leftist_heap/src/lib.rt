@@ -6,7 +6,8 @@
 //! To the layer above it promises that each call of a store is the queue's rule on an ascending
 //! list, that a refused push changes nothing, and that no push is refused while there is room. Of
 //! the leftist heap it promises besides that a merge compares at most as many items as the two
-//! ranks add up to, and that a rank is at most 32.
+//! ranks add up to, and that a rank is at most 32; of the heap in one array, that a push makes at
+//! most 12 comparisons, and a pop 96.
 #![tactic(auto)]
 
 pub mod any_store;

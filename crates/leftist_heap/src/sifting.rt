@@ -8,7 +8,9 @@ ghost use Rattle.leftist_heap.specs.Order.{by_rank};
 ghost use Rattle.leftist_heap.specs.Sifting.{Compares, IsLowerSpot, IsLowest};
 
 use crate::exact::Exact;
+use crate::steps::Steps;
 use core::slots::Slots;
+use std::sync::ledger::Ledger;
 
 // How many places are below each. Those from `8 i - 6` to `8 i + 1` are below place i, and below the first is the second alone. Each step
 // down waits for the memory that decides the next, and with eight below there are a third of the steps that there are with two. Eight
@@ -42,21 +44,29 @@ fn spot_at<T: Exact>(row: &Slots<T>, from: usize, step: usize) -> Spot<'_, T>
 
 // Whether the rank of the first item is lower than that of the second.
 #[inline(always)]
-pub(crate) fn is_lower<T: Exact>(first: &T, second: &T) -> bool
-    ensures { Compares (by_rank T.rank_of) first.now second.now result }
+pub(crate) fn is_lower<T: Exact, L: Ledger>(first: &T, second: &T, steps: &mut Steps<L>) -> bool
+    ensures answer { Compares (by_rank T.rank_of) first.now second.now result }
+    ensures counted { steps.new ≡ steps.old + 1 }
 {
+    steps.tick();
     first.rank() < second.rank()
 }
 
 // The spot of the lower of two items, and the first of two of one rank.
 #[inline(always)]
-fn lower_of<'a, T: Exact>(first: Spot<'a, T>, second: Spot<'a, T>) -> Spot<'a, T>
+fn lower_of<'a, T: Exact, L: Ledger>(
+    first: Spot<'a, T>,
+    second: Spot<'a, T>,
+    steps: &mut Steps<L>,
+) -> Spot<'a, T>
     requires first { first.rank ≡ T.rank_of first.item.now }
     requires second { second.rank ≡ T.rank_of second.item.now }
     ensures lower { IsLowerSpot (by_rank T.rank_of) first.entry.step first.entry.item.now second.entry.step second.entry.item.now
         result.step result.item.now }
     ensures rank { result.rank ≡ T.rank_of result.item.now }
+    ensures counted { steps.new ≡ steps.old + 1 }
 {
+    steps.tick();
     if second.rank < first.rank {
         second
     } else {
@@ -67,31 +77,41 @@ fn lower_of<'a, T: Exact>(first: Spot<'a, T>, second: Spot<'a, T>) -> Spot<'a, T
 // The place of the lowest of eight items from here on. It is never inlined: by itself it selects without a branch, but in its caller's loop
 // the compiler would make a branch of each `lower_of`. A processor guesses half of such branches wrong, and a pop takes twice as long.
 #[inline(never)]
-pub(crate) fn lowest_of_eight<T: Exact>(row: &Slots<T>, from: usize) -> usize
+pub(crate) fn lowest_of_eight<T: Exact, L: Ledger>(
+    row: &Slots<T>,
+    from: usize,
+    steps: &mut Steps<L>,
+) -> usize
     requires within { from + 8 ≤ slots_len row.now }
     requires filled { Filled (slots_filled row.now) from (from + 8) }
-    ensures { IsLowest (by_rank T.rank_of) (slots_items row.now) from (from + 8) result }
+    ensures lowest { IsLowest (by_rank T.rank_of) (slots_items row.now) from (from + 8) result }
+    ensures counted { steps.new ≡ steps.old + 7 }
 {
     let low = spot_at(row, from, 0);
-    let low = lower_of(low, spot_at(row, from, 1));
-    let low = lower_of(low, spot_at(row, from, 2));
-    let low = lower_of(low, spot_at(row, from, 3));
-    let low = lower_of(low, spot_at(row, from, 4));
-    let low = lower_of(low, spot_at(row, from, 5));
-    let low = lower_of(low, spot_at(row, from, 6));
-    let low = lower_of(low, spot_at(row, from, 7));
+    let low = lower_of(low, spot_at(row, from, 1), steps);
+    let low = lower_of(low, spot_at(row, from, 2), steps);
+    let low = lower_of(low, spot_at(row, from, 3), steps);
+    let low = lower_of(low, spot_at(row, from, 4), steps);
+    let low = lower_of(low, spot_at(row, from, 5), steps);
+    let low = lower_of(low, spot_at(row, from, 6), steps);
+    let low = lower_of(low, spot_at(row, from, 7), steps);
     from + low.step
 }
 
 // The place of the lowest of all items from here on.
-pub(crate) fn lowest_from<T: Exact>(row: &Slots<T>, from: usize) -> usize
+pub(crate) fn lowest_from<T: Exact, L: Ledger>(
+    row: &Slots<T>,
+    from: usize,
+    steps: &mut Steps<L>,
+) -> usize
     requires within { from < slots_len row.now }
     requires filled { Filled (slots_filled row.now) from (slots_len row.now) }
-    ensures { IsLowest (by_rank T.rank_of) (slots_items row.now) from (slots_len row.now) result }
+    ensures lowest { IsLowest (by_rank T.rank_of) (slots_items row.now) from (slots_len row.now) result }
+    ensures counted { steps.new + from + 1 ≡ steps.old + slots_len row.now }
 {
     let mut low = spot_at(row, 0, from);
     for at in from + 1..row.len() {
-        low = lower_of(low, spot_at(row, 0, at));
+        low = lower_of(low, spot_at(row, 0, at), steps);
     }
     low.step
 }

@@ -9,11 +9,12 @@ use Rattle.leftist_heap.specs.Order.{by_rank}
 use Rattle.leftist_heap.specs.Sifting.{StandsBefore}
 use Rattle.leftist_heap.proofs.ByRank.{rank_order}
 use Rattle.leftist_heap.proofs.Sifts.{rises, rests, tops}
+use Rattle.leftist_heap.proofs.Depths.{deeper}
 use Rattle.leftist_heap.proofs.Holes.{from_hole, onto_hole, swapped, as_long}
 use Rattle.leftist_heap.proofs.placing.rise_from.Goals as goal
 
 pub loop-hole-init : goal.loop-hole-init
-loop-hole-init g c = record { hole = c.requires.hole; places = in_place _; permutation = unmoved _; rising = c.requires.rising; placed = λ h. h }
+loop-hole-init g c = record { hole = c.requires.hole; places = in_place _; permutation = unmoved _; rising = c.requires.rising; placed = λ h. h; counted = omega arith }
 
 pub loop-hole-preserved : goal.loop-hole-preserved
 loop-hole-preserved g c =
@@ -36,7 +37,10 @@ loop-hole-preserved g c =
     let low : StandsBefore before xs l.hole up = ⊎_elim
     (λ u. from_hole before items l.hole up x c.get.result.now (omega arith) (omega arith) apart c.get.ensures u.1)
     (λ u. let e = c.if-not-is_lower.false in let f = u.0 in cc)
-    c.is_lower.ensures in
+    c.is_lower.ensures.answer in
+    let one = c.is_lower.ensures.counted in
+    let depth = deeper l.hole c.loop-hole-test.true in
+    let sofar = inv.counted in
     record {
       hole = moved.hole.0;
       places = still_in_place _ _ _ moved.hole.1 inv.places;
@@ -44,6 +48,7 @@ loop-hole-preserved g c =
       rising = rises before o xs ys up l.hole (swapped xs ys up l.hole (omega arith) (omega arith) (moved.items ∙ as_swapped xs l.hole up (omega arith)))
           (as_long xs ys l.hole up (omega arith) (omega arith) moved.items) c.loop-hole-test.true (omega arith) refl low inv.rising;
       placed = λ h. moved.placed (inv.placed h);
+      counted = omega arith;
     }
 
 pub returns-then-not-is_lower-clause-heap : goal.returns-then-not-is_lower-clause-heap
@@ -60,8 +65,15 @@ returns-then-not-is_lower-clause-heap g c =
     let over : StandsBefore before (seen l.row l.hole x) up l.hole = ⊎_elim
     (λ u. let e = c.if-not-is_lower.true in let f = u.0 in cc)
     (λ u. onto_hole before items l.hole up x c.get.result.now (omega arith) (omega arith) apart c.get.ensures u.1)
-    c.is_lower.ensures in
+    c.is_lower.ensures.answer in
     rests before (seen l.row l.hole x) l.hole up refl over inv.rising
 
 pub returns-clause-heap : goal.returns-clause-heap
 returns-clause-heap g c = tops (by_rank g.T.Exact.rank_of) _ c.loop-hole.hole (omega arith) c.loop-hole.invariant.rising
+
+pub returns-then-not-is_lower-clause-counted : goal.returns-then-not-is_lower-clause-counted
+returns-then-not-is_lower-clause-counted g c =
+    let depth = deeper c.loop-hole.hole c.loop-hole-test.true in
+    let one = c.is_lower.ensures.counted in
+    let sofar = c.loop-hole.invariant.counted in
+    omega arith

@@ -1,9 +1,10 @@
-use Rattle.std.proofs.Common.{ap, sym, subst, ◌∙◌, IsPermutation, slice_set, arith}
+use Rattle.std.proofs.Common.{ap, sym, subst, ◌∙◌, IsPermutation, slice_set, ◌-◌, arith}
 use lib.Seq.{get_or-set_same}
 use Rattle.std.proofs.lemmas.List.Sorted.{IsPermutation-trans}
 use Rattle.std_alloc.specs.Vec.Detached.{seen}
 use Rattle.std_alloc.proofs.vec.Slotted.{as_it_was}
 use Rattle.leftist_heap.specs.Places.{IsPlaced, IsPlacedBut}
+use Rattle.leftist_heap.proofs.Depths.{no_less_deep}
 use Rattle.leftist_heap.proofs.Placings.{hole_filled}
 use Rattle.leftist_heap.proofs.placing.settled.Goals as goal
 
@@ -11,7 +12,7 @@ pub returns-clause-permutation : goal.returns-clause-permutation
 returns-clause-permutation g c =
     let took = c.take-item.ensures in
     let x = c.take-item.result in
-    let at = c.args.at in
+    let at = c.args.from.0 in
     let before = ap (λ l. slice_set l at x) took.items ∙ as_it_was _ at x took.value in
     subst (λ l. IsPermutation l c.put.new.self.items) before
     (subst (IsPermutation (seen c.take-item.new.self at x)) (sym c.put.ensures.items)
@@ -21,7 +22,7 @@ pub returns-clause-placed : goal.returns-clause-placed
 returns-clause-placed g c h =
     let took = c.take-item.ensures in
     let x = c.take-item.result in
-    let at = c.args.at in
+    let at = c.args.from.0 in
     let before = ap (λ l. slice_set l at x) took.items ∙ as_it_was _ at x took.value in
     let row = c.rise_from-hole.new.row in
     let hole = c.rise_from-hole.result in
@@ -32,3 +33,13 @@ returns-clause-placed g c h =
     subst (λ l. IsPlaced g.T.HasTicket.ticket_of (g.P.Places.table c.mark.new.self) l) (sym c.put.ensures.items)
     (hole_filled g.T.HasTicket.ticket_of (seen row hole x) hole _ _ c.ticket.result c.mark.ensures
     (λ d. c.ticket.ensures ∙ ap g.T.HasTicket.ticket_of (sym (get_or-set_same row.items hole x d (omega arith)))) raised)
+
+pub returns-clause-counted : goal.returns-clause-counted
+returns-clause-counted g c =
+    let sank = c.sink_to_end-end.ensures.counted in
+    let rose = c.rise_from-hole.ensures.counted in
+    let within = c.sink_to_end-end.ensures.hole.0.within in
+    let first = c.sink_to_end-end.ensures.hole.1.count in
+    let took = c.take-item.ensures.places.count in
+    let low = no_less_deep c.sink_to_end-end.result (c.args.row.len - 1) (omega arith) in
+    omega arith

@@ -1,4 +1,4 @@
-use Rattle.std.proofs.Common.{◌≡◌, length, arith}
+use Rattle.std.proofs.Common.{◌≡◌, length, ap, arith}
 use lib.ListN.{length-set}
 use Rattle.core.proofs.slice.Lists.{unmoved}
 use Rattle.core.proofs.slots.Same.{in_place, still_in_place}
@@ -6,7 +6,10 @@ use Rattle.std.proofs.lemmas.List.Sorted.{IsPermutation-trans}
 use Rattle.std_alloc.specs.Vec.Detached.{seen}
 use Rattle.std_alloc.proofs.Permutation.{swap_shuffles}
 use Rattle.leftist_heap.specs.Order.{by_rank}
+use Rattle.leftist_heap.specs.Sifting.{place_above}
+use Rattle.leftist_heap.specs.Depth.{depth_at}
 use Rattle.leftist_heap.proofs.Sifts.{sinks, sunk}
+use Rattle.leftist_heap.proofs.Depths.{deeper}
 use Rattle.leftist_heap.proofs.Holes.{beside_hole, swapped, as_long}
 use Rattle.leftist_heap.proofs.placing.sink_from.Goals as goal
 
@@ -18,6 +21,7 @@ loop-hole-init g c = record {
   permutation = unmoved _;
   sinking = c.requires.sinking;
   placed = λ h. h;
+  counted = omega arith;
 }
 
 pub loop-hole-preserved : goal.loop-hole-preserved
@@ -26,7 +30,7 @@ loop-hole-preserved g c =
     let l = c.loop-hole in
     let inv = l.invariant in
     let x = c.args.item.now in
-    let found = c.lowest_of_eight-low.ensures in
+    let found = c.lowest_of_eight-low.ensures.lowest in
     let low = c.lowest_of_eight-low.result in
     let items = l.row.items in
     let xs = seen l.row l.hole x in
@@ -38,6 +42,10 @@ loop-hole-preserved g c =
     let moved = c.move_marked.ensures in
     let within = found.within in
     let below = inv.below in
+    let over : place_above low ≡ l.hole = omega arith in
+    let depth = deeper low (omega arith) in
+    let seven = c.lowest_of_eight-low.ensures.counted in
+    let sofar = inv.counted in
     record {
       below = omega arith;
       hole = moved.hole.0;
@@ -47,6 +55,7 @@ loop-hole-preserved g c =
           (as_long xs ys l.hole low (omega arith) (omega arith) moved.items) (omega arith) (omega arith) (omega arith)
           (λ k first last e. beside_hole before items l.hole x low k (omega arith) (omega arith) (found.lowest k (omega arith) (omega arith))) inv.sinking;
       placed = λ h. moved.placed (inv.placed h);
+      counted = omega (arith, ap depth_at over);
     }
 
 pub returns-clause-permutation : goal.returns-clause-permutation
@@ -60,7 +69,7 @@ returns-clause-permutation g c =
     let counted : l.row.len ≡ length l.row.items = l.row.ok.0 in
     let long : length xs ≡ length l.row.items = length-set l.row.items l.hole x in
     let hole = inv.hole.within in
-    let within = c.lowest_from-low.ensures.within in
+    let within = c.lowest_from-low.ensures.lowest.within in
     IsPermutation-trans _ _ _ inv.permutation (swap_shuffles xs ys l.hole low (omega arith) (omega arith) c.move_marked-2.ensures.items)
 
 pub returns-clause-rising : goal.returns-clause-rising
@@ -69,7 +78,7 @@ returns-clause-rising g c =
     let l = c.loop-hole in
     let inv = l.invariant in
     let x = c.args.item.now in
-    let found = c.lowest_from-low.ensures in
+    let found = c.lowest_from-low.ensures.lowest in
     let low = c.lowest_from-low.result in
     let items = l.row.items in
     let xs = seen l.row l.hole x in
@@ -86,3 +95,19 @@ returns-clause-rising g c =
     sunk before ys low (λ k first last e. absurd (omega arith))
     (sinks before xs ys l.hole low (swapped xs ys l.hole low (omega arith) (omega arith) moved.items) size (omega arith) (omega arith) (omega arith)
     (λ k first last e. beside_hole before items l.hole x low k (omega arith) (omega arith) (found.lowest k (omega arith) (omega arith))) inv.sinking)
+
+pub returns-clause-counted : goal.returns-clause-counted
+returns-clause-counted g c =
+    let l = c.loop-hole in
+    let inv = l.invariant in
+    let low = c.lowest_from-low.result in
+    let within = c.lowest_from-low.ensures.lowest.within in
+    let counted : l.row.len ≡ length l.row.items = l.row.ok.0 in
+    let same = inv.places.count in
+    let len = c.len-len.ensures in
+    let below = inv.below in
+    let over : place_above low ≡ l.hole = omega arith in
+    let depth = deeper low (omega arith) in
+    let few = c.lowest_from-low.ensures.counted in
+    let sofar = inv.counted in
+    omega (arith, ap depth_at over)

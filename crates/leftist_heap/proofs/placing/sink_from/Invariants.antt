@@ -1,9 +1,10 @@
-use Rattle.std.proofs.Common.{◌<◌, ◌+◌, ◌-◌}
+use Rattle.std.proofs.Common.{◌<◌, ◌≤◌, ◌+◌, ◌-◌, ◌*◌}
 use Rattle.std.specs.List.Sorted.{IsPermutation}
 use Rattle.core.specs.Mem.Slots.{SamePlaces}
 use Rattle.std_alloc.specs.Vec.Detached.{HasHole, seen}
 use Rattle.leftist_heap.specs.Order.{by_rank}
 use Rattle.leftist_heap.specs.Sifting.{IsSinking}
+use Rattle.leftist_heap.specs.Depth.{depth_at}
 use Rattle.leftist_heap.specs.Places.{IsPlacedBut}
 use Rattle.leftist_heap.proofs.placing.sink_from.Given as goal
 
@@ -16,6 +17,7 @@ invariant-loop-hole g l = record {
   sinking : IsSinking (by_rank g.T.Exact.rank_of) (seen l.row l.hole l.item) l.hole;
   placed : IsPlacedBut g.T.HasTicket.ticket_of (g.P.Places.table l.initial.places) (seen l.initial.row l.initial.hole l.item) l.initial.hole
       → IsPlacedBut g.T.HasTicket.ticket_of (g.P.Places.table l.places) (seen l.row l.hole l.item) l.hole;
+  counted : l.steps + 7 * depth_at l.initial.hole ≤ l.initial.steps + 7 * depth_at l.hole;
 }
 
 abbrev pub decreases-loop-hole : goal.decreases-loop-hole

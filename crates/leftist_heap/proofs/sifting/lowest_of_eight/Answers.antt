@@ -4,8 +4,8 @@ use Rattle.leftist_heap.proofs.ByRank.{rank_order}
 use Rattle.leftist_heap.proofs.Holes.{single_spot, joined_spots}
 use Rattle.leftist_heap.proofs.sifting.lowest_of_eight.Goals as goal
 
-pub returns : goal.returns
-returns g c =
+pub returns-clause-lowest : goal.returns-clause-lowest
+returns-clause-lowest g c =
     let o = rank_order g.T.Exact.rank_of in
     let xs = c.args.row.now.items in
     let counted : c.args.row.now.len ≡ length xs = c.args.row.now.ok.0 in

@@ -1,7 +1,8 @@
-use Rattle.std.proofs.Common.{◌≡◌, ◌∷◌, ◌++◌, [], sym, ◌∙◌, subst, IsPermutation}
+use Rattle.std.proofs.Common.{◌≡◌, ◌∷◌, ◌++◌, [], sym, ◌∙◌, subst, ap, IsPermutation, arith}
 use Rattle.std.proofs.lemmas.List.{take_at}
 use Rattle.std.proofs.lemmas.List.Sorted.{IsPermutation-sym, IsPermutation-trans, IsPermutation-to_front, length_permutation}
 use Rattle.leftist_heap.specs.Places.{IsPlaced}
+use Rattle.leftist_heap.specs.Depth.{depth_at}
 use Rattle.leftist_heap.proofs.Placings.{placed_with}
 use Rattle.leftist_heap.proofs.ticket_heap.put_in.Goals as goal
 
@@ -25,3 +26,8 @@ returns-clause-placed g c keeps none placed =
     subst (IsPlaced g.T.HasTicket.ticket_of (g.P.Places.table c.rise.new.places)) (sym kept)
     (c.rise.ensures.placed (placed_with g.T.HasTicket.ticket_of xs c.deref_mut.result.now x c.len-at.result (g.P.Places.table c.args.places.now)
     is (c.len-at.ensures ∙ c.args.heap.now.ok.0) keeps none placed))
+
+pub returns-clause-counted : goal.returns-clause-counted
+returns-clause-counted g c =
+    let rose = c.rise.ensures.counted in
+    omega (arith, ap depth_at (c.len-at.ensures ∙ c.args.heap.now.ok.0))

@@ -6,8 +6,10 @@ use Rattle.leftist_heap.specs.Places.{HasNone, IsPlaced}
 use Rattle.leftist_heap.proofs.Orders.{exact_order}
 use Rattle.leftist_heap.proofs.ByRank.{ranked_with, ranked_permuted, all_of_content}
 use Rattle.leftist_heap.proofs.Arrays.{content-pushed, length-content}
+use Rattle.leftist_heap.specs.Depth.{depth_at}
+use Rattle.leftist_heap.proofs.Depths.{shallow}
 use Rattle.leftist_heap.proofs.Placings.{placed_still}
-use Rattle.leftist_heap.proofs.ticket_heap.TicketHeapStore.push.Goals as goal
+use Rattle.leftist_heap.proofs.ticket_heap.TicketHeap.push_counted.Goals as goal
 
 pub put_in-requires-clause-few : goal.put_in-requires-clause-few
 put_in-requires-clause-few g c =
@@ -15,13 +17,13 @@ put_in-requires-clause-few g c =
     let few = c.requires.room in
     omega arith
 
-pub returns-clause-ok : goal.returns-clause-ok
-returns-clause-ok g c =
+pub returns-in-Ok-clause-ok : goal.returns-in-Ok-clause-ok
+returns-in-Ok-clause-ok g c =
     let before = not_above_by g.T.Ord.cmp in
     let o = exact_order g.T.Ord.cmp g.met.T.Ord.total g.met.T.Exact.equal_is_same in
     let xs = c.self.inside.heap.items in
     let x = c.args.item in
-    content-pushed before o x xs c.put_in.new.heap.items c.in_default.ensures.permutation ∙ ap (λ (s : Holding _). with_item_by before x s.items) c.self.view_is
+    content-pushed before o x xs c.put_in.new.heap.items c.in-Ok.ensures.permutation ∙ ap (λ (s : Holding _). with_item_by before x s.items) c.self.view_is
 
 pub returns-in-Err-clause-full : goal.returns-in-Err-clause-full
 returns-in-Err-clause-full g c =
@@ -30,10 +32,10 @@ returns-in-Err-clause-full g c =
     let refused = c.in-Err.ensures.full in
     omega arith
 
-pub invariant_of-self-2 : goal.invariant_of-self-2
-invariant_of-self-2 g c =
+pub invariant_of-self-in-Ok : goal.invariant_of-self-in-Ok
+invariant_of-self-in-Ok g c =
     let xs = c.self.inside.heap.items in
-    let put = c.in_default.ensures in
+    let put = c.in-Ok.ensures in
     let counted = length_permutation _ _ put.permutation in
     let size = sym (length-content (not_above_by g.T.Ord.cmp) xs) ∙ ap (λ (s : Holding _). length s.items) c.self.view_is in
     let few = c.requires.room in
@@ -55,3 +57,15 @@ invariant_of-self-2 g c =
           (placed_still g.T.HasTicket.ticket_of xs _ _ opened.others
           (subst (IsPlaced g.T.HasTicket.ticket_of (g.P.Places.table c.self.inside.places)) c.deref.ensures.value (opened.placed e)));
     }
+
+pub returns-in-Ok-clause-counted : goal.returns-in-Ok-clause-counted
+returns-in-Ok-clause-counted g c =
+    let size = sym (length-content (not_above_by g.T.Ord.cmp) c.self.inside.heap.items) ∙ ap (λ (s : Holding _). length s.items) c.self.view_is in
+    let put = c.in-Ok.ensures.counted in
+    omega (arith, ap depth_at size)
+
+pub returns-in-Ok-clause-few : goal.returns-in-Ok-clause-few
+returns-in-Ok-clause-few g c =
+    let few = c.self.invariant.few in
+    let put = c.in-Ok.ensures.counted in
+    omega (arith, shallow (length c.self.inside.heap.items) (omega arith))

@@ -187,9 +187,10 @@ mod tests {
     #[test]
     fn what_is_due_now_was_due_until_now() {
         let start = Instant::now();
-        let times = Times::since(1 << 63, start, Duration::from_nanos(1)).unwrap();
-        let due = times.due_now();
-        let moment = times.moment_of(due).unwrap();
-        assert!(moment >= start && moment <= Instant::now() + Duration::from_millis(1));
+        for unit in [Duration::from_nanos(1), Duration::from_secs(3600)] {
+            let times = Times::since(1 << 63, start, unit).unwrap();
+            let moment = times.moment_of(times.due_now()).unwrap();
+            assert!(moment > start - unit && moment <= Instant::now() + Duration::from_millis(1));
+        }
     }
 }

@@ -43,6 +43,7 @@ static void a_full_queue_refuses() {
     flatpq::task_queue<std::string> queue(flatpq::options().with_most_items(1));
     std::string text = "stays";
     CHECK(queue.push(5u, std::string("five")));
+    CHECK(queue.push(6u, text, flatpq::now).error() == code::full);
     CHECK(queue.push(6u, std::move(text), flatpq::now).error() == code::full && text == "stays");
     const auto begun = std::chrono::steady_clock::now();
     CHECK(queue.push(6u, std::move(text), 20ms).error() == code::full && text == "stays" && std::chrono::steady_clock::now() - begun >= 20ms);

@@ -3,7 +3,12 @@
 #include "../check.h"
 #include "flatpq_tasks.hpp"
 
+extern "C" {
+#include "system_calls.h"
+}
+
 #include <atomic>
+#include <fcntl.h>
 #include <string>
 #include <sys/resource.h>
 #include <thread>
@@ -22,7 +27,7 @@ static void a_descriptor_is_readable_where_an_item_may_be() {
     auto queue = *flatpq::queue<>::open();
     auto listener = *queue.listen();
     const int fd = listener.fd();
-    CHECK(is_readable(fd) && listener.take_or_listen().error() == code::empty && !is_readable(fd));
+    CHECK(is_readable(fd) && listener.take_or_listen().error() == code::empty && !is_readable(fd) && fcntl(fd, F_GETFD) == FD_CLOEXEC);
     CHECK(queue.push(3u, 4) && is_readable(fd));
     // It goes with the listener.
     auto moved = std::move(listener);
@@ -78,6 +83,7 @@ static void a_timer_is_readable_when_the_first_is_due() {
     auto queue = *flatpq::task_queue<std::string, clock_of::time_point>::open();
     flatpq::task_due_listener<std::string, clock_of::time_point> listener = *queue.listen_due();
     const auto first = clock_of::now() + (requests(2) == 1 ? 1500ms : 200ms), last = first + 1h;
+    CHECK(fcntl(listener.fd(), F_GETFD) == FD_CLOEXEC);
     CHECK(is_readable(listener.fd(), 60000) && listener.take_or_listen().error() == code::empty && !is_readable(listener.fd()));
     CHECK(queue.push(last, "last") && is_readable(listener.fd(), 60000));
     CHECK(*listener.take_or_listen().first() == last && queue.push(last, "same") && !is_readable(listener.fd(), 10));
@@ -145,6 +151,29 @@ static void no_call_is_a_cancellation_point() {
     CHECK(ended(started(is_cancelled, &queue)) == PTHREAD_CANCELED && queue.close());
 }
 
+static flatpq::queue<> *is_left = nullptr;
+
+// Where a descriptor is closed, this queue has a member again.
+long __wrap_syscall(long number, ...) {
+    long words[6];
+    va_list rest;
+    va_start(rest, number);
+    read_words(rest, words);
+    va_end(rest);
+    CHECK(number != SYS_close || is_left == nullptr || is_left->join(flatpq::now));
+    return __real_syscall(number, words[0], words[1], words[2], words[3], words[4], words[5]);
+}
+
+// Else another file would have the number of the descriptor that is written to.
+static void a_member_is_given_back_before_its_descriptor() {
+    auto queue = *flatpq::queue<>::open({1});
+    {
+        auto listener = *queue.listen();
+        is_left = &queue;
+    }
+    is_left = nullptr;
+}
+
 // Where the system gives no descriptor a listener waits for no member, and says why. Where there is no member it keeps no descriptor.
 static void listeners_without_a_descriptor() {
     auto queue = *flatpq::queue<clock_of::time_point>::open({1});
@@ -165,6 +194,7 @@ static void listeners_without_a_descriptor() {
 
 int main() {
     listeners_without_a_descriptor();
+    a_member_is_given_back_before_its_descriptor();
     a_descriptor_is_readable_where_an_item_may_be();
     one_is_assigned();
     payloads_come_so();

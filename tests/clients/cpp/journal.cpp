@@ -139,7 +139,7 @@ static void is_read_back() {
     CHECK(made != nullptr && std::fputs("1 0 1 pop empty\n1 0 2 pop empty\n", made) >= 0);
     std::rewind(made);
     const auto refused = flatpq::journal<>::read_from(fileno(made));
-    CHECK(refused.error() == code::not_lawful && refused.lines() == 2 && refused.bytes() == 16 && std::fclose(made) == 0);
+    CHECK(refused.error() == code::not_lawful && !refused.is_torn() && refused.lines() == 2 && refused.bytes() == 16 && std::fclose(made) == 0);
 }
 
 static void waits_until_archived() {

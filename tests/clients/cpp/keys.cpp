@@ -96,7 +96,7 @@ template <class Duration> static void times_are_ordered(const std::vector<Durati
 
 namespace {
 
-enum class urgency : std::int8_t { high = -3, middle, low };
+enum class urgency : std::int8_t { high = -1, middle, low };
 
 /// A key of the program's own.
 struct version {

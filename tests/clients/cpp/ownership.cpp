@@ -94,6 +94,9 @@ static void an_assignment_across_two_queues() {
     CHECK(first.close()->size() == 1 && second.close().error() == code::members_left);
     one.give_back();
     CHECK(second.close()->size() == 2);
+    first = opened_for(2);
+    CHECK(first.join(flatpq::now) && first.push(3u, 3));
+    CHECK(first.close()->size() == 1);
 }
 
 // Nothing is lost, whichever ends first: the tools that look for lost memory see it.
@@ -153,14 +156,15 @@ static void requests_are_posted() {
     answer = member.poll();
     CHECK(answer.error() == code::empty && answer.number() == 3 && member.post(static_cast<flatpq::request>(9)) == code::bad_request);
     const auto none = queue.pop();
-    CHECK(none.error() == code::empty && none.number() == 4 && *member.push(7u, 8) == 5 && queue.peek().number() == 6);
+    CHECK(none.error() == code::empty && none.number() == 4 && !none.first() && queue.peek().number() == 5);
+    CHECK(*member.push(7u, 8) == 6 && queue.peek().number() == 7);
 }
 
 static void a_joining_waits() {
     auto queue = opened_for(1);
     auto only = *queue.join();
     CHECK(queue.join(flatpq::now).error() == code::all_joined && queue.join(5ms).error() == code::all_joined);
-    CHECK(queue.listen(5ms).error() == code::all_joined);
+    CHECK(queue.listen(5ms).error() == code::all_joined && queue.pop_due(1u, flatpq::now).error() == code::timed_out);
     std::thread ending([gone = std::move(only)]() mutable {
         std::this_thread::sleep_for(10ms);
         gone.give_back();

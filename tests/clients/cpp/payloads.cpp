@@ -256,6 +256,9 @@ static void batches_come_out_in_order() {
         CHECK(at->priority == next++);
     }
     CHECK(next == 200 && all.error() == code::empty && queue.pop_due_many(0, 5).error() == code::empty);
+    // As many as go under one lock, and no more.
+    push_keys(queue, 0, 64);
+    CHECK(queue.pop_due_many(99, 100)->size() == 64);
 }
 
 static void a_loop_takes_no_item_that_it_does_not_read() {
@@ -309,6 +312,9 @@ static void a_moved_drain_loses_no_item() {
     CHECK(first.begin()->priority == 0 && live == 6);
     auto second = std::move(first);
     CHECK(live == 6 && second.number() == 7 && first.number() == 0 && second.begin()->priority == 1 && live == 5);
+    auto &same = second;
+    second = std::move(same);
+    CHECK(live == 5 && second.number() == 8);
     CHECK(first.begin() != first.end() && *queue.size() == 3);
     auto third = std::move(first);
     CHECK(third.begin()->priority == 2 && first.begin()->priority == 3 && live == 5);
@@ -317,6 +323,11 @@ static void a_moved_drain_loses_no_item() {
     third = std::move(first);
     CHECK(live == 2 && third.begin() == third.end() && third.error() == code::empty && live == 1);
     CHECK(first.error() == code::ok && first.begin() == first.end());
+    // Its own item is dropped.
+    push_keys(queue, 0, 1);
+    CHECK(third.begin()->priority == 0 && live == 2);
+    third = queue.drain();
+    CHECK(third.number() == 0 && live == 1);
 }
 
 /// Calls a queue when it is dropped.
@@ -405,10 +416,20 @@ struct alignas(32) aligned {
 
 enum class color : std::uint8_t { red, green, blue, white };
 
+/// Is there until it is dropped, also where it was moved from.
+struct resident {
+    static int there;
+    resident() noexcept { ++there; }
+    resident(resident &&) noexcept { ++there; }
+    ~resident() { --there; }
+};
+int resident::there = 0;
+
 /// Neither copied nor assigned to.
 struct fixed {
     const int number;
     std::unique_ptr<std::string> name;
+    resident own = {};
     friend bool operator==(const fixed &a, const fixed &b) { return a.number == b.number && *a.name == *b.name; }
 };
 
@@ -476,6 +497,25 @@ static void padding_is_cleared() {
 static void padding_is_cleared() {}
 #endif
 
+// Leaves other bytes than zeros where the next call has its own.
+[[gnu::noinline]] static void fill_stack() {
+    volatile unsigned char room[1 << 14];
+    for (auto &it : room) {
+        it = 0xFF;
+    }
+}
+
+// Of one in a batch the text in a journal is that of its own bytes.
+static void small_payloads_have_no_other_bytes() {
+    auto queue = *flatpq::task_queue<char>::open();
+    std::vector<flatpq::task<char>> batch;
+    batch.emplace_back(5u, 'a');
+    fill_stack();
+    CHECK(queue.push_many(batch));
+    std::ostringstream text;
+    CHECK(queue.archive(0)->write(text) == code::ok && text.str().find(" push 5 97 pushed") != std::string::npos);
+}
+
 int main() {
     each_is_moved_once_in_and_once_out();
     a_batch_moves_each_once_in_and_once_out();
@@ -494,6 +534,7 @@ int main() {
     CHECK(own_caller::dropped == 4);
     kinds();
     padding_is_cleared();
-    CHECK(live == 0);
+    small_payloads_have_no_other_bytes();
+    CHECK(live == 0 && resident::there == 0);
     return 0;
 }

@@ -195,7 +195,7 @@ static void items_have_an_order() {
     std::vector<item<double>> items = {{5, 1}, {-3, 9}, {5, 0}, {-0.0, 4}};
     std::sort(items.begin(), items.end());
     CHECK((items == std::vector<item<double>>{{-3, 9}, {0.0, 4}, {5, 0}, {5, 1}}));
-    CHECK(items[0] < items[1] && items[1] <= items[1] && items[2] > items[1] && items[2] >= items[2] && items[2] != items[3]);
+    CHECK(items[0] < items[1] && items[1] <= items[1] && items[2] > items[1] && !(items[1] > items[1]) && items[2] >= items[2] && items[2] != items[3]);
 }
 
 int main() {

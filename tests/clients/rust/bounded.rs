@@ -1,7 +1,11 @@
 //! How many payloads a queue has, and queues with a bound: a push is refused at once or at its deadline, and its payload comes back; or it waits
-//! until a payload is taken out, or the queue is shut.
+//! until a payload is taken out, or the queue is shut. Futures that take are woken meanwhile.
 use flatpq::{Error, Options, Queue, TaskQueue, Until};
-use std::thread;
+use std::future::Future;
+use std::pin::Pin;
+use std::sync::Arc;
+use std::task::{Context, Poll, Wake, Waker};
+use std::thread::{self, Thread};
 use std::time::{Duration, Instant};
 
 fn bounded<T: Send>(most_items: u64) -> TaskQueue<u64, T> {
@@ -97,11 +101,16 @@ fn a_push_waits_for_room() {
         assert!(!one.is_finished());
         assert_eq!(queue.take().unwrap().0, 5);
         assert!(one.join().unwrap().is_ok());
-        let many = scope.spawn(|| queue.push_many((7..9).map(|key| (key, key.to_string()))));
         assert_eq!(queue.take().unwrap().0, 6);
+        let many = scope.spawn(|| queue.push_many((7..9).map(|key| (key, key.to_string()))));
+        while queue.is_empty().unwrap() {
+            thread::yield_now();
+        }
+        thread::sleep(Duration::from_millis(100));
+        assert!(!many.is_finished());
         assert_eq!(queue.take().unwrap().0, 7);
         let pushed = many.join().unwrap().map_err(|it| it.error);
-        assert_eq!(pushed.map(|it| it.count), Ok(2));
+        assert_eq!(pushed.map(|it| (it.count, it.number)), Ok((2, 5)));
         let shut = scope.spawn(|| queue.push(9, String::from("nine")));
         thread::sleep(Duration::from_millis(20));
         queue.shut().unwrap();
@@ -112,4 +121,44 @@ fn a_push_waits_for_room() {
         );
     });
     assert_eq!(queue.len(), Ok(1));
+}
+
+struct Unparks(Thread);
+
+impl Wake for Unparks {
+    fn wake(self: Arc<Unparks>) {
+        self.0.unpark();
+    }
+}
+
+fn ready<F: Future>(mut future: Pin<&mut F>) -> F::Output {
+    let waker = Waker::from(Arc::new(Unparks(thread::current())));
+    loop {
+        match future.as_mut().poll(&mut Context::from_waker(&waker)) {
+            Poll::Ready(output) => return output,
+            Poll::Pending => thread::park(),
+        }
+    }
+}
+
+/// A producer that waits for room may be the one that has a future woken.
+#[test]
+fn futures_are_woken_while_producers_wait() {
+    const EACH: u64 = 20_000;
+    let queue: Queue = bounded(1);
+    let sum = thread::scope(|scope| {
+        for first in 0..4 {
+            let queue = &queue;
+            scope.spawn(move || {
+                for it in 0..EACH {
+                    queue.push(it, first * EACH + it).unwrap();
+                }
+            });
+        }
+        (0..4 * EACH).fold(0, |sum, _| {
+            let taken = ready(Box::pin(queue.take_async()).as_mut());
+            sum + taken.unwrap().1
+        })
+    });
+    assert_eq!((sum, queue.len()), ((0..4 * EACH).sum(), Ok(0)));
 }

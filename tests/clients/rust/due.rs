@@ -7,7 +7,8 @@ const UNIT: Duration = Duration::from_millis(1);
 
 /// Keys count milliseconds from a moment.
 fn timed<K: TickKey>(start: Instant) -> TaskQueue<K, u32> {
-    Options::new().times(start, UNIT).open().unwrap()
+    let options = Options::new().tickets(true).times(start, UNIT);
+    options.open().unwrap()
 }
 
 /// These keys are 20, 0 and 10 units after the start, and one that is an hour later.
@@ -15,7 +16,8 @@ fn come_in_time<K: TickKey + PartialEq + std::fmt::Debug>(keys: [K; 4]) {
     let start = Instant::now() + 1000 * UNIT;
     let queue = timed(start);
     let [twenty, zero, ten, late] = keys;
-    queue.push(late, 9).unwrap();
+    let ticket = queue.push(late, 9).unwrap();
+    assert_eq!(queue.reschedule(ticket, late), Ok(Some(2)));
     queue.push_many([(twenty, 3), (zero, 1), (ten, 2)]).unwrap();
     assert_eq!(queue.until(UNIT).take_due(), Ok(Due::Later(zero)));
     for (key, payload, units) in [(zero, 1, 0), (ten, 2, 10), (twenty, 3, 20)] {
@@ -44,6 +46,8 @@ fn the_last_keys_come_out_as_the_last_one() {
     assert_eq!(queue.until(UNIT).take_due(), Ok(Due::Later(u64::MAX)));
     assert_eq!(queue.pop(), Ok(Some((u64::MAX, 1))));
     assert_eq!(queue.pop(), Ok(Some((u64::MAX, 2))));
+    queue.push(7, 3).unwrap();
+    assert!(queue.close().unwrap().left().eq([(7, 3)]));
 }
 
 /// Microseconds of the library's clock.

@@ -55,6 +55,14 @@ fn a_full_journal_stays_full() {
 }
 
 #[test]
+fn a_batch_that_is_refused_in_its_midst_keeps_what_it_took() {
+    let queue = opened(Options::new().keeping(Keeping::Fills(3024))).unwrap();
+    queue.push_many((0..2000).map(|it| (it, it))).unwrap();
+    let taken = queue.pop_due_many(u64::MAX, usize::MAX).unwrap();
+    assert_eq!((taken.len(), queue.len()), (1024, Ok(976)));
+}
+
+#[test]
 fn a_batch_has_the_number_of_its_first_entry() {
     let queue = opened(Options::new().keeping(Keeping::Fills(9))).unwrap();
     let mut member = queue.join().unwrap();

@@ -116,6 +116,11 @@ fn a_member_that_listens_no_longer_has_no_waker() {
     drop(waker);
     assert!(Arc::strong_count(&counted) == 2 && member.unlisten());
     assert!(Arc::strong_count(&counted) == 1 && !member.unlisten());
+    // Nor has one that took.
+    queue.push(1, 2).unwrap();
+    let waker = Waker::from(Arc::clone(&counted));
+    let taken = member.poll_take(&mut Context::from_waker(&waker));
+    assert!(taken.is_ready() && Arc::strong_count(&counted) == 2 && member.number() == 2);
 }
 
 /// The sleep until the old time never ends.
@@ -142,7 +147,7 @@ fn a_future_of_the_queue_joins_while_it_waits() {
     assert!(polled(&mut takes[1], &counted).is_pending());
     let refused = Poll::Ready(Err(Error::AllJoined));
     assert_eq!(polled(&mut takes[2], &counted), refused);
-    let [first, second, third] = takes;
+    let [first, second, mut third] = takes;
     drop(second);
     assert_eq!(queue.until(Duration::ZERO).pop(), Ok(None));
     queue.leave();
@@ -151,7 +156,7 @@ fn a_future_of_the_queue_joins_while_it_waits() {
         assert_eq!(run(first), Ok((7, "seven".to_string())));
     });
     queue.shut().unwrap();
-    assert_eq!(run(third), Err(Error::Shut));
+    assert_eq!(run(&mut third), Err(Error::Shut));
     let members = [queue.join().unwrap(), queue.join().unwrap()];
     assert_ne!(members[0].place(), members[1].place());
 }
@@ -227,22 +232,23 @@ fn a_shut_ends_all() {
 fn an_archive_wakes_those_whose_entries_it_has_counted() {
     let queue: Queue = Queue::new().unwrap();
     queue.push_many((0..3).map(|it| (it, it))).unwrap();
-    let counted = [(); 3].map(|()| Counted::new());
-    let mut waits = [1, 2, 3].map(|number| queue.wait_archived_async(number));
+    let counted = [(); 4].map(|()| Counted::new());
+    let mut waits = [1, 2, 3, 3].map(|number| queue.wait_archived_async(number));
     for (wait, counted) in waits.iter_mut().zip(&counted) {
         assert!(polled(wait, counted).is_pending() && polled(wait, counted).is_pending());
     }
-    let [mut first, second, mut third] = waits;
+    let [mut first, second, mut third, _fourth] = waits;
     drop(second);
     assert_eq!(Arc::strong_count(&counted[1]), 1);
     assert_eq!(queue.archive(2).unwrap().len(), 1);
-    assert_eq!([0, 1, 2].map(|it| counted[it].wakes()), [1, 0, 0]);
+    assert_eq!([0, 1, 2, 3].map(|it| counted[it].wakes()), [1, 0, 0, 0]);
     assert_eq!(polled(&mut first, &counted[0]), Poll::Ready(Ok(())));
     assert!(polled(&mut third, &counted[2]).is_pending());
     thread::scope(|scope| {
         scope.spawn(|| queue.archive(3).unwrap());
         assert_eq!(run(third), Ok(()));
     });
+    assert_eq!(counted[3].wakes(), 1);
     assert_eq!(run(queue.wait_archived_async(3)), Ok(()));
 }
 
@@ -345,28 +351,44 @@ fn what_is_due_is_taken_by_the_program_s_own_timer() {
     assert_eq!(run(take), Err(Error::Shut));
 }
 
-/// Pushes where its waker is copied for the first time, and counts its wakes.
-struct Pushing<'a> {
+/// Calls a queue where its waker is copied for the first time, and counts its wakes.
+struct Calling<'a> {
     queue: &'a Queue,
+    call: fn(&Queue),
     copies: AtomicUsize,
     wakes: AtomicUsize,
 }
 
-static OF_PUSHING: RawWakerVTable = RawWakerVTable::new(
+static OF_CALLING: RawWakerVTable = RawWakerVTable::new(
     |it| {
-        let pushing = Pushing::of(it);
-        if pushing.copies.fetch_add(1, Ordering::SeqCst) == 0 {
-            pushing.queue.push(9, 9).unwrap();
+        let calling = Calling::of(it);
+        if calling.copies.fetch_add(1, Ordering::SeqCst) == 0 {
+            (calling.call)(calling.queue);
         }
-        RawWaker::new(it, &OF_PUSHING)
+        RawWaker::new(it, &OF_CALLING)
     },
-    |it| Pushing::of(it).woken(),
-    |it| Pushing::of(it).woken(),
+    |it| Calling::of(it).woken(),
+    |it| Calling::of(it).woken(),
     |_| (),
 );
 
-impl<'a> Pushing<'a> {
-    fn of(it: *const ()) -> &'a Pushing<'a> {
+impl<'a> Calling<'a> {
+    fn new(queue: &'a Queue, call: fn(&Queue)) -> Calling<'a> {
+        Calling {
+            queue,
+            call,
+            copies: AtomicUsize::new(0),
+            wakes: AtomicUsize::new(0),
+        }
+    }
+
+    fn waker(&self) -> Waker {
+        let raw = RawWaker::new((self as *const Calling<'_>).cast(), &OF_CALLING);
+        // SAFETY: the functions take what this is.
+        unsafe { Waker::from_raw(raw) }
+    }
+
+    fn of(it: *const ()) -> &'a Calling<'a> {
         // SAFETY: the test has it until its wakers are gone, in its own thread.
         unsafe { &*it.cast() }
     }
@@ -381,22 +403,38 @@ fn a_push_in_the_midst_of_a_poll_is_taken_or_wakes() {
     let queue: Queue = Queue::new().unwrap();
     let [mut taker] = members(&queue);
     for is_listening in [false, true] {
-        let pushing = Pushing {
-            queue: &queue,
-            copies: AtomicUsize::new(0),
-            wakes: AtomicUsize::new(0),
-        };
-        let raw = RawWaker::new((&pushing as *const Pushing<'_>).cast(), &OF_PUSHING);
-        // SAFETY: the functions take what this is.
-        let waker = unsafe { Waker::from_raw(raw) };
+        let calling = Calling::new(&queue, |it| assert!(it.push(9, 9).is_ok()));
+        let waker = calling.waker();
         if is_listening {
             assert!(polled(&mut taker.take_async(), &Counted::new()).is_pending());
         }
         let mut taken = taker.poll_take(&mut Context::from_waker(&waker));
-        if taken.is_pending() && pushing.wakes.load(Ordering::SeqCst) > 0 {
+        if taken.is_pending() && calling.wakes.load(Ordering::SeqCst) > 0 {
             taken = taker.poll_take(&mut Context::from_waker(&waker));
         }
         assert_eq!(taken, Poll::Ready(Ok((9, 9))));
-        assert!(pushing.copies.load(Ordering::SeqCst) > 0);
+        assert!(calling.copies.load(Ordering::SeqCst) > 0);
     }
+}
+
+/// A sleep that is over at once has its task polled again.
+#[test]
+fn a_sleep_that_is_over_wakes() {
+    let queue: TaskQueue<Instant, u32> = TaskQueue::new().unwrap();
+    queue.push(Instant::now() + LONG, 1).unwrap();
+    let counted = Counted::new();
+    let mut take = queue.take_due_async(|_| std::future::ready(()));
+    assert!(polled(&mut take, &counted).is_pending());
+    assert_eq!(counted.wakes(), 1);
+}
+
+#[test]
+fn an_archive_in_the_midst_of_a_poll_is_seen() {
+    let queue: Queue = Queue::new().unwrap();
+    queue.push(1, 1).unwrap();
+    let archiving = Calling::new(&queue, |it| drop(it.archive(1).unwrap()));
+    let waker = archiving.waker();
+    let mut wait = queue.wait_archived_async(1);
+    let polled = Pin::new(&mut wait).poll(&mut Context::from_waker(&waker));
+    assert_eq!(polled, Poll::Ready(Ok(())));
 }

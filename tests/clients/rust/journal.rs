@@ -37,7 +37,8 @@ fn entries_come_by_iterators() {
     assert_eq!(all[2], (Request::Push, item(5, max)));
     assert_eq!(all[3], (Request::Pop, item(5, max)));
     assert_eq!(all[4], (Request::Pop, None));
-    assert_eq!(entries.nth(3), journal.get(3));
+    assert_eq!(entries.next(), journal.get(0));
+    assert_eq!(entries.nth(2), journal.get(3));
     assert_eq!(
         entries.next().map(|it| (it.number, it.serial)),
         Some((5, 5))
@@ -116,6 +117,9 @@ fn a_queue_of_payloads_has_keys_and_tokens() {
     let entry = journal.get(0).unwrap();
     assert_eq!(entry.item.map(|it| it.priority), Some((1 << 63) - 1));
     assert_eq!((entry.number, entry.serial), (1, 1));
+    let queue: TaskQueue<u64, u8> = TaskQueue::new().unwrap();
+    queue.push(5, 7).unwrap();
+    assert_eq!(queue.archive(0).unwrap().get(0).unwrap().item, item(5, 7));
 }
 
 fn read_back(name: &str, text: &str) -> Result<ReadBack<u64, u64>, NotReadBack> {
@@ -154,6 +158,7 @@ fn a_journal_is_read_back() {
     let wanted = NotReadBack { line, bytes, error };
     let damaged = format!("{WRITTEN}4 0 4 pop got 6 8 12345678\n");
     assert_eq!(read_back("refused", &damaged).unwrap_err(), wanted);
+    assert_eq!(wanted.to_string(), format!("line 4: {error}"));
     let folder = TaskJournal::<u64, u64>::read_from(File::open("/").unwrap());
     assert_eq!(folder.map_err(Error::from).err(), Some(Error::NotRead));
 }

@@ -14,6 +14,14 @@ struct Polled {
 
 extern "C" {
     fn poll(all: *mut Polled, count: c_ulong, milliseconds: c_int) -> c_int;
+    fn fcntl(descriptor: c_int, command: c_int) -> c_int;
+}
+
+/// Whether a program that the process becomes does not get the descriptor.
+fn is_closed_by_exec(listener: &impl AsFd) -> bool {
+    const GET_FLAGS: c_int = 1;
+    // SAFETY: the call reads the flags.
+    unsafe { fcntl(listener.as_fd().as_raw_fd(), GET_FLAGS) == 1 }
 }
 
 /// Whether the descriptor is readable in this time.
@@ -32,6 +40,7 @@ fn is_readable(listener: &impl AsFd, milliseconds: c_int) -> bool {
 fn a_push_and_a_shut_make_it_readable() {
     let queue = TaskQueue::new().unwrap();
     let mut listener = queue.listener().unwrap();
+    assert!(is_closed_by_exec(&listener));
     assert!(listener.try_take() == Ok(None) && !is_readable(&listener, 0));
     queue.push(5, 50).unwrap();
     queue.push(6, 60).unwrap();
@@ -54,6 +63,7 @@ fn a_push_and_a_shut_make_it_readable() {
 fn a_timer_is_readable_once_the_first_is_due() {
     let queue = TaskQueue::new().unwrap();
     let mut listener = queue.due_listener().unwrap();
+    assert!(is_closed_by_exec(&listener));
     let last = Instant::now() + Duration::from_secs(3600);
     assert!(listener.try_take_due() == Ok(Due::Empty) && !is_readable(&listener, 0));
     queue.push(last, String::from("last")).unwrap();

@@ -1,7 +1,37 @@
 //! Where memory is refused to a push, it says so and changes nothing; and goes on once there is memory again. A batch of pops asks for little.
-//! The only test of its process, whose address space it limits.
+//! The only test of its process, whose address space it limits, and whose allocator refuses.
 use flatpq::{Error, NotPushed, TaskQueue};
+use std::alloc::{GlobalAlloc, Layout, System};
 use std::fs;
+use std::ptr;
+use std::sync::atomic::{AtomicUsize, Ordering::Relaxed};
+
+/// Of these payloads so many get memory, and then none.
+type Large = [u64; 80];
+static LEFT: AtomicUsize = AtomicUsize::new(usize::MAX);
+
+struct Refusing;
+
+#[global_allocator]
+static ALLOCATOR: Refusing = Refusing;
+
+// SAFETY: it is the system's allocator where it does not refuse.
+unsafe impl GlobalAlloc for Refusing {
+    unsafe fn alloc(&self, layout: Layout) -> *mut u8 {
+        let one_less = |left: usize| left.checked_sub(1);
+        let is_large = layout == Layout::new::<Large>();
+        if is_large && LEFT.fetch_update(Relaxed, Relaxed, one_less).is_err() {
+            return ptr::null_mut();
+        }
+        // SAFETY: as of the caller.
+        unsafe { System.alloc(layout) }
+    }
+
+    unsafe fn dealloc(&self, block: *mut u8, layout: Layout) {
+        // SAFETY: as of the caller.
+        unsafe { System.dealloc(block, layout) }
+    }
+}
 
 const MORE: u64 = 16 << 20;
 const ADDRESS_SPACE: i32 = 9;
@@ -56,10 +86,23 @@ fn a_batch_asks_for_little() {
     assert!(popped.unwrap().is_empty());
 }
 
+/// None of it is pushed, and all of it comes back in its order, what nobody asked for yet too.
+fn a_batch_comes_back() {
+    let queue: TaskQueue<u64, Large> = TaskQueue::new().unwrap();
+    let batch = |at: u64| (at, [at; 80]);
+    LEFT.store(2, Relaxed);
+    let refused = queue.push_many((0..5).map(batch)).unwrap_err();
+    LEFT.store(usize::MAX, Relaxed);
+    assert_eq!((refused.error, refused.pushed.count), (Error::NoMemory, 0));
+    assert!(refused.payloads.into_iter().eq((0..5).map(batch)));
+    assert_eq!(queue.len(), Ok(0));
+}
+
 /// In the item itself, and in blocks of their own.
 #[test]
 fn a_push_without_memory_is_refused() {
     a_batch_asks_for_little();
+    a_batch_comes_back();
     comes_back(&TaskQueue::new().unwrap(), |it| it, |it| it);
     comes_back(&TaskQueue::new().unwrap(), |it| [it; 64], |it| it[0]);
 }

@@ -126,6 +126,9 @@ PQ_CHECKED pq_code pq_open(const pq_options *options, pq_queue **queue);
    item take what is left, and return PQ_SHUT once nothing is left; no item comes after that. PQ_OK; PQ_CLOSED, PQ_FORKED. */
 pq_code pq_shut(pq_queue *queue);
 
+/* 1: the queue is shut, so a push that begins from now on is refused. 0: no push was refused for that before this call; or this is a forked child. */
+int pq_is_shut(pq_queue *queue);
+
 /* Closes the queue. *journal gets its journal and the items that are left in it; journal may be NULL. The call takes back the own members
    of threads that are in no call, do not listen, and have no request posted.
    PQ_OK; PQ_MEMBERS_LEFT, PQ_NO_MEMORY: the queue stays open; PQ_CLOSED, PQ_FORKED. */
@@ -178,8 +181,7 @@ PQ_CHECKED pq_code pq_peek(pq_member *member, pq_item *item, uint64_t until, uin
 PQ_CHECKED pq_code pq_pop_due(pq_member *member, uint64_t priority, pq_item *item, uint64_t until, uint64_t *number);
 
 /* Waits for an item, and takes the first one out. PQ_OK; PQ_EMPTY: none came until then; PQ_SHUT: the queue is shut and empty. Only PQ_OK has an
-   entry. With PQ_NOW or a deadline that is past it returns PQ_EMPTY also if the queue is shut; so does pq_take_due. A thread that waits keeps
-   its member. But of two or more that are not joined one stays awake for other calls: by pq_own a thread then waits without a member. */
+   entry. A thread that waits keeps its member. But of two or more that are not joined one stays awake: by pq_own a thread then waits without. */
 PQ_CHECKED pq_code pq_take(pq_member *member, pq_item *item, uint64_t until, uint64_t *number);
 
 /* Waits until the first item is due, also in a shut queue, and takes it out. Priorities are times (pq_options); by default those of pq_now.

@@ -85,7 +85,7 @@ struct pq_queue {
     uint32_t fills;      /* its journal does, and is then full for good */
     uint32_t concerned;  /* whom it concerns that an item was taken: DRAIN of each that waits for what is left in a shut queue, and PRODUCER of
                             each that waits for room */
-    uint32_t is_shut;
+    uint32_t is_shut;    /* SHUTS: a shut goes on; IS_SHUT */
     uint32_t members; /* how many there may be */
 
     /* Members, under their lock. */
@@ -125,6 +125,7 @@ struct pq_queue {
     uint32_t archives;                              /* how often that rose: threads sleep at it */
 };
 
+enum { SHUTS = 1, IS_SHUT = 2 };
 enum { DRAIN = 1, PRODUCER = 1 << 16 };
 enum { OWN_SLEEPS = 1, JOINED_SLEEPS = 1 << 8, IS_JOINED = 1 << 16 };
 enum { NONE_SAID = 0, SAID = 1, HEARD = 2 };

@@ -522,6 +522,8 @@ public:
 
     /// Shuts the queue down for good: each push is refused. Threads that wait for an item take what is left, and then return code::shut.
     code shut() noexcept { return queue_ != nullptr ? static_cast<code>(pq_shut(queue_)) : code::no_member; }
+    /// Whether that was done: each push that begins from now on is refused.
+    [[nodiscard]] bool is_shut() const noexcept { return queue_ != nullptr && pq_is_shut(queue_) != 0; }
 
     /// Waits until an archive has counted the entry of this number as archived. code::ok, code::timed_out, code::closed.
     [[nodiscard]] code wait_archived(std::uint64_t number, deadline until = {}) const noexcept {

@@ -26,6 +26,7 @@ typedef struct fiber {
     uint64_t calls;  /* that it has begun */
     const void *at;  /* the mutex or the word for which it waits */
     int priority;    /* of a random schedule */
+    int is_after_end; /* a take had returned the end before its call began */
     int found_held;  /* it spins */
     int late_naps;   /* since the deadline of its call */
     int late_count;

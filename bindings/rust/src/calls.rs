@@ -10,9 +10,7 @@ use crate::tasks::Shared;
 use std::cell::Cell;
 use std::fmt;
 use std::marker::PhantomData;
-use std::os::raw::c_void;
 use std::ptr;
-use std::sync::atomic::Ordering;
 
 /// Integers of at most 64 bits, as payloads: a queue of them is a [`Queue`](crate::Queue).
 pub trait Number: Copy + Send + sealed::Sealed {}
@@ -207,41 +205,12 @@ impl<K: Key, T: Send> Call<'_, K, T> {
     pub fn take(&self) -> Result<Option<(K, T)>, Error> {
         match self.waits(raw::pq_take) {
             Err(Error::TimedOut) => Ok(None),
-            Ok(Due::Empty) => Ok(self.keyed(self.sees_end(u64::MAX)?).got()),
             taken => Ok(self.keyed(taken?).got()),
         }
     }
 
     pub fn take_due(&self) -> Result<Due<K, T>, Error> {
-        let due = match self.waits(raw::pq_take_due)? {
-            Due::Empty => self.sees_end(self.shared.times.due_now())?,
-            due => due,
-        };
-        Ok(self.keyed(due))
-    }
-
-    // After a take that found none until its deadline: a call that listens, and never waits, returns the end of a shut queue.
-    #[cold]
-    fn sees_end(&self, priority: u64) -> Result<Due<u64, T>, Error> {
-        /// A member that listens only during this call has nobody to wake.
-        unsafe extern "C" fn nobody(_: *mut c_void) {}
-        let (member, context) = (self.member, ptr::null_mut());
-        if !self.shared.is_shut.load(Ordering::Acquire) {
-            return Ok(Due::Empty);
-        }
-        let found = after::calling(|| {
-            // SAFETY: as of `waits`; the context is not used.
-            let found = self.taken(|item, number| unsafe {
-                raw::pq_take_or_listen(member, priority, item, number, nobody, context)
-            });
-            // SAFETY: the member is there, and in this call alone.
-            unsafe { raw::pq_unlisten(member) };
-            found
-        });
-        match found {
-            Err(Error::TimedOut | Error::AllJoined) => Ok(Due::Empty),
-            found => found,
-        }
+        Ok(self.keyed(self.waits(raw::pq_take_due)?))
     }
 
     /// How many payloads there are, and the most that there were at once.

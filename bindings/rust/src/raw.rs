@@ -64,6 +64,7 @@ extern "C" {
     pub fn pq_after(nanoseconds: u64) -> u64;
     fn pq_open(options: *const RawOptions, queue: *mut *mut QueueInside) -> u32;
     fn pq_shut(queue: *mut QueueInside) -> u32;
+    fn pq_is_shut(queue: *mut QueueInside) -> c_int;
     fn pq_close(queue: *mut QueueInside, journal: *mut *mut JournalInside) -> u32;
     fn pq_free(queue: *mut QueueInside, left: Option<Left>, context: *mut c_void);
     fn pq_own(queue: *mut QueueInside) -> *mut MemberInside;
@@ -141,6 +142,11 @@ impl RawQueue {
     pub fn shut(&self) -> u32 {
         // SAFETY: the queue is there.
         unsafe { pq_shut(self.0.as_ptr()) }
+    }
+
+    pub fn is_shut(&self) -> bool {
+        // SAFETY: the queue is there.
+        unsafe { pq_is_shut(self.0.as_ptr()) == 1 }
     }
 
     pub fn wait_archived(&self, number: u64, until: u64) -> u32 {

@@ -46,6 +46,7 @@ static void has_other_calls(void) {
     HAS(uint64_t, pq_after, (uint64_t));
     HAS(pq_code, pq_open, (const pq_options *, pq_queue **));
     HAS(pq_code, pq_shut, (pq_queue *));
+    HAS(int, pq_is_shut, (pq_queue *));
     HAS(pq_code, pq_close, (pq_queue *, pq_journal **));
     HAS(void, pq_free, (pq_queue *, void (*)(void *, pq_item), void *));
     HAS(pq_member *, pq_own, (pq_queue *));
@@ -133,7 +134,7 @@ static void has_times(void) {
 int main(void) {
     has_requests();
     has_other_calls();
-    CHECK(calls == 40);
+    CHECK(calls == 41);
     has_constants();
     has_codes();
     has_times();

@@ -58,7 +58,7 @@ typedef enum pq_code {
     PQ_NOT_WRITTEN = 31,  /* a write failed */
     PQ_MEMBERS_LEFT = 40, /* a member was not given back, or is in a call */
     PQ_ALL_JOINED = 41,   /* as many members are in use as the queue was opened for, or this one is the last awake */
-    PQ_NO_MEMBER = 42,    /* the member is NULL */
+    PQ_NO_MEMBER = 42,    /* the member is NULL, or another copy of the library has opened the queue */
     PQ_PENDING = 43,      /* the request that the member posted has no answer yet */
     PQ_NOT_PENDING = 44,  /* the member has posted no request */
     PQ_BAD_REQUEST = 45,  /* there is no such request */
@@ -138,8 +138,6 @@ PQ_CHECKED pq_code pq_close(pq_queue *queue, pq_journal **journal);
    returned, and threads that listen or have posted by pq_own have ended. Then `left`, unless it is NULL, is called with each item that was left, in
    the thread that frees the memory; calls that `left` makes by `queue` return PQ_CLOSED. No thread that waits is woken: shut the queue first. */
 void pq_free(pq_queue *queue, void (*left)(void *context, pq_item item), void *context);
-
-/* Members. */
 
 /* The calling thread's own member, as a pointer that all threads may share. A thread gets its member at its first call, and gives it back when
    it ends. Where all members are in use, a call takes over one that its thread does not use, or waits for one until its `until`. So more

@@ -84,9 +84,10 @@ struct pq_queue {
     uint64_t most_items; /* 0: as many as there are */
     uint32_t fills;      /* its journal does, and is then full for good */
     uint32_t concerned;  /* whom it concerns that an item was taken: DRAIN of each that waits for what is left in a shut queue, and PRODUCER of
-                            each that waits for room */
+                            each that waits, or listens, for room */
     uint32_t is_shut;    /* SHUTS: a shut goes on; IS_SHUT */
     uint32_t members; /* how many there may be */
+    const pthread_mutex_t *lock; /* of members: that of the copy of the library which opened the queue */
 
     /* Members, under their lock. */
     uint32_t is_closed __attribute__((aligned(64)));

@@ -65,6 +65,7 @@ pq_code pq_open(const pq_options *options, pq_queue **queue) {
     made->most_items = asked->most_items;
     made->fills = asked->keeping == PQ_FILLS;
     made->members = members;
+    made->lock = &flatpq_members;
     made->earliest = PQ_FOREVER;
     made->own.queue = made;
     made->own.is_shared = 1;
@@ -258,6 +259,9 @@ static void take_on(pq_member *member) {
 pq_code flatpq_get_member(pq_queue *queue, uint64_t until, own *record, pq_member **member) {
     wanting it = { NULL, NULL, record, NULL, PQ_ALL_JOINED, 0 };
     int is_served = 0;
+    if (queue->lock != &flatpq_members) {
+        return PQ_NO_MEMBER;
+    }
     pthread_mutex_lock(&flatpq_members);
     if (queue->is_closed) {
         it.code = PQ_CLOSED;

@@ -43,7 +43,7 @@ struct pq_member {
     uint32_t keeps;        /* POSTED, LISTENS: its thread keeps it between calls */
     uint32_t place;
     uint32_t has_left;     /* its last take_or_listen that looked found an item */
-    uint32_t drains;       /* it listens, and is counted in `concerned`: for what is left in a shut queue */
+    uint32_t concern;      /* it listens, and is counted so in `concerned`: for what is left in a shut queue, or for room */
     uint32_t looks;        /* it listens, and its call still looks: that call does not notify it */
     uint32_t sleeps_as;    /* it listens, and is counted so in `sleepers` */
     pq_member *next;       /* of those that are in no use */
@@ -107,7 +107,7 @@ struct pq_queue {
     pthread_mutex_t waiting __attribute__((aligned(64)));
     waiters takers, timers, listeners; /* threads that take any item, threads that take what is due, and members that listen */
     waiters alarms;                    /* members that listen by a timer (listening.c) */
-    waiters producers;                 /* threads that wait for room */
+    waiters producers, room_listeners; /* threads that wait for room, and members that listen for it */
     uint32_t producer_on_way;          /* one of these was woken, and has not settled that yet */
     uint64_t owed;    /* wakes that are owed, the one that is on its way among them */
     uint32_t on_way;  /* a thread was woken, and has not settled that yet */
@@ -308,6 +308,7 @@ HIDDEN void flatpq_owe(pq_queue *queue, uint64_t count);
 HIDDEN void flatpq_wake_owed(pq_member *member);
 HIDDEN void flatpq_wake_after(pq_member *member, const core_answer *answer); /* answer is NULL after a round */
 HIDDEN int flatpq_has_room(pq_member *member);
+HIDDEN void flatpq_say_room(pq_queue *queue);
 HIDDEN void flatpq_pass_on(pq_queue *queue, uint64_t priority);
 HIDDEN void flatpq_wake_all(pq_queue *queue, waiter *but);
 HIDDEN void flatpq_wait_for_waker(waiter *waits);
@@ -365,6 +366,8 @@ HIDDEN int flatpq_unlisten(pq_member *member);
 #define KIND_MOVED 7 /* that of a move which found its item (removing.c) */
 #define KIND_GONE 8  /* that of a removal or a move which found none */
 HIDDEN pq_code flatpq_push_within(pq_member *member, pq_item item, uint64_t until, core_answer *answer);
+/* Tries some times, also where there is no bound, and wakes nobody for room. PQ_TIMED_OUT: another thread had the lock. */
+HIDDEN pq_code flatpq_push_at_once(pq_member *member, pq_item item, core_answer *answer);
 
 /*
  * durable.c: threads wait until an entry is archived.

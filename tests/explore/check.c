@@ -217,7 +217,8 @@ void check_end(void) {
         return;
     }
     if (queue->concerned != 0 || queue->alarm_count != 0 || queue->staying != 0 || queue->first != NULL || queue->takers.first != NULL
-        || queue->timers.first != NULL || queue->listeners.first != NULL || queue->alarms.first != NULL || queue->producers.first != NULL) {
+        || queue->timers.first != NULL || queue->listeners.first != NULL || queue->alarms.first != NULL || queue->producers.first != NULL
+        || queue->room_listeners.first != NULL) {
         fail("threads have ended, and something of them is left in the queue: concerned %u, alarms %u, staying %u", queue->concerned,
              queue->alarm_count, queue->staying);
     }

@@ -100,6 +100,7 @@ extern uint32_t posted[MOST_FIBERS]; /* what it posted; UINT32_MAX: that was ref
 void requests_begin(void);
 void listeners_begin(void);
 void members_begin(void);
+pq_item new_item(uint64_t priority);
 void put(uint64_t priority);
 void use_members(int joined);
 void give_back(int which);

@@ -18,7 +18,7 @@ uint64_t next_value(void) {
     return ++value;
 }
 
-static pq_item new_item(uint64_t priority) {
+pq_item new_item(uint64_t priority) {
     const pq_item made = { priority, next_value() };
     return made;
 }

@@ -127,13 +127,24 @@ impl<K: Key, T: Send> Call<'_, K, T> {
     }
 
     fn pushed(&self, priority: u64, payload: T, until: u64) -> Result<u64, NotPushed<T>> {
+        // SAFETY: the member is there, and in this call alone; the number is borrowed for it.
+        self.pushed_by(priority, payload, |item, number| unsafe {
+            raw::pq_push(self.member, item, until, number)
+        })
+    }
+
+    pub(crate) fn pushed_by(
+        &self,
+        priority: u64,
+        payload: T,
+        call: impl FnOnce(Item, &mut u64) -> u32,
+    ) -> Result<u64, NotPushed<T>> {
         let value = value_of(payload).map_err(|payload| NotPushed {
             payload,
             error: Error::NoMemory,
         })?;
         let (item, mut number) = (Item { priority, value }, 0);
-        // SAFETY: the member is there, and in this call alone; the number is borrowed for it.
-        let code = unsafe { raw::pq_push(self.member, item, until, &mut number) };
+        let code = call(item, &mut number);
         self.has_number(number);
         let pushed = Error::unless_ok(code);
         pushed.map(|()| number).map_err(|error| {

@@ -92,6 +92,7 @@ extern "C" {
         member: *mut MemberInside, priority: u64, item: *mut Item, number: *mut u64, notify: Notify, context: *mut c_void,
     ) -> u32;
     pub fn pq_take_due_or_listen(member: *mut MemberInside, timer: c_int, item: *mut Item, number: *mut u64) -> u32;
+    pub fn pq_push_or_listen(member: *mut MemberInside, item: Item, number: *mut u64, notify: Notify, context: *mut c_void) -> u32;
     pub fn pq_unlisten(member: *mut MemberInside) -> c_int;
     pub fn pq_notify_fd(context: *mut c_void);
     pub fn pq_archive(member: *mut MemberInside, archived: u64, until: u64, journal: *mut *mut JournalInside) -> u32;

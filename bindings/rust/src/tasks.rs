@@ -10,12 +10,10 @@ use crate::key::{Key, TimeKey};
 use crate::options::Options;
 use crate::payload::{self, payload_of, value_of};
 use crate::raw::{self, RawMember, RawOptions, RawQueue};
-use crate::sync::AtomicBool;
 use std::cell::Cell;
 use std::marker::PhantomData;
 use std::os::raw::c_void;
 use std::os::unix::io::{AsRawFd, BorrowedFd};
-use std::sync::atomic::Ordering;
 use std::sync::{Arc, Mutex};
 use std::{fmt, iter::FusedIterator};
 

@@ -58,7 +58,7 @@ typedef enum pq_code {
     PQ_NOT_WRITTEN = 31,  /* a write failed */
     PQ_MEMBERS_LEFT = 40, /* a member was not given back, or is in a call */
     PQ_ALL_JOINED = 41,   /* as many members are in use as the queue was opened for, or this one is the last awake */
-    PQ_NO_MEMBER = 42,    /* the member is NULL */
+    PQ_NO_MEMBER = 42,    /* the member is NULL, or another copy of the library has opened the queue */
     PQ_PENDING = 43,      /* the request that the member posted has no answer yet */
     PQ_NOT_PENDING = 44,  /* the member has posted no request */
     PQ_BAD_REQUEST = 45,  /* there is no such request */
@@ -98,9 +98,7 @@ typedef struct pq_item {
     uint64_t value;
 } pq_item;
 
-/* Opening and ending a queue. Any thread may make these calls at any time. */
-
-/* What happens to the journal's older entries. */
+/* Opening and ending a queue: any thread may make these calls at any time. What happens to the journal's older entries: */
 enum pq_keeping {
     PQ_FORGETS = 0, /* memory keeps the last `entries` of them, 16 to 16777216; 0 is 1024 */
     PQ_REFUSES = 1, /* the same, 0 is 65536; but a request that would make memory forget an unarchived entry is refused (PQ_UNARCHIVED) */
@@ -126,6 +124,9 @@ PQ_CHECKED pq_code pq_open(const pq_options *options, pq_queue **queue);
    item take what is left, and return PQ_SHUT once nothing is left; no item comes after that. PQ_OK; PQ_CLOSED, PQ_FORKED. */
 pq_code pq_shut(pq_queue *queue);
 
+/* 1: the queue is shut, so each push that begins from now on is refused. 0: none was refused for that before this call; or in a forked child. */
+int pq_is_shut(pq_queue *queue);
+
 /* Closes the queue. *journal gets its journal and the items that are left in it; journal may be NULL. The call takes back the own members
    of threads that are in no call, do not listen, and have no request posted.
    PQ_OK; PQ_MEMBERS_LEFT, PQ_NO_MEMORY: the queue stays open; PQ_CLOSED, PQ_FORKED. */
@@ -135,8 +136,6 @@ PQ_CHECKED pq_code pq_close(pq_queue *queue, pq_journal **journal);
    returned, and threads that listen or have posted by pq_own have ended. Then `left`, unless it is NULL, is called with each item that was left, in
    the thread that frees the memory; calls that `left` makes by `queue` return PQ_CLOSED. No thread that waits is woken: shut the queue first. */
 void pq_free(pq_queue *queue, void (*left)(void *context, pq_item item), void *context);
-
-/* Members. */
 
 /* The calling thread's own member, as a pointer that all threads may share. A thread gets its member at its first call, and gives it back when
    it ends. Where all members are in use, a call takes over one that its thread does not use, or waits for one until its `until`. So more
@@ -158,12 +157,10 @@ void pq_give_back(pq_member *member);
    the thread's member, or UINT32_MAX where the thread has none at the moment. */
 uint32_t pq_place(pq_member *member);
 
-/*
- * Requests. Each of these calls may also return PQ_NO_MEMBER, PQ_FORKED, PQ_PENDING, PQ_EXHAUSTED, PQ_JOURNAL_FULL or PQ_UNARCHIVED, and
- * PQ_TIMED_OUT unless `until` is PQ_FOREVER; a call by pq_own also PQ_CLOSED or PQ_NO_MEMORY. A call without `until` doesn't wait. number
- * may be NULL; else *number is the number of the journal entry, if there is one. Where the journal has no room, a call that takes is
- * refused even if there is nothing to take.
- */
+/* Requests. Each of these calls may also return PQ_NO_MEMBER, PQ_FORKED, PQ_PENDING, PQ_EXHAUSTED, PQ_JOURNAL_FULL or PQ_UNARCHIVED, and
+   PQ_TIMED_OUT unless `until` is PQ_FOREVER; a call by pq_own also PQ_CLOSED or PQ_NO_MEMORY. A call without `until` doesn't wait. number
+   may be NULL; else *number is the number of the journal entry, if there is one. Where the journal has no room, a call that takes is
+   refused even if there is nothing to take. */
 
 /* Puts an item in. Where the queue has as many items as pq_options allow, the call waits until one goes out, and keeps its member meanwhile.
    PQ_OK; PQ_FULL: there was no room until then; PQ_SHUT, PQ_NO_MEMORY. */
@@ -178,8 +175,7 @@ PQ_CHECKED pq_code pq_peek(pq_member *member, pq_item *item, uint64_t until, uin
 PQ_CHECKED pq_code pq_pop_due(pq_member *member, uint64_t priority, pq_item *item, uint64_t until, uint64_t *number);
 
 /* Waits for an item, and takes the first one out. PQ_OK; PQ_EMPTY: none came until then; PQ_SHUT: the queue is shut and empty. Only PQ_OK has an
-   entry. With PQ_NOW or a deadline that is past it returns PQ_EMPTY also if the queue is shut; so does pq_take_due. A thread that waits keeps
-   its member. But of two or more that are not joined one stays awake for other calls: by pq_own a thread then waits without a member. */
+   entry. A thread that waits keeps its member. But of two or more that are not joined one stays awake: by pq_own a thread then waits without. */
 PQ_CHECKED pq_code pq_take(pq_member *member, pq_item *item, uint64_t until, uint64_t *number);
 
 /* Waits until the first item is due, also in a shut queue, and takes it out. Priorities are times (pq_options); by default those of pq_now.
@@ -234,6 +230,10 @@ PQ_CHECKED pq_code pq_take_due_or_listen(pq_member *member, int timer, pq_item *
    notify must not wait or call this library. All that listen so shall pass the same bound, or the current time: a push notifies one. */
 PQ_CHECKED pq_code pq_take_or_listen(pq_member *member, uint64_t priority, pq_item *item, uint64_t *number,
                                      void (*notify)(void *context), void *context);
+
+/* Puts an item in, if there is room; else the member listens for room as by pq_take_or_listen: then call again, or pq_unlisten, as others that
+   listen for room may rely on that. PQ_OK; PQ_FULL: it listens; PQ_SHUT, PQ_NO_MEMORY; or a refusal. */
+PQ_CHECKED pq_code pq_push_or_listen(pq_member *member, pq_item item, uint64_t *number, void (*notify)(void *context), void *context);
 
 /* Ends the listening, as a take or a refused call does: notify neither runs nor is called again. 1: the member listened, and was not notified. */
 int pq_unlisten(pq_member *member);

@@ -17,6 +17,10 @@
  *
  * A thread that reads SAID or HEARD after its pop has nothing to say: a producer has yet to set `room` back, and then to try.
  *
+ * A member that listens for room (listening.c) is in a list of its own, and is notified where no thread sleeps. It is not on its way then, as its
+ * program may let it wait: `room` is NONE_SAID from then on, so the next pop says it again. Its next call tries to push after all this. Where that
+ * is refused, or it listens no more, it says that there is room. So no thread waits for a listener.
+ *
  * Where the journal fills, and is full, no item goes out any more. A producer that finds the queue full then asks for that too. A call that is
  * refused for it says that there is room, so each producer that sleeps is woken in turn, and is refused.
  */
@@ -36,11 +40,12 @@ typedef struct push {
 
 static pq_code try_push(const push *it) {
     pq_member *member = it->member;
+    uint64_t most = member->queue->most_items != 0 ? member->queue->most_items : UINT64_MAX;
     pq_code code;
     if (IS_WATCHED) {
         flatpq_tsan_push(it->item);
     }
-    code = LEAVE_OUT(pq_core_try_push_within(&member->proved, member->queue->most_items, it->item.priority, it->item.value, it->answer));
+    code = LEAVE_OUT(pq_core_try_push_within(&member->proved, most, it->item.priority, it->item.value, it->answer));
     flatpq_pace.calls++;
     if (code == PQ_FULL) {
         it->answer->kind = KIND_FULL;
@@ -60,14 +65,18 @@ static pq_code try_until(const push *it) {
     return code;
 }
 
-/* Tries some times more where the lock was held until the deadline. */
-static pq_code try_and_insist(const push *it) {
+/* Whether a call that found the lock held until its deadline tries once more. */
+static int insists(int *tried) {
     const int tries = 64, until_yield = 8;
+    if (++*tried % until_yield == 0) {
+        sched_yield();
+    }
+    return *tried < tries;
+}
+
+static pq_code try_and_insist(const push *it) {
     pq_code code = try_until(it);
-    for (int tried = 1; code == LOCK_HELD && tried < tries; tried++) {
-        if (tried % until_yield == 0) {
-            sched_yield();
-        }
+    for (int tried = 0; code == LOCK_HELD && insists(&tried);) {
         code = try_push(it);
     }
     if ((code == PQ_OK || code == PQ_FULL) && it->answer->owes_wake) {
@@ -118,8 +127,9 @@ static pq_code look(pq_member *member, core_answer *first) {
     return LEAVE_OUT(pq_core_try_pop_or_look(&member->proved, 0, 0, first));
 }
 
-/* Whether the journal is full. The look carries out what is posted. */
-static int is_stuck(const push *it) {
+/* What a push comes to that found the queue full: PQ_JOURNAL_FULL where the journal is full too; PQ_TIMED_OUT where the lock is held. The look
+   carries out what is posted. */
+static pq_code why_full(const push *it) {
     pq_member *member = it->member;
     core_answer first;
     pq_code code = member->queue->fills ? look(member, &first) : PQ_FULL;
@@ -130,11 +140,14 @@ static int is_stuck(const push *it) {
         }
         flatpq_rested(&resting);
     }
+    for (int tried = 0; code == LOCK_HELD && insists(&tried);) {
+        code = look(member, &first);
+    }
     if (code != PQ_OK) {
-        return 0;
+        return code == LOCK_HELD ? PQ_TIMED_OUT : PQ_FULL;
     }
     flatpq_carried_out(member, &first);
-    return first.kind == KIND_JOURNAL_FULL;
+    return first.kind == KIND_JOURNAL_FULL ? PQ_JOURNAL_FULL : PQ_FULL;
 }
 
 /* Whether another producer is to be woken. It may be woken for nothing. */
@@ -176,7 +189,7 @@ static pq_code wait_for_room(push *it) {
             break;
         }
         settle(it);
-        if (is_stuck(it)) {
+        if (why_full(it) == PQ_JOURNAL_FULL) {
             code = PQ_JOURNAL_FULL;
             break;
         }
@@ -190,17 +203,33 @@ static pq_code wait_for_room(push *it) {
     return code;
 }
 
+/* What a push comes to that was made with this code. */
+static pq_code result(pq_code code, const core_answer *answer) {
+    if (code == PQ_OK && answer->kind != KIND_PUSHED) {
+        return answer->kind == KIND_NO_MEMORY ? PQ_NO_MEMORY : PQ_JOURNAL_FULL;
+    }
+    return code == LOCK_HELD ? PQ_TIMED_OUT : code;
+}
+
+static push new_push(pq_member *member, pq_item item, uint64_t until, core_answer *answer) {
+    const push it = { { NULL, NULL, NULL, NULL, NULL, 0, 0, 0, ASLEEP }, member, item, until, answer, 0 };
+    return it;
+}
+
 pq_code flatpq_push_within(pq_member *member, pq_item item, uint64_t until, core_answer *answer) {
-    push it = { { NULL, NULL, NULL, NULL, NULL, 0, 0, 0, ASLEEP }, member, item, until, answer, 0 };
+    push it = new_push(member, item, until, answer);
     pq_code code = try_until(&it);
     if (code == PQ_OK || code == PQ_FULL) {
         flatpq_carried_out(member, answer);
     }
     if (code == PQ_FULL) {
-        code = is_stuck(&it) ? PQ_JOURNAL_FULL : until != PQ_NOW ? wait_for_room(&it) : PQ_FULL;
+        code = why_full(&it) == PQ_JOURNAL_FULL ? PQ_JOURNAL_FULL : until != PQ_NOW ? wait_for_room(&it) : PQ_FULL;
     }
-    if (code == PQ_OK && answer->kind != KIND_PUSHED) {
-        return answer->kind == KIND_NO_MEMORY ? PQ_NO_MEMORY : PQ_JOURNAL_FULL;
-    }
-    return code == LOCK_HELD ? PQ_TIMED_OUT : code;
+    return result(code, answer);
+}
+
+pq_code flatpq_push_at_once(pq_member *member, pq_item item, core_answer *answer) {
+    const push it = new_push(member, item, PQ_NOW, answer);
+    pq_code code = try_and_insist(&it);
+    return result(code == PQ_FULL ? why_full(&it) : code, answer);
 }

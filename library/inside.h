@@ -43,7 +43,7 @@ struct pq_member {
     uint32_t keeps;        /* POSTED, LISTENS: its thread keeps it between calls */
     uint32_t place;
     uint32_t has_left;     /* its last take_or_listen that looked found an item */
-    uint32_t drains;       /* it listens, and is counted in `concerned`: for what is left in a shut queue */
+    uint32_t concern;      /* it listens, and is counted so in `concerned`: for what is left in a shut queue, or for room */
     uint32_t looks;        /* it listens, and its call still looks: that call does not notify it */
     uint32_t sleeps_as;    /* it listens, and is counted so in `sleepers` */
     pq_member *next;       /* of those that are in no use */
@@ -84,9 +84,10 @@ struct pq_queue {
     uint64_t most_items; /* 0: as many as there are */
     uint32_t fills;      /* its journal does, and is then full for good */
     uint32_t concerned;  /* whom it concerns that an item was taken: DRAIN of each that waits for what is left in a shut queue, and PRODUCER of
-                            each that waits for room */
-    uint32_t is_shut;
+                            each that waits, or listens, for room */
+    uint32_t is_shut;    /* SHUTS: a shut goes on; IS_SHUT */
     uint32_t members; /* how many there may be */
+    const pthread_mutex_t *lock; /* of members: that of the copy of the library which opened the queue */
 
     /* Members, under their lock. */
     uint32_t is_closed __attribute__((aligned(64)));
@@ -106,7 +107,7 @@ struct pq_queue {
     pthread_mutex_t waiting __attribute__((aligned(64)));
     waiters takers, timers, listeners; /* threads that take any item, threads that take what is due, and members that listen */
     waiters alarms;                    /* members that listen by a timer (listening.c) */
-    waiters producers;                 /* threads that wait for room */
+    waiters producers, room_listeners; /* threads that wait for room, and members that listen for it */
     uint32_t producer_on_way;          /* one of these was woken, and has not settled that yet */
     uint64_t owed;    /* wakes that are owed, the one that is on its way among them */
     uint32_t on_way;  /* a thread was woken, and has not settled that yet */
@@ -125,6 +126,7 @@ struct pq_queue {
     uint32_t archives;                              /* how often that rose: threads sleep at it */
 };
 
+enum { SHUTS = 1, IS_SHUT = 2 };
 enum { DRAIN = 1, PRODUCER = 1 << 16 };
 enum { OWN_SLEEPS = 1, JOINED_SLEEPS = 1 << 8, IS_JOINED = 1 << 16 };
 enum { NONE_SAID = 0, SAID = 1, HEARD = 2 };
@@ -306,6 +308,7 @@ HIDDEN void flatpq_owe(pq_queue *queue, uint64_t count);
 HIDDEN void flatpq_wake_owed(pq_member *member);
 HIDDEN void flatpq_wake_after(pq_member *member, const core_answer *answer); /* answer is NULL after a round */
 HIDDEN int flatpq_has_room(pq_member *member);
+HIDDEN void flatpq_say_room(pq_queue *queue);
 HIDDEN void flatpq_pass_on(pq_queue *queue, uint64_t priority);
 HIDDEN void flatpq_wake_all(pq_queue *queue, waiter *but);
 HIDDEN void flatpq_wait_for_waker(waiter *waits);
@@ -363,6 +366,8 @@ HIDDEN int flatpq_unlisten(pq_member *member);
 #define KIND_MOVED 7 /* that of a move which found its item (removing.c) */
 #define KIND_GONE 8  /* that of a removal or a move which found none */
 HIDDEN pq_code flatpq_push_within(pq_member *member, pq_item item, uint64_t until, core_answer *answer);
+/* Tries some times, also where there is no bound, and wakes nobody for room. PQ_TIMED_OUT: another thread had the lock. */
+HIDDEN pq_code flatpq_push_at_once(pq_member *member, pq_item item, core_answer *answer);
 
 /*
  * durable.c: threads wait until an entry is archived.

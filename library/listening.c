@@ -2,7 +2,8 @@
  * Members that listen for an event loop or a future. A member that listens is in a list, as a thread is that waits (waiting.c). In place of a
  * sleep it returns, and is notified once.
  *
- * At a queue that is shut a member listens for what will be due there, and is counted in `concerned`.
+ * At a queue that is shut a member listens for what will be due there, and is counted in `concerned`. So is one that listens for room
+ * (bounded.c).
  *
  * An alarm is a member that listens by a timer of the program. It is in a list of its own, and takes no wake from others. While it listens its
  * timer is set for the time at which the first item is due, or for an earlier one. To ring it is to set the timer for a time that is over.
@@ -23,6 +24,17 @@ static int is_alarm(const pq_member *member) {
     return member->waits.list == &member->queue->alarms;
 }
 
+static int is_for_room(const pq_member *member) {
+    return member->waits.list == &member->queue->room_listeners;
+}
+
+static void count_concerned(pq_member *member, uint32_t concern) {
+    member->concern = concern;
+    if (concern != 0) {
+        __atomic_fetch_add(&member->queue->concerned, concern, SEQ);
+    }
+}
+
 /* Ends the listening: whether the member was notified, and has not looked since. */
 static int end_listening(pq_member *member) {
     int was_notified = 0;
@@ -30,8 +42,8 @@ static int end_listening(pq_member *member) {
         was_notified = flatpq_end_wait(member);
         member->keeps &= ~(uint32_t)LISTENS;
         flatpq_count_awake(member->queue, member->sleeps_as);
-        if (member->drains) {
-            __atomic_fetch_sub(&member->queue->concerned, DRAIN, SEQ);
+        if (member->concern != 0) {
+            __atomic_fetch_sub(&member->queue->concerned, member->concern, SEQ);
         }
         if (is_alarm(member)) {
             __atomic_fetch_sub(&member->queue->alarm_count, 1, SEQ);
@@ -47,11 +59,7 @@ static pq_code look(wait *it, uint64_t priority) {
     pq_member *member = it->member;
     pq_code code;
     flatpq_begin_wait(it);
-    member->keeps |= LISTENS;
-    member->drains = (uint32_t)it->is_shut;
-    if (member->drains) {
-        __atomic_fetch_add(&member->queue->concerned, DRAIN, SEQ);
-    }
+    count_concerned(member, it->is_shut ? DRAIN : 0);
     code = flatpq_step_take_at_once(member, priority, it->answer);
     if (code == PQ_NOT_DUE) {
         flatpq_call(member->queue, &member->queue->staying);
@@ -59,21 +67,30 @@ static pq_code look(wait *it, uint64_t priority) {
     return code == PQ_EMPTY && it->is_shut ? PQ_TIMED_OUT : code;
 }
 
-/* Has the member listen in this list, and look: it listens no more where that found an item to take, or was refused. The last member that is
-   awake does not listen. */
+/* Has the member listen in this list, where it is to be put yet. 0: it is the last that is awake, and does not listen. */
+static int begin_listening(const wait *it, waiters *list, void (*notify)(void *context), void *context) {
+    pq_member *member = it->member;
+    member->sleeps_as = flatpq_may_sleep(member->queue, it->mine != NULL ? OWN_SLEEPS : JOINED_SLEEPS, 1);
+    if (member->sleeps_as == 0) {
+        return 0;
+    }
+    member->waits.list = list;
+    member->waits.notify = notify;
+    member->waits.context = context;
+    member->keeps |= LISTENS;
+    return 1;
+}
+
+/* Has the member listen in this list, and look: it listens no more where that found an item to take, or was refused. */
 static pq_code listen(wait *it, waiters *list, uint64_t priority, void (*notify)(void *context), void *context) {
     pq_member *member = it->member;
     pq_code code;
-    member->sleeps_as = flatpq_may_sleep(member->queue, it->mine != NULL ? OWN_SLEEPS : JOINED_SLEEPS, 1);
-    if (member->sleeps_as == 0) {
+    if (!begin_listening(it, list, notify, context)) {
         return PQ_ALL_JOINED;
     }
     __atomic_fetch_add(&member->queue->alarm_count, list == &member->queue->alarms, SEQ);
-    member->waits.list = list;
     member->waits.priority = priority;
     member->waits.armed = PQ_FOREVER;
-    member->waits.notify = notify;
-    member->waits.context = context;
     member->looks = 1;
     code = look(it, priority);
     member->looks = 0;
@@ -83,9 +100,18 @@ static pq_code listen(wait *it, waiters *list, uint64_t priority, void (*notify)
     return code;
 }
 
+/* Ends the listening: whether the member was notified in this list, and has not looked since. If in another, others are notified. */
+static int end_listening_in(pq_member *member, const waiters *list) {
+    if (member->keeps & LISTENS && member->waits.list != list) {
+        flatpq_unlisten(member);
+        return 0;
+    }
+    return end_listening(member);
+}
+
 static pq_code take_or_listen(wait *it, uint64_t priority, void (*notify)(void *context), void *context) {
     pq_member *member = it->member;
-    int passes_on = end_listening(member), leaves_one = 0;
+    int passes_on = end_listening_in(member, &member->queue->listeners), leaves_one = 0;
     pq_code code = flatpq_take_first_at_once(member, priority, it->answer);
     it->was_woken = passes_on;
     if (code == PQ_EMPTY || code == PQ_NOT_DUE) {
@@ -107,6 +133,13 @@ static pq_code take_or_listen(wait *it, uint64_t priority, void (*notify)(void *
     return code;
 }
 
+/* Another thread had the lock for long: the call is to be made again. */
+static void notify_itself(const wait *it, void (*notify)(void *context), void *context) {
+    if (!it->is_notified) {
+        notify(context);
+    }
+}
+
 pq_code pq_take_or_listen(pq_member *member, uint64_t priority, pq_item *item, uint64_t *number, void (*notify)(void *context), void *context) {
     core_answer answer;
     wait it = { member, PQ_NOW, &answer, 0, 0, 0, 0, 0, 0, 0, 0, NULL, 0, 0 };
@@ -117,13 +150,71 @@ pq_code pq_take_or_listen(pq_member *member, uint64_t priority, pq_item *item, u
     code = take_or_listen(&it, priority, notify, context);
     flatpq_end_keeping(it.mine, it.member);
     if (code == PQ_TIMED_OUT) {
-        /* Another thread had the lock for long: this call is to be made again. */
-        if (!it.is_notified) {
-            notify(context);
-        }
+        notify_itself(&it, notify, context);
         return PQ_EMPTY;
     }
     flatpq_return_first(code, &answer, item, number);
+    return code;
+}
+
+/*
+ * Listening for room.
+ */
+
+/* Puts the member into its list, and then tries to push. */
+static pq_code listen_for_room(wait *it, pq_item pushed, void (*notify)(void *context), void *context) {
+    pq_member *member = it->member;
+    pq_queue *queue = member->queue;
+    pq_code code;
+    if (!begin_listening(it, &queue->room_listeners, notify, context)) {
+        return PQ_ALL_JOINED;
+    }
+    count_concerned(member, PRODUCER);
+    flatpq_lock_lists(queue);
+    __atomic_store_n(&member->waits.word, ASLEEP, SEQ);
+    flatpq_put(&member->waits);
+    flatpq_unlock_lists(queue);
+    code = flatpq_push_at_once(member, pushed, it->answer);
+    if (code != PQ_FULL) {
+        it->is_notified = it->was_woken = end_listening(member);
+    }
+    return code;
+}
+
+static pq_code push_or_listen(wait *it, pq_item pushed, void (*notify)(void *context), void *context) {
+    pq_member *member = it->member;
+    int passes_on = end_listening_in(member, &member->queue->room_listeners);
+    pq_code code = flatpq_push_at_once(member, pushed, it->answer);
+    if (code == PQ_FULL) {
+        passes_on = 0;
+        code = listen_for_room(it, pushed, notify, context);
+    }
+    if (code == PQ_OK) {
+        flatpq_carried_out(member, it->answer);
+    }
+    /* A wake that came within a call which ends the listening is another's; and a full journal is to be seen by each that listens. */
+    if (it->was_woken || (code != PQ_OK && code != PQ_FULL && (passes_on || code == PQ_JOURNAL_FULL))) {
+        flatpq_say_room(member->queue);
+    }
+    return code;
+}
+
+pq_code pq_push_or_listen(pq_member *member, pq_item item, uint64_t *number, void (*notify)(void *context), void *context) {
+    core_answer answer;
+    wait it = { member, PQ_NOW, &answer, 0, 0, 0, 0, 0, 0, 0, 0, NULL, 0, 0 };
+    pq_code code = flatpq_begin(&it.member, PQ_NOW, &it.mine);
+    if (code != PQ_OK) {
+        return code;
+    }
+    code = push_or_listen(&it, item, notify, context);
+    flatpq_end_keeping(it.mine, it.member);
+    if (code == PQ_TIMED_OUT) {
+        notify_itself(&it, notify, context);
+        return PQ_FULL;
+    }
+    if (code == PQ_OK && number != NULL) {
+        *number = answer.number;
+    }
     return code;
 }
 
@@ -202,8 +293,11 @@ pq_code pq_take_due_or_listen(pq_member *member, int timer, pq_item *item, uint6
 int flatpq_unlisten(pq_member *member) {
     int listened = (member->keeps & LISTENS) != 0;
     int was_notified = end_listening(member);
+    if (was_notified && is_for_room(member)) {
+        flatpq_say_room(member->queue);
+    }
     /* Another member may rely on this one for what is left, but not on an alarm. */
-    if ((was_notified && !is_alarm(member)) || member->has_left) {
+    if ((was_notified && !is_alarm(member) && !is_for_room(member)) || member->has_left) {
         member->has_left = 0;
         flatpq_owe(member->queue, 1);
     }

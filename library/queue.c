@@ -65,6 +65,7 @@ pq_code pq_open(const pq_options *options, pq_queue **queue) {
     made->most_items = asked->most_items;
     made->fills = asked->keeping == PQ_FILLS;
     made->members = members;
+    made->lock = &flatpq_members;
     made->earliest = PQ_FOREVER;
     made->own.queue = made;
     made->own.is_shared = 1;
@@ -258,6 +259,9 @@ static void take_on(pq_member *member) {
 pq_code flatpq_get_member(pq_queue *queue, uint64_t until, own *record, pq_member **member) {
     wanting it = { NULL, NULL, record, NULL, PQ_ALL_JOINED, 0 };
     int is_served = 0;
+    if (queue->lock != &flatpq_members) {
+        return PQ_NO_MEMBER;
+    }
     pthread_mutex_lock(&flatpq_members);
     if (queue->is_closed) {
         it.code = PQ_CLOSED;
@@ -311,22 +315,46 @@ void pq_give_back(pq_member *member) {
     flatpq_unlock(queue);
 }
 
+/* Under the lock. */
+static pq_code shut_proved(pq_queue *queue) {
+    pq_code code;
+    if (queue->is_closed) {
+        return PQ_CLOSED;
+    }
+    if (queue->is_shut == IS_SHUT) {
+        return PQ_OK;
+    }
+    __atomic_store_n(&queue->is_shut, SHUTS, SEQ);
+    code = pq_core_shut(&queue->proved);
+    __atomic_store_n(&queue->is_shut, IS_SHUT, SEQ);
+    return code;
+}
+
 pq_code pq_shut(pq_queue *queue) {
     pq_code code;
     if (flatpq_special & FORKED) {
         return PQ_FORKED;
     }
     pthread_mutex_lock(&flatpq_members);
-    code = queue->is_closed ? PQ_CLOSED : pq_core_shut(&queue->proved);
+    code = shut_proved(queue);
     /* A thread that finds the end may free the queue. Its memory stays until this call is done with it. */
     __atomic_fetch_add(&queue->staying, code == PQ_OK, SEQ);
     pthread_mutex_unlock(&flatpq_members);
     if (code == PQ_OK) {
-        __atomic_store_n(&queue->is_shut, 1, SEQ);
         flatpq_wake_all(queue, NULL);
         flatpq_count_staying(queue, UINT32_MAX);
     }
     return code;
+}
+
+/* While a shut goes on some pushes are refused by now, and others may not be. So it ends first. */
+int pq_is_shut(pq_queue *queue) {
+    uint32_t seen = flatpq_special & FORKED ? 0 : __atomic_load_n(&queue->is_shut, SEQ);
+    if (seen == SHUTS) {
+        pthread_mutex_lock(&flatpq_members);
+        pthread_mutex_unlock(&flatpq_members);
+    }
+    return seen != 0;
 }
 
 /* Under the lock. */

@@ -70,7 +70,7 @@ void flatpq_begin_wait(wait *it) {
     flatpq_put(waits);
     flatpq_unlock_lists(queue);
     it->is_listed = 1;
-    it->is_shut = (int)__atomic_load_n(&queue->is_shut, SEQ);
+    it->is_shut = __atomic_load_n(&queue->is_shut, SEQ) == IS_SHUT;
 }
 
 /* Waits until the thread that wakes this member is done with that: notify has returned then. */
@@ -82,11 +82,15 @@ void flatpq_wait_for_waker(waiter *waits) {
     }
 }
 
+static void end_announcing(pq_member *member) {
+    pq_code ended = pq_core_end_take(&member->proved);
+    (void)ended;
+}
+
 int flatpq_end_wait(pq_member *member) {
     pq_queue *queue = member->queue;
     waiter *waits = &member->waits;
     int was_woken;
-    pq_code ended;
     flatpq_lock_lists(queue);
     if (waits->at != NULL) {
         flatpq_take_out(waits);
@@ -94,8 +98,7 @@ int flatpq_end_wait(pq_member *member) {
     was_woken = (int)waits->is_woken;
     flatpq_unlock_lists(queue);
     flatpq_wait_for_waker(waits);
-    ended = pq_core_end_take(&member->proved);
-    (void)ended;
+    end_announcing(member);
     return was_woken;
 }
 
@@ -109,11 +112,15 @@ static void leave(wait *it) {
     settle(it, PQ_TIMED_OUT);
 }
 
+static uint64_t bound_of(const wait *it) {
+    return it->is_due ? flatpq_due_now(it->member->queue) : UINT64_MAX;
+}
+
 /* Looks, takes the first item out up to this priority, and settles: by a step where the member is in its list. Where the lock is held until the
    deadline it tries some times more. An item that became due meanwhile is not left: the wait goes on. */
 static pq_code look(wait *it) {
     pq_member *member = it->member;
-    uint64_t priority = it->is_due ? flatpq_due_now(member->queue) : UINT64_MAX;
+    uint64_t priority = bound_of(it);
     pq_code code = it->is_listed ? flatpq_step_take(member, priority, it->until, it->answer) : flatpq_take_first(member, priority, it->until, it->answer);
     if (code == PQ_TIMED_OUT) {
         code = it->is_listed ? flatpq_step_take_at_once(member, priority, it->answer) : flatpq_take_first_at_once(member, priority, it->answer);
@@ -292,6 +299,18 @@ static pq_code take_due(wait *it) {
     return code;
 }
 
+/* Nothing was there until then. At a queue that is shut a step says whether that is the end. Where the lock is held nothing is known. */
+static pq_code see_end(wait *it, pq_code code) {
+    pq_member *member = it->member;
+    uint64_t priority = bound_of(it);
+    if (code != PQ_EMPTY || LIKELY(__atomic_load_n(&member->queue->is_shut, SEQ) == 0)) {
+        return code;
+    }
+    code = flatpq_step_take_at_once(member, priority, it->answer);
+    end_announcing(member);
+    return code == PQ_TIMED_OUT ? PQ_EMPTY : code;
+}
+
 /* The thread sleeps no more. The queue may be gone after this. */
 static COLD void end_staying(const wait *it, pq_queue *queue) {
     flatpq_count_awake(queue, it->sleeps_as);
@@ -312,7 +331,7 @@ INLINE pq_code wait_by(int is_due, pq_member *member, pq_item *item, uint64_t un
     if (it.member->keeps & LISTENS) {
         flatpq_unlisten(it.member);
     }
-    code = is_due ? take_due(&it) : take(&it);
+    code = see_end(&it, is_due ? take_due(&it) : take(&it));
     if (it.sleeps_as != 0 || it.stays) {
         end_staying(&it, it.member->queue);
     } else {

@@ -59,18 +59,20 @@ void flatpq_add_incoming(pq_queue *queue) {
     queue->owed += __atomic_exchange_n(&queue->incoming, 0, SEQ);
 }
 
-/* Takes out the producer that is to be woken now, if any. */
+/* Takes out the producer that is to be woken now, if any: a thread, and where none sleeps a member that listens. */
 static waiter *producer_before(pq_queue *queue, waiter *others) {
+    waiter *thread = queue->producers.first, *listener = queue->room_listeners.first;
     if (__atomic_load_n(&queue->room, SEQ) == NONE_SAID) {
         return others;
     }
-    if (queue->producer_on_way || queue->producers.first == NULL) {
-        __atomic_store_n(&queue->room, queue->producer_on_way ? HEARD : NONE_SAID, SEQ);
-        return others;
+    if (!queue->producer_on_way && thread != NULL) {
+        queue->producer_on_way = 1;
+        others = found_before(thread, others);
+    } else if (!queue->producer_on_way && listener != NULL) {
+        others = found_before(listener, others);
     }
-    __atomic_store_n(&queue->room, HEARD, SEQ);
-    queue->producer_on_way = 1;
-    return found_before(queue->producers.first, others);
+    __atomic_store_n(&queue->room, queue->producer_on_way ? HEARD : NONE_SAID, SEQ);
+    return others;
 }
 
 /* Takes out the alarms whose timers are set for later than an item may be due. */
@@ -163,7 +165,7 @@ void flatpq_owe(pq_queue *queue, uint64_t count) {
 }
 
 /* There may be room. It never waits. Where somebody has said that already, and no producer has tried since, nothing is to be done. */
-static void say_room(pq_queue *queue) {
+void flatpq_say_room(pq_queue *queue) {
     if (__atomic_load_n(&queue->room, SEQ) == NONE_SAID) {
         __atomic_store_n(&queue->room, SAID, SEQ);
         if (pthread_mutex_trylock(&queue->waiting) == 0) {
@@ -216,7 +218,7 @@ COLD void flatpq_wake_owed(pq_member *member) {
     if (count > 0 && __atomic_load_n(&member->queue->alarm_count, SEQ) > 0) {
         count += say_first(member);
         if (__atomic_load_n(&member->queue->concerned, SEQ) >= PRODUCER) {
-            say_room(member->queue); /* these looks may have carried out a pop */
+            flatpq_say_room(member->queue); /* these looks may have carried out a pop */
         }
     }
     flatpq_owe(member->queue, count);
@@ -242,7 +244,7 @@ void flatpq_wake_all(pq_queue *queue, waiter *but) {
         flatpq_take_out(but);
     }
     found = all_of(&queue->listeners, all_of(&queue->alarms, all_of(&queue->producers, NULL)));
-    found = all_of(&queue->takers, all_of(&queue->timers, found));
+    found = all_of(&queue->takers, all_of(&queue->timers, all_of(&queue->room_listeners, found)));
     if (stays) {
         flatpq_put(but);
     }
@@ -304,7 +306,7 @@ static int may_have_room(pq_member *member, const core_answer *answer) {
 COLD void flatpq_wake_after(pq_member *member, const core_answer *answer) {
     flatpq_wake_owed(member);
     if (__atomic_load_n(&member->queue->concerned, SEQ) >= PRODUCER && may_have_room(member, answer)) {
-        say_room(member->queue);
+        flatpq_say_room(member->queue);
     }
     wake_drained(member, answer);
 }

@@ -83,6 +83,7 @@ struct [[nodiscard]] pushed_many {
 
 template <class Items> class basic_listener;
 template <class Items> class basic_due_listener;
+template <class Items> class basic_room_listener;
 
 namespace detail {
 
@@ -116,17 +117,7 @@ public:
     /// payload is where it was. One that was made from an argument of another type is dropped, as a std::unique_ptr<base> from one to a derived
     /// class: convert that before. At a queue with a bound the call waits for room: code::full, where there was none until then.
     result<std::uint64_t> push(const key &priority, payload &&value, deadline until = {}) noexcept {
-        pq_item in = {key_order<key>::number(priority), 0};
-        if (!Items::put(value, in.value)) {
-            return code::no_memory;
-        }
-        std::uint64_t number = 0;
-        const auto why = static_cast<code>(pq_push(member_, in, until.at(), &number));
-        if (why != code::ok) {
-            Items::put_back(value, in.value);
-            return why;
-        }
-        return number;
+        return pushed(priority, value, [=](auto *by, pq_item in, auto *number) { return pq_push(by, in, until.at(), number); });
     }
     result<std::uint64_t> push(const key &priority, const payload &value, deadline until = {}) {
         return push(priority, payload(value), until);
@@ -281,6 +272,14 @@ public:
         static_assert(are_times<key>, "keys are times of std::chrono::steady_clock");
         return got([=](auto *by, auto *out, auto, auto *number) { return pq_take_due_or_listen(by, timer, out, number); }, {});
     }
+    /// Puts a key and a value, or a payload, in, as push() does, if there is room; else the member listens for it: code::full. notify() is as of
+    /// take_or_listen.
+    template <class Notify> result<std::uint64_t> push_or_listen(const key &priority, payload &&value, Notify &notify) noexcept {
+        return pushed_or_listens(priority, value, call_of<Notify>, context_of(notify));
+    }
+    template <class Notify> result<std::uint64_t> push_or_listen(const key &priority, const payload &value, Notify &notify) {
+        return push_or_listen(priority, payload(value), notify);
+    }
     /// Ends the listening: whether the member listened, and was not notified.
     bool unlisten() noexcept { return member_ != nullptr && pq_unlisten(member_) != 0; }
 
@@ -302,6 +301,7 @@ public:
     template <class Number, if_signed_for<key, Number> = 0> void pop_due_many(Number, std::size_t, deadline = {}) = delete; // write 5u for 5
     template <class Number, if_signed_for<key, Number> = 0> void drain(Number) = delete; // write 5u for 5
     template <class Number, class Notify, if_signed_for<key, Number> = 0> void take_or_listen(Number, Notify &) = delete; // write 5u for 5
+    template <class Number, class Notify, if_signed_for<key, Number> = 0> void push_or_listen(Number, payload, Notify &) = delete; // write 5u for 5
 
 protected:
     explicit calls(pq_member *member) noexcept : member_(member) {}
@@ -312,6 +312,7 @@ protected:
 
 private:
     friend class basic_listener<Items>;
+    friend class basic_room_listener<Items>;
 
     struct next_due {
         calls *from;
@@ -321,6 +322,24 @@ private:
 
     static std::optional<first> stays(code why, pq_item raw) noexcept {
         return why == code::not_due ? std::optional<first>(Items::shown(raw)) : std::nullopt;
+    }
+
+    template <class Call> result<std::uint64_t> pushed(const key &priority, payload &value, Call call) noexcept {
+        pq_item in = {key_order<key>::number(priority), 0};
+        if (!Items::put(value, in.value)) {
+            return code::no_memory;
+        }
+        std::uint64_t number = 0;
+        const auto why = static_cast<code>(call(member_, in, &number));
+        if (why != code::ok) {
+            Items::put_back(value, in.value);
+            return why;
+        }
+        return number;
+    }
+
+    result<std::uint64_t> pushed_or_listens(const key &priority, payload &value, void (*notify)(void *), void *context) noexcept {
+        return pushed(priority, value, [=](auto *by, pq_item in, auto *number) { return pq_push_or_listen(by, in, number, notify, context); });
     }
 
     template <class Call> found got(Call call, deadline until) noexcept {
@@ -347,9 +366,13 @@ private:
         return got([=](auto *by, auto *out, auto, auto *number) { return pq_take_or_listen(by, bound, out, number, notify, context); }, {});
     }
 
+    template <class Notify> static void call_of(void *notify) noexcept { (*reinterpret_cast<Notify *>(notify))(); }
+    template <class Notify> static void *context_of(Notify &notify) noexcept {
+        return reinterpret_cast<void *>(reinterpret_cast<std::uintptr_t>(std::addressof(notify)));
+    }
+
     template <class Notify> found listened(std::uint64_t bound, Notify &notify) noexcept {
-        const auto call = [](void *context) { (*reinterpret_cast<Notify *>(context))(); };
-        return listened_by(bound, call, reinterpret_cast<void *>(reinterpret_cast<std::uintptr_t>(std::addressof(notify))));
+        return listened_by(bound, call_of<Notify>, context_of(notify));
     }
 
     code posted(request asked, pq_item in) noexcept {
@@ -384,7 +407,7 @@ public:
     using key = typename Items::key;
     using found = typename calls<Items>::found;
 
-    /// The descriptor: readable from the first, and whenever an item may be there, or be due, or the queue is shut.
+    /// The descriptor: readable from the first, and whenever an item may be there, or be due, or there may be room, or the queue is shut.
     [[nodiscard]] int fd() const noexcept { return fd_; }
 
 protected:
@@ -457,6 +480,30 @@ private:
     using detail::with_descriptor<Items>::with_descriptor;
 };
 
+/// A member with a descriptor, for event loops that push to a queue with a bound.
+template <class Items> class basic_room_listener : public detail::with_descriptor<Items> {
+public:
+    using key = typename Items::key;
+    using payload = typename Items::payload;
+
+    /// Puts a key and a value, or a payload, in, if there is room; else code::full, and the payload is where it was: call it again when the
+    /// descriptor is readable. That is after a pop, a removal or a shut. It never waits.
+    result<std::uint64_t> push_or_listen(const key &priority, payload &&value) noexcept {
+        eventfd_t count = 0;
+        ::syscall(SYS_read, this->fd_, &count, sizeof count);
+        return this->member_.pushed_or_listens(priority, value, pq_notify_fd, reinterpret_cast<void *>(static_cast<std::intptr_t>(this->fd_)));
+    }
+    result<std::uint64_t> push_or_listen(const key &priority, const payload &value) { return push_or_listen(priority, payload(value)); }
+    template <class Number, detail::if_signed_for<key, Number> = 0> void push_or_listen(Number, payload) = delete; // write 5u for 5
+
+    /// Ends the listening, so that others that listen for room get what this one was notified of. Its end does so too.
+    void unlisten() noexcept { this->member_.unlisten(); }
+
+private:
+    template <class> friend class basic_queue;
+    using detail::with_descriptor<Items>::with_descriptor;
+};
+
 /// A priority queue that threads share.
 template <class Items> class basic_queue : public detail::calls<Items> {
 public:
@@ -464,6 +511,7 @@ public:
     using member = basic_member<Items>;
     using listener = basic_listener<Items>;
     using due_listener = basic_due_listener<Items>;
+    using room_listener = basic_room_listener<Items>;
     using journal = basic_journal<Items>;
 
     /// Open a queue. Where open() returns code::bad_option, no_memory, forked or processor, the constructors throw it.
@@ -500,8 +548,8 @@ public:
         return why == code::ok ? result<member>(member(joined)) : why;
     }
 
-    /// Join so, for an event loop that waits for any item, or for what is due. code::no_memory also where the system gives no descriptor: errno
-    /// says why, as EMFILE.
+    /// Join so, for an event loop that waits for any item, for what is due, or for room. code::no_memory also where the system gives no descriptor:
+    /// errno says why, as EMFILE.
     result<listener> listen(deadline until = {}) noexcept {
         return joined_as<listener>(until, [] { return eventfd(1, EFD_CLOEXEC | EFD_NONBLOCK); });
     }
@@ -513,6 +561,10 @@ public:
         });
     }
 
+    result<room_listener> listen_room(deadline until = {}) noexcept {
+        return joined_as<room_listener>(until, [] { return eventfd(1, EFD_CLOEXEC | EFD_NONBLOCK); });
+    }
+
     /// Gives the calling thread's own member back now, if it has one.
     void leave() noexcept {
         if (queue_ != nullptr) {
@@ -522,6 +574,8 @@ public:
 
     /// Shuts the queue down for good: each push is refused. Threads that wait for an item take what is left, and then return code::shut.
     code shut() noexcept { return queue_ != nullptr ? static_cast<code>(pq_shut(queue_)) : code::no_member; }
+    /// Whether that was done: each push that begins from now on is refused.
+    [[nodiscard]] bool is_shut() const noexcept { return queue_ != nullptr && pq_is_shut(queue_) != 0; }
 
     /// Waits until an archive has counted the entry of this number as archived. code::ok, code::timed_out, code::closed.
     [[nodiscard]] code wait_archived(std::uint64_t number, deadline until = {}) const noexcept {
@@ -559,6 +613,7 @@ template <class Key = std::uint64_t> using queue = basic_queue<detail::values<Ke
 template <class Key = std::uint64_t> using member = basic_member<detail::values<Key>>;
 template <class Key = std::uint64_t> using listener = basic_listener<detail::values<Key>>;
 template <class Key = std::uint64_t> using due_listener = basic_due_listener<detail::values<Key>>;
+template <class Key = std::uint64_t> using room_listener = basic_room_listener<detail::values<Key>>;
 template <class Key = std::uint64_t> using journal = basic_journal<detail::values<Key>>;
 
 } // namespace flatpq

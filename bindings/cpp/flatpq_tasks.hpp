@@ -128,6 +128,7 @@ template <class T, class Key = std::uint64_t> using task_queue = basic_queue<det
 template <class T, class Key = std::uint64_t> using task_member = basic_member<detail::payloads<T, Key>>;
 template <class T, class Key = std::uint64_t> using task_listener = basic_listener<detail::payloads<T, Key>>;
 template <class T, class Key = std::uint64_t> using task_due_listener = basic_due_listener<detail::payloads<T, Key>>;
+template <class T, class Key = std::uint64_t> using task_room_listener = basic_room_listener<detail::payloads<T, Key>>;
 template <class T, class Key = std::uint64_t> using task_journal = basic_journal<detail::payloads<T, Key>>;
 
 } // namespace flatpq

@@ -1,5 +1,4 @@
-// A thread pool. Forty threads share a queue of eight members, and run the jobs that come until the queue is shut and empty. A thread
-// keeps its member while it waits for a job. So the thread that pushes joins first.
+// A thread pool. Forty threads share a queue of eight members, and run the jobs that come until the queue is shut and empty.
 #include "flatpq_tasks.hpp"
 
 #include <atomic>
@@ -10,7 +9,6 @@
 
 int main() {
     flatpq::task_queue<std::function<void()>> jobs({8});
-    auto here = jobs.join().value();
     std::atomic<unsigned> sum{0};
     std::vector<std::thread> workers;
     for (int i = 0; i < 40; i++) {
@@ -21,7 +19,7 @@ int main() {
         });
     }
     for (unsigned number = 1; number <= 1000; number++) {
-        here.push(number % 3, [&sum, number] { sum += number; }).value();
+        jobs.push(number % 3, [&sum, number] { sum += number; }).value();
     }
     jobs.shut();
     for (auto &worker : workers) {

@@ -30,6 +30,7 @@ void check_begin(pq_options options, int is_observed) {
 
 void check_call_begins(enum call call, uint64_t limit, uint64_t number) {
     me->calls++;
+    me->is_after_end = heard_end;
     me->call = call;
     me->limit = limit;
     me->number = number;
@@ -42,6 +43,9 @@ void check_call_ends(uint32_t request, pq_code code, pq_item item, uint64_t numb
     const int gives_up = code == PQ_TIMED_OUT || (takes && (code == PQ_EMPTY || code == PQ_NOT_DUE)) || (me->call == PUSHES && code == PQ_FULL);
     if (gives_up && me->limit != PQ_NOW && now < me->limit) {
         fail("a call gives up (%s) at %llu, and its deadline is %llu", pq_code_text(code), (unsigned long long)now, (unsigned long long)me->limit);
+    }
+    if (me->is_after_end && code == PQ_OK && (request == PQ_POP || request == PQ_PUSH)) {
+        fail("a take returned the end, and a call that began after that pushes or takes an item");
     }
     heard_end |= code == PQ_SHUT && request == PQ_POP;
     me->call = NO_CALL;
@@ -213,7 +217,8 @@ void check_end(void) {
         return;
     }
     if (queue->concerned != 0 || queue->alarm_count != 0 || queue->staying != 0 || queue->first != NULL || queue->takers.first != NULL
-        || queue->timers.first != NULL || queue->listeners.first != NULL || queue->alarms.first != NULL || queue->producers.first != NULL) {
+        || queue->timers.first != NULL || queue->listeners.first != NULL || queue->alarms.first != NULL || queue->producers.first != NULL
+        || queue->room_listeners.first != NULL) {
         fail("threads have ended, and something of them is left in the queue: concerned %u, alarms %u, staying %u", queue->concerned,
              queue->alarm_count, queue->staying);
     }

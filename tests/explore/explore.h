@@ -26,6 +26,7 @@ typedef struct fiber {
     uint64_t calls;  /* that it has begun */
     const void *at;  /* the mutex or the word for which it waits */
     int priority;    /* of a random schedule */
+    int is_after_end; /* a take had returned the end before its call began */
     int found_held;  /* it spins */
     int late_naps;   /* since the deadline of its call */
     int late_count;
@@ -99,6 +100,7 @@ extern uint32_t posted[MOST_FIBERS]; /* what it posted; UINT32_MAX: that was ref
 void requests_begin(void);
 void listeners_begin(void);
 void members_begin(void);
+pq_item new_item(uint64_t priority);
 void put(uint64_t priority);
 void use_members(int joined);
 void give_back(int which);

@@ -129,6 +129,36 @@ static void listen_refused(int which, const uint64_t *numbers) {
     may_notify[which] = 0;
 }
 
+/* Pushes, or begins to listen for room. */
+static pq_code begin_listening_for_room(int which, uint64_t priority) {
+    const pq_item item = new_item(priority);
+    uint64_t entry = 0;
+    pq_code code;
+    may_notify[which]++;
+    notified[which] = notified_itself[which] = 0;
+    check_call_begins(CALLS, PQ_NOW, 0);
+    code = pq_push_or_listen(used[which], item, &entry, notify, &notified[which]);
+    check_call_ends(PQ_PUSH, code, item, entry);
+    may_notify[which] = code == PQ_FULL;
+    was_notified[which] = notified[which];
+    return code;
+}
+
+static void push_once(int which, const uint64_t *numbers) {
+    (void)begin_listening_for_room(which, numbers[0]);
+}
+
+/* Pushes, or listens until it is notified, up to this time. */
+static void push_until(int which, const uint64_t *numbers) {
+    pq_code code;
+    do {
+        code = begin_listening_for_room(which, numbers[0]);
+        if (code == PQ_FULL) {
+            await_notify(which, PUSHES, 0, numbers[1]);
+        }
+    } while (code == PQ_FULL && notified[which]);
+}
+
 static pq_code begin_alarm(int which) {
     pq_item item = { 0, 0 };
     uint64_t entry = 0;
@@ -168,6 +198,8 @@ const word listener_words[] = {
     { "listen-once", listen_once },
     { "listen-held", listen_held },
     { "listen-refused", listen_refused },
+    { "listen-room", push_until },
+    { "listen-room-once", push_once },
     { "unlisten", unlisten },
     { "alarm", alarm_until },
     { "alarm-once", alarm_once },

@@ -69,6 +69,16 @@ static void shut(int which, const uint64_t *numbers) {
     (void)pq_shut(queue);
 }
 
+/* A push that begins in a queue that is shut is refused; after one that was refused for that the queue is shut. */
+static void push_unless_shut(int which, const uint64_t *numbers) {
+    const pq_item item = { numbers[0], 0 };
+    const int was_shut = pq_is_shut(queue);
+    const pq_code code = pq_push(used[which], item, PQ_FOREVER, NULL);
+    if ((was_shut && code != PQ_SHUT) || (code == PQ_SHUT && !pq_is_shut(queue))) {
+        fail("a queue is shut or not, and a push returns %s", pq_code_text(code));
+    }
+}
+
 static pq_code close_once(void) {
     pq_journal *journal;
     pq_code code = pq_close(queue, &journal);
@@ -157,6 +167,7 @@ const word member_words[] = {
     { "archive", archive },
     { "await-archived", await_archived },
     { "shut", shut },
+    { "push-unless-shut", push_unless_shut },
     { "close", close_queue },
     { "close-at-last", close_at_last },
     { "close-alone", close_alone },

@@ -18,7 +18,7 @@ uint64_t next_value(void) {
     return ++value;
 }
 
-static pq_item new_item(uint64_t priority) {
+pq_item new_item(uint64_t priority) {
     const pq_item made = { priority, next_value() };
     return made;
 }
@@ -88,6 +88,25 @@ static void take(int which, const uint64_t *numbers) {
 static void take_all(int which, const uint64_t *numbers) {
     while (take_by(pq_take, TAKES, which, numbers[0]) == PQ_OK) {
     }
+}
+
+/* Polls until the end. */
+static void poll_by(taking *takes, enum call call, int which) {
+    const uint64_t pause = 100000;
+    pq_code code;
+    while ((code = take_by(takes, call, which, PQ_NOW)) != PQ_SHUT) {
+        if (code != PQ_OK) {
+            block(NAPS, NULL, now + pause);
+        }
+    }
+}
+
+static void poll_all(int which, const uint64_t *numbers) {
+    poll_by(pq_take, TAKES, which);
+}
+
+static void poll_due_all(int which, const uint64_t *numbers) {
+    poll_by(pq_take_due, TAKES_DUE, which);
 }
 
 static void take_due(int which, const uint64_t *numbers) {
@@ -185,6 +204,7 @@ static void answer(int which, const uint64_t *numbers) {
     }
     loses -= posted[which] == PQ_POP;
     check_call_begins(CALLS, PQ_FOREVER, 0);
+    me->is_after_end = 0; /* it was posted before */
     check_call_ends(posted[which], code, item, posted[which] == PQ_POP ? number : 0);
 }
 
@@ -198,6 +218,8 @@ const word request_words[] = {
     { "pop", pop },
     { "take", take },
     { "take-all", take_all },
+    { "poll-all", poll_all },
+    { "poll-due-all", poll_due_all },
     { "take-due", take_due },
     { "take-due-all", take_due_all },
     { "peek", peek },

@@ -10,9 +10,7 @@ use crate::tasks::Shared;
 use std::cell::Cell;
 use std::fmt;
 use std::marker::PhantomData;
-use std::os::raw::c_void;
 use std::ptr;
-use std::sync::atomic::Ordering;
 
 /// Integers of at most 64 bits, as payloads: a queue of them is a [`Queue`](crate::Queue).
 pub trait Number: Copy + Send + sealed::Sealed {}
@@ -129,13 +127,24 @@ impl<K: Key, T: Send> Call<'_, K, T> {
     }
 
     fn pushed(&self, priority: u64, payload: T, until: u64) -> Result<u64, NotPushed<T>> {
+        // SAFETY: the member is there, and in this call alone; the number is borrowed for it.
+        self.pushed_by(priority, payload, |item, number| unsafe {
+            raw::pq_push(self.member, item, until, number)
+        })
+    }
+
+    pub(crate) fn pushed_by(
+        &self,
+        priority: u64,
+        payload: T,
+        call: impl FnOnce(Item, &mut u64) -> u32,
+    ) -> Result<u64, NotPushed<T>> {
         let value = value_of(payload).map_err(|payload| NotPushed {
             payload,
             error: Error::NoMemory,
         })?;
         let (item, mut number) = (Item { priority, value }, 0);
-        // SAFETY: the member is there, and in this call alone; the number is borrowed for it.
-        let code = unsafe { raw::pq_push(self.member, item, until, &mut number) };
+        let code = call(item, &mut number);
         self.has_number(number);
         let pushed = Error::unless_ok(code);
         pushed.map(|()| number).map_err(|error| {
@@ -207,41 +216,12 @@ impl<K: Key, T: Send> Call<'_, K, T> {
     pub fn take(&self) -> Result<Option<(K, T)>, Error> {
         match self.waits(raw::pq_take) {
             Err(Error::TimedOut) => Ok(None),
-            Ok(Due::Empty) => Ok(self.keyed(self.sees_end(u64::MAX)?).got()),
             taken => Ok(self.keyed(taken?).got()),
         }
     }
 
     pub fn take_due(&self) -> Result<Due<K, T>, Error> {
-        let due = match self.waits(raw::pq_take_due)? {
-            Due::Empty => self.sees_end(self.shared.times.due_now())?,
-            due => due,
-        };
-        Ok(self.keyed(due))
-    }
-
-    // After a take that found none until its deadline: a call that listens, and never waits, returns the end of a shut queue.
-    #[cold]
-    fn sees_end(&self, priority: u64) -> Result<Due<u64, T>, Error> {
-        /// A member that listens only during this call has nobody to wake.
-        unsafe extern "C" fn nobody(_: *mut c_void) {}
-        let (member, context) = (self.member, ptr::null_mut());
-        if !self.shared.is_shut.load(Ordering::Acquire) {
-            return Ok(Due::Empty);
-        }
-        let found = after::calling(|| {
-            // SAFETY: as of `waits`; the context is not used.
-            let found = self.taken(|item, number| unsafe {
-                raw::pq_take_or_listen(member, priority, item, number, nobody, context)
-            });
-            // SAFETY: the member is there, and in this call alone.
-            unsafe { raw::pq_unlisten(member) };
-            found
-        });
-        match found {
-            Err(Error::TimedOut | Error::AllJoined) => Ok(Due::Empty),
-            found => found,
-        }
+        Ok(self.keyed(self.waits(raw::pq_take_due)?))
     }
 
     /// How many payloads there are, and the most that there were at once.

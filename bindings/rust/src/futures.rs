@@ -1,8 +1,9 @@
-//! Takes that wait without a thread: by a waker, on any executor.
+//! Takes and pushes that wait without a thread: by a waker, on any executor.
 use crate::after::{self, locked};
-use crate::error::{Due, Error};
+use crate::clock::Until;
+use crate::error::{Due, Error, NotPushed};
 use crate::key::{Key, TimeKey};
-use crate::raw::Notify;
+use crate::raw::{self, Notify};
 use crate::sync::Mutex;
 use crate::tasks::{Shared, TaskMember, TaskQueue};
 use std::collections::BTreeMap;
@@ -69,7 +70,7 @@ unsafe extern "C" fn notified(slot: *mut c_void) {
     }
 }
 
-/// Takes without a thread that waits.
+/// Takes and pushes without a thread that waits.
 impl<K: Key, T: Send> TaskMember<K, T> {
     /// Waits for a payload by a future, and takes the first one out, with its key.
     ///
@@ -124,6 +125,41 @@ impl<K: Key, T: Send> TaskMember<K, T> {
         TakeDue::by(Taker::Member(self), sleep)
     }
 
+    /// Puts a payload in, and waits by a future while the queue has no room ([`Options::most_items`](crate::Options::most_items)): the number of
+    /// its journal entry. A future that is dropped when it was woken wakes another, and drops its payload.
+    ///
+    /// # Errors
+    ///
+    /// Those of [`TaskMember::push`] and [`TaskMember::take_async`], each with the payload.
+    pub fn push_async(&mut self, key: K, payload: T) -> Push<'_, K, T> {
+        Push::by(Taker::Member(self), key, payload)
+    }
+
+    // Puts a payload in; where there is no room, `Error::Full`, and the context's task is woken once there may be some, or the queue is shut.
+    fn push_or_listen(
+        &mut self,
+        key: K,
+        payload: T,
+        cx: &mut Context<'_>,
+    ) -> Result<u64, NotPushed<T>> {
+        let (notify, context) = match self.listens_for(cx) {
+            Ok(notify) => notify,
+            Err(error) => return Err(NotPushed { payload, error }),
+        };
+        let priority = self.shared.times.priority_of(key);
+        let call = self.until(Until::NOW).0;
+        let pushed = after::calling(|| {
+            // SAFETY: the member is there, in this call alone, and has the slot until it was given back; the number is borrowed for the call.
+            call.pushed_by(priority, payload, |item, number| unsafe {
+                raw::pq_push_or_listen(call.member, item, number, notify, context)
+            })
+        });
+        if !matches!(&pushed, Err(refused) if refused.error == Error::Full) {
+            drop(self.slot.take());
+        }
+        pushed
+    }
+
     /// Takes the first payload out, if there is one; else has the context's task woken once there may be one, or the queue is shut. A
     /// program that polls no more then calls [`TaskMember::unlisten`], or drops the member.
     ///
@@ -153,18 +189,23 @@ impl<K: Key, T: Send> TaskMember<K, T> {
         priority: u64,
         cx: &mut Context<'_>,
     ) -> Result<Due<u64, T>, Error> {
-        self.unless_forked()?;
-        if !after::has_thread() {
-            return Err(Error::NoMemory);
-        }
-        self.slot.set(cx.waker());
-        let notify = self.slot.notify();
+        let notify = self.listens_for(cx)?;
         // SAFETY: the member has the slot until it was given back.
         let found = unsafe { self.taken_or_listens(priority, notify) };
         if !matches!(found, Ok(Due::Later(_) | Due::Empty)) {
             drop(self.slot.take());
         }
         found
+    }
+
+    // What the library is to call, that wakes the context's task.
+    fn listens_for(&mut self, cx: &mut Context<'_>) -> Result<(Notify, *mut c_void), Error> {
+        self.unless_forked()?;
+        if !after::has_thread() {
+            return Err(Error::NoMemory);
+        }
+        self.slot.set(cx.waker());
+        Ok(self.slot.notify())
     }
 
     // Takes what is due, or listens, and has a sleep until the first is.
@@ -208,6 +249,35 @@ impl<K: Key, T: Send> TaskQueue<K, T> {
     /// program with more tasks that wait has some take for the others.
     pub fn take_async(&self) -> Take<'_, K, T> {
         Take(Taker::Queue(self, None))
+    }
+
+    /// Puts a payload in, and waits by a future while the queue has no room, as [`TaskMember::push_async`] does. Only where it finds none it
+    /// joins, and gives that member back when it is ready or dropped.
+    ///
+    /// # Errors
+    ///
+    /// Those of [`TaskMember::push_async`], and [`Error::AllJoined`] where no member is left.
+    ///
+    /// ```
+    /// use std::future::Future;
+    /// use std::pin::Pin;
+    /// use std::task::{Context, Poll, Waker};
+    /// # use std::sync::Arc;
+    /// # struct Nobody;
+    /// # impl std::task::Wake for Nobody { fn wake(self: Arc<Nobody>) {} }
+    /// # let waker = Waker::from(Arc::new(Nobody));
+    ///
+    /// let queue = flatpq::Options::new().most_items(1).open()?;
+    /// queue.push(5, "five")?;
+    /// let mut push = queue.push_async(3, "three");
+    /// let mut context = Context::from_waker(&waker);
+    /// assert!(Pin::new(&mut push).poll(&mut context).is_pending());
+    /// assert_eq!(queue.pop()?, Some((5, "five")));
+    /// assert_eq!(Pin::new(&mut push).poll(&mut context), Poll::Ready(Ok(3)));
+    /// # Ok::<(), flatpq::Error>(())
+    /// ```
+    pub fn push_async(&self, key: K, payload: T) -> Push<'_, K, T> {
+        Push::by(Taker::Queue(self, None), key, payload)
     }
 
     /// Waits by a future until the first payload is due, as [`TaskMember::take_due_async`] does, by a member that it joins.
@@ -266,7 +336,7 @@ impl<T> Drop for WaitArchived<'_, T> {
 
 debug_by_name!(WaitArchived<'a, T>);
 
-/// By whom a future takes.
+/// By whom a future takes or pushes.
 enum Taker<'a, K, T> {
     Member(&'a mut TaskMember<K, T>),
     /// By a member that it joins.
@@ -274,25 +344,31 @@ enum Taker<'a, K, T> {
 }
 
 impl<K: Key, T: Send> Taker<'_, K, T> {
-    // Polls by the member. One that was joined is given back when that is ready.
+    // The member, which it joins if it has none.
+    fn member(&mut self) -> Result<&mut TaskMember<K, T>, Error> {
+        match self {
+            Taker::Member(member) => Ok(member),
+            Taker::Queue(_, Some(joined)) => Ok(joined),
+            Taker::Queue(queue, joined) => Ok(joined.insert(queue.join()?)),
+        }
+    }
+
+    // The future is ready: a member that was joined is given back.
+    fn give_back(&mut self) {
+        if let Taker::Queue(_, joined) = self {
+            drop(joined.take());
+        }
+    }
+
     fn poll(
         &mut self,
         poll: impl FnOnce(&mut TaskMember<K, T>) -> Poll<Result<(K, T), Error>>,
     ) -> Poll<Result<(K, T), Error>> {
-        match self {
-            Taker::Member(member) => poll(member),
-            Taker::Queue(queue, joined) => {
-                let mut member = match joined.take() {
-                    Some(member) => member,
-                    None => queue.join()?,
-                };
-                let polled = poll(&mut member);
-                if polled.is_pending() {
-                    *joined = Some(member);
-                }
-                polled
-            }
+        let polled = poll(self.member()?);
+        if polled.is_ready() {
+            self.give_back();
         }
+        polled
     }
 }
 
@@ -359,3 +435,58 @@ where
 }
 
 debug_by_name!(TakeDue<'a, K, T, S, F>);
+
+/// A push of a payload, by [`TaskQueue::push_async`] or [`TaskMember::push_async`]. Polled once more after it is ready, it panics.
+#[must_use = "a future does nothing unless it is polled"]
+pub struct Push<'a, K, T> {
+    by: Taker<'a, K, T>,
+    key: K,
+    payload: Option<T>,
+}
+
+impl<'a, K, T> Push<'a, K, T> {
+    fn by(by: Taker<'a, K, T>, key: K, payload: T) -> Push<'a, K, T> {
+        let payload = Some(payload);
+        Push { by, key, payload }
+    }
+}
+
+// The payload is moved, and never pinned.
+impl<K, T> Unpin for Push<'_, K, T> {}
+
+impl<K: Key, T: Send> Push<'_, K, T> {
+    // Tries without a member of its own first.
+    fn pushed(&mut self, payload: T, cx: &mut Context<'_>) -> Result<u64, NotPushed<T>> {
+        let payload = match &self.by {
+            Taker::Queue(queue, None) => match queue.until(Until::NOW).push(self.key, payload) {
+                Err(refused) if matches!(refused.error, Error::Full | Error::TimedOut) => refused.payload,
+                done => return done,
+            },
+            _ => payload,
+        };
+        match self.by.member() {
+            Ok(member) => member.push_or_listen(self.key, payload, cx),
+            Err(error) => Err(NotPushed { payload, error }),
+        }
+    }
+}
+
+impl<K: Key, T: Send> Future for Push<'_, K, T> {
+    type Output = Result<u64, NotPushed<T>>;
+
+    fn poll(mut self: Pin<&mut Self>, cx: &mut Context<'_>) -> Poll<Self::Output> {
+        let payload = self.payload.take().expect("a push that is ready is over");
+        match self.pushed(payload, cx) {
+            Err(refused) if refused.error == Error::Full => {
+                self.payload = Some(refused.payload);
+                Poll::Pending
+            }
+            done => {
+                self.by.give_back();
+                Poll::Ready(done)
+            }
+        }
+    }
+}
+
+debug_by_name!(Push<'a, K, T>);

@@ -7,8 +7,8 @@ use std::time::{Duration, Instant};
 /// By what a [`TaskQueue`](crate::TaskQueue) orders its payloads: the smallest key comes out first. The queue orders the numbers of keys,
 /// and gives back the key of a number.
 ///
-/// Integers of at most 64 bits are keys, `NonZeroU32` and the like, pairs of `u32`, `bool`, `char`, `f32` and `f64`, [`Duration`] and
-/// [`Instant`], and [`Reverse`] of each, whose largest comes out first. Those that are times are [`TimeKey`]s. A type of the program's own
+/// Integers of at most 64 bits are keys, `NonZeroU32` and the like, pairs of `u32`, `bool`, `char`, an `Option` of `bool`, `char` or an integer
+/// of at most 32 bits, `f32` and `f64`, [`Duration`] and [`Instant`], and [`Reverse`] of each, whose largest comes out first. Those that are times are [`TimeKey`]s. A type of the program's own
 /// is a key by two functions that undo each other:
 ///
 /// ```
@@ -140,6 +140,23 @@ impl Key for (u32, u32) {
         ((number >> 32) as u32, number as u32)
     }
 }
+
+macro_rules! options {
+    ($($Key:ty),*) => {$(
+        /// `None` comes out first.
+        impl Key for Option<$Key> {
+            fn to_number(self) -> u64 {
+                self.map_or(0, |key| key.to_number() + 1)
+            }
+
+            fn from_number(number: u64) -> Self {
+                number.checked_sub(1).map(<$Key>::from_number)
+            }
+        }
+    )*};
+}
+
+options!(bool, char, u8, u16, u32, i8, i16, i32);
 
 macro_rules! floats {
     ($($Float:ty: $Bits:ty),*) => {$(

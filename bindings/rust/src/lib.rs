@@ -80,7 +80,7 @@ pub use batches::Pushed;
 pub use calls::{Limited, Number};
 pub use clock::Until;
 pub use error::{Due, Error, NotAllPushed, NotClosed, NotPushed, NotReadBack};
-pub use futures::{Take, TakeDue, WaitArchived};
+pub use futures::{Push, Take, TakeDue, WaitArchived};
 pub use journal::{Entry, Item, Iter, Journal, Left, ReadBack, Request, TaskJournal};
 pub use key::{Key, TickKey, TimeKey};
 pub use listener::{DueListener, Listener};

@@ -64,6 +64,7 @@ extern "C" {
     pub fn pq_after(nanoseconds: u64) -> u64;
     fn pq_open(options: *const RawOptions, queue: *mut *mut QueueInside) -> u32;
     fn pq_shut(queue: *mut QueueInside) -> u32;
+    fn pq_is_shut(queue: *mut QueueInside) -> c_int;
     fn pq_close(queue: *mut QueueInside, journal: *mut *mut JournalInside) -> u32;
     fn pq_free(queue: *mut QueueInside, left: Option<Left>, context: *mut c_void);
     fn pq_own(queue: *mut QueueInside) -> *mut MemberInside;
@@ -91,6 +92,7 @@ extern "C" {
         member: *mut MemberInside, priority: u64, item: *mut Item, number: *mut u64, notify: Notify, context: *mut c_void,
     ) -> u32;
     pub fn pq_take_due_or_listen(member: *mut MemberInside, timer: c_int, item: *mut Item, number: *mut u64) -> u32;
+    pub fn pq_push_or_listen(member: *mut MemberInside, item: Item, number: *mut u64, notify: Notify, context: *mut c_void) -> u32;
     pub fn pq_unlisten(member: *mut MemberInside) -> c_int;
     pub fn pq_notify_fd(context: *mut c_void);
     pub fn pq_archive(member: *mut MemberInside, archived: u64, until: u64, journal: *mut *mut JournalInside) -> u32;
@@ -141,6 +143,11 @@ impl RawQueue {
     pub fn shut(&self) -> u32 {
         // SAFETY: the queue is there.
         unsafe { pq_shut(self.0.as_ptr()) }
+    }
+
+    pub fn is_shut(&self) -> bool {
+        // SAFETY: the queue is there.
+        unsafe { pq_is_shut(self.0.as_ptr()) == 1 }
     }
 
     pub fn wait_archived(&self, number: u64, until: u64) -> u32 {

@@ -10,12 +10,10 @@ use crate::key::{Key, TimeKey};
 use crate::options::Options;
 use crate::payload::{self, payload_of, value_of};
 use crate::raw::{self, RawMember, RawOptions, RawQueue};
-use crate::sync::AtomicBool;
 use std::cell::Cell;
 use std::marker::PhantomData;
 use std::os::raw::c_void;
 use std::os::unix::io::{AsRawFd, BorrowedFd};
-use std::sync::atomic::Ordering;
 use std::sync::{Arc, Mutex};
 use std::{fmt, iter::FusedIterator};
 
@@ -25,8 +23,6 @@ pub struct Shared<T> {
     pub times: Times,
     /// A push may wait for room.
     pub is_bounded: bool,
-    /// A shut has returned.
-    pub is_shut: AtomicBool,
     pub archives: Archives,
     // Payloads go from thread to thread, and none is used by two at once.
     payloads: PhantomData<Mutex<T>>,
@@ -48,9 +44,7 @@ impl<T> Shared<T> {
     }
 
     fn shut(&self) -> Result<(), Error> {
-        Error::unless_ok(after::calling(|| self.queue.shut()))?;
-        self.is_shut.store(true, Ordering::Release);
-        Ok(())
+        Error::unless_ok(after::calling(|| self.queue.shut()))
     }
 }
 
@@ -141,7 +135,6 @@ impl<K: Key, T: Send> TaskQueue<K, T> {
             queue: RawQueue::open(options)?,
             times,
             is_bounded: options.most_items > 0,
-            is_shut: AtomicBool::new(false),
             archives: Archives::default(),
             payloads: PhantomData,
         };
@@ -243,6 +236,22 @@ impl<K, T> TaskQueue<K, T> {
     /// [`Error::Forked`].
     pub fn shut(&self) -> Result<(), Error> {
         self.shared.shut()
+    }
+
+    /// Whether the queue is shut: each push that begins from now on is refused. Where it is not, no push was refused for that before.
+    ///
+    /// ```
+    /// let queue = flatpq::TaskQueue::new()?;
+    /// queue.push(5, "five")?;
+    /// assert!(!queue.is_shut());
+    /// queue.shut()?;
+    /// assert!(queue.is_shut());
+    /// assert_eq!(queue.try_take()?, Some((5, "five")));
+    /// assert_eq!(queue.try_take(), Err(flatpq::Error::Shut));
+    /// # Ok::<(), flatpq::Error>(())
+    /// ```
+    pub fn is_shut(&self) -> bool {
+        self.shared.queue.is_shut()
     }
 
     /// Waits until an archive has counted the entry of this number as archived ([`TaskQueue::archive`]).
@@ -383,6 +392,11 @@ impl<K, T> TaskMember<K, T> {
     /// [`Error::Forked`].
     pub fn shut(&self) -> Result<(), Error> {
         self.shared.shut()
+    }
+
+    /// Whether the queue is shut, as [`TaskQueue::is_shut`] says.
+    pub fn is_shut(&self) -> bool {
+        self.shared.queue.is_shut()
     }
 
     pub(crate) fn unless_forked(&self) -> Result<(), Error> {

@@ -47,6 +47,38 @@ static void no_push_is_posted(void) {
     close_and_free(queue);
 }
 
+static void counts(void *calls) {
+    ++*(int *)calls;
+}
+
+static void a_member_listens_for_room(void) {
+    const pq_options options = { 2, PQ_FORGETS, 0, 0, 0, 0, 1 };
+    pq_queue *queue;
+    pq_member *member, *own;
+    pq_item item = item_of(6, 2);
+    int calls = 0;
+    uint64_t number = 9;
+    CHECK(pq_open(&options, &queue) == PQ_OK);
+    member = joined(queue);
+    own = pq_own(queue);
+    CHECK(pq_push_or_listen(NULL, item, &number, counts, &calls) == PQ_NO_MEMBER && number == 9);
+    CHECK(pq_push_or_listen(member, item_of(5, 1), &number, counts, &calls) == PQ_OK && number == 1 && pq_unlisten(member) == 0);
+    CHECK(pq_push_or_listen(member, item, &number, counts, &calls) == PQ_FULL && number == 1 && calls == 0);
+    /* The last that is awake does not listen; a joined member that listens makes other calls. */
+    CHECK(pq_push_or_listen(own, item, NULL, counts, &calls) == PQ_ALL_JOINED && pq_push(member, item, PQ_NOW, NULL) == PQ_FULL);
+    CHECK(pq_unlisten(member) == 1 && pq_push_or_listen(own, item, NULL, counts, &calls) == PQ_FULL);
+    CHECK(pq_pop(member, &item, PQ_FOREVER, NULL) == PQ_OK && is_item(item, 5, 1) && calls == 1);
+    CHECK(pq_push_or_listen(own, item, &number, counts, &calls) == PQ_OK && number == 3);
+    CHECK(pq_push_or_listen(own, item, NULL, counts, &calls) == PQ_FULL && pq_shut(queue) == PQ_OK && calls == 2);
+    CHECK(pq_push_or_listen(own, item, NULL, counts, &calls) == PQ_SHUT && calls == 2 && pq_unlisten(own) == 0);
+    pq_give_back(member);
+    close_and_free(queue);
+    /* Without a bound it is a push that does not wait. */
+    queue = opened(2);
+    CHECK(pq_push_or_listen(pq_own(queue), item, &number, counts, &calls) == PQ_OK && number == 1 && calls == 2 && size_of(queue) == 1);
+    close_and_free(queue);
+}
+
 static void bounds_may_be_any(void) {
     pq_options options = { 0, 3, 0, 0, 0, 0, 1 };
     pq_queue *queue;
@@ -163,6 +195,7 @@ int main(int count, char **words) {
     (void)words;
     is_refused_at_its_deadline();
     no_push_is_posted();
+    a_member_listens_for_room();
     bounds_may_be_any();
     has_deadlines = 1;
     pq_journal_free(nothing_is_lost(requests(5000)));

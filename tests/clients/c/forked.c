@@ -40,7 +40,7 @@ static void calls(void) {
     calls_of(member);
     calls_of(pq_own(queue));
     calls_of(NULL);
-    CHECK(pq_join(queue, PQ_FOREVER, &joining) == PQ_FORKED && joining == NULL && pq_shut(queue) == PQ_FORKED);
+    CHECK(pq_join(queue, PQ_FOREVER, &joining) == PQ_FORKED && joining == NULL && pq_shut(queue) == PQ_FORKED && pq_is_shut(queue) == 0);
     CHECK(pq_close(queue, &closing) == PQ_FORKED && closing == NULL && pq_close(queue, NULL) == PQ_FORKED);
     CHECK(pq_open(NULL, &another) == PQ_FORKED && another == NULL);
     CHECK(pq_wait_archived(queue, 0, PQ_NOW) == PQ_FORKED && pq_wait_archived(queue, 9, PQ_FOREVER) == PQ_FORKED);

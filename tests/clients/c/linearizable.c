@@ -50,7 +50,7 @@ typedef struct list {
     uint64_t tickets[MOST];
     size_t count, peak;
     uint64_t entries;
-    int is_shut;
+    int is_shut, is_over; /* it is over once a take has returned the end: no push is accepted after that */
 } list;
 
 static void put(list *it, pq_item item, uint64_t ticket) {
@@ -90,7 +90,7 @@ static int fits_push(list *it, const call *made, const history *all) {
     if (made->code == PQ_SHUT || made->code == PQ_FULL) {
         return made->done == 0 && (made->code == PQ_SHUT ? it->is_shut : all->most_items != 0 && it->count >= all->most_items);
     }
-    if (made->code != PQ_OK || made->done != made->count || made->number != it->entries + 1 || follows_shut(all, made)) {
+    if (made->code != PQ_OK || made->done != made->count || made->number != it->entries + 1 || it->is_over || follows_shut(all, made)) {
         return 0;
     }
     for (size_t i = 0; i < made->count; i++) {
@@ -117,6 +117,10 @@ static int fits_pop(list *it, const call *made) {
 
 static int fits_take(list *it, const call *made) {
     size_t due = 0;
+    if (made->code == PQ_SHUT) {
+        it->is_over = 1;
+        return made->kind == TAKE && it->is_shut && it->count == 0 && made->done == 0;
+    }
     while (due < made->count && due < it->count && it->items[due].priority <= made->key) {
         due++;
     }

@@ -1,6 +1,7 @@
 /* A program and a plug-in, which it loads with RTLD_LOCAL, share a queue, as both are linked to the shared library: a push by one wakes a
    thread and rings an eventfd of the other; calls of both are refused in a forked child, also where the plug-in's first call is made there;
-   and a thread that waits at a shut queue gets its end when the other takes the last item out. */
+   and a thread that waits at a shut queue gets its end when the other takes the last item out. Another plug-in, which has a copy of the library
+   in it, gets no member. */
 #include "plug_in.h"
 
 #include <dlfcn.h>
@@ -75,17 +76,29 @@ static void the_plug_in_takes_the_last_item(void) {
     CHECK(pq_now() - begun < 20000000000u);
 }
 
+static const plug_in *calls_of(const char *file) {
+    void *loaded = dlopen(file, RTLD_NOW | RTLD_LOCAL);
+    const plug_in *found = loaded != NULL ? (const plug_in *)dlsym(loaded, "plugged_calls") : NULL;
+    CHECK(found != NULL);
+    return found;
+}
+
+static void another_copy_gets_no_member(const plug_in *copy) {
+    pq_member *joining = NULL;
+    CHECK(copy->join(queue, &joining) == PQ_NO_MEMBER && joining == NULL && copy->push(queue) == PQ_NO_MEMBER);
+    CHECK(copy->pop(queue) == PQ_NO_MEMBER && copy->listen_to(queue, 1) == PQ_NO_MEMBER);
+}
+
 int main(int count, char **words) {
-    void *loaded = NULL;
-    CHECK(count == 2 && (loaded = dlopen(words[1], RTLD_NOW | RTLD_LOCAL)) != NULL);
-    other = (const plug_in *)dlsym(loaded, "plugged_calls");
-    CHECK(other != NULL);
+    CHECK(count == 3);
+    other = calls_of(words[1]);
     queue = opened(3);
+    another_copy_gets_no_member(calls_of(words[2]));
     in_child(a_joining_is_refused);
     in_child(all_calls_are_refused);
     each_wakes_the_other();
     in_child(all_calls_are_refused);
     the_plug_in_takes_the_last_item();
     close_and_free(queue);
-    return dlclose(loaded) != 0;
+    return 0;
 }

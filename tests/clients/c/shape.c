@@ -35,6 +35,7 @@ static void has_requests(void) {
     HAS(pq_code, pq_combine, (pq_member *));
     HAS(pq_code, pq_take_or_listen, (pq_member *, uint64_t, pq_item *, uint64_t *, notify *, void *));
     HAS(pq_code, pq_take_due_or_listen, (pq_member *, int, pq_item *, uint64_t *));
+    HAS(pq_code, pq_push_or_listen, (pq_member *, pq_item, uint64_t *, notify *, void *));
     HAS(int, pq_unlisten, (pq_member *));
     HAS(void, pq_notify_fd, (void *));
 }
@@ -46,6 +47,7 @@ static void has_other_calls(void) {
     HAS(uint64_t, pq_after, (uint64_t));
     HAS(pq_code, pq_open, (const pq_options *, pq_queue **));
     HAS(pq_code, pq_shut, (pq_queue *));
+    HAS(int, pq_is_shut, (pq_queue *));
     HAS(pq_code, pq_close, (pq_queue *, pq_journal **));
     HAS(void, pq_free, (pq_queue *, void (*)(void *, pq_item), void *));
     HAS(pq_member *, pq_own, (pq_queue *));
@@ -133,7 +135,7 @@ static void has_times(void) {
 int main(void) {
     has_requests();
     has_other_calls();
-    CHECK(calls == 40);
+    CHECK(calls == 42);
     has_constants();
     has_codes();
     has_times();

@@ -226,9 +226,10 @@ static bool an_end_reaches_each_wait() {
     auto queue = *numbers::open();
     std::thread waiting([&] { CHECK(queue.take().error() == code::shut); });
     std::this_thread::sleep_for(5ms);
-    CHECK(queue.shut() == code::ok);
+    CHECK(queue.push(1, 1) && queue.take(flatpq::now) && queue.take(flatpq::now).error() == code::empty && !queue.is_shut());
+    CHECK(queue.shut() == code::ok && queue.is_shut());
     waiting.join();
-    return queue.push(1, 1).error() == code::shut;
+    return queue.push(1, 1).error() == code::shut && queue.take(flatpq::now).error() == code::shut;
 }
 
 int main() {

@@ -58,7 +58,7 @@ static void what_was_moved_from_refuses() {
     flatpq::queue<> moved(std::move(queue));
     calls_are_refused(queue, code::no_member);
     CHECK(queue.join().error() == code::no_member && queue.listen().error() == code::no_member && queue.close().error() == code::no_member);
-    CHECK(queue.shut() == code::no_member);
+    CHECK(queue.shut() == code::no_member && !queue.is_shut());
     queue.leave();
     auto first = *moved.join(), second = *moved.join();
     flatpq::member<> taken(std::move(first));

@@ -1,6 +1,6 @@
-//! Takes by futures, on an executor of this test's own: what is there is ready at once, a push and a shut wake, one that is dropped when it was
-//! woken wakes the next, and threads that wait and futures lose no payload together. By a member, and by the queue.
-use flatpq::{Error, Member, Options, Queue, TaskQueue};
+//! Takes and pushes by futures, on an executor of this test's own: what is there, or has room, is ready at once, a push, a pop and a shut wake, one
+//! that is dropped when it was woken wakes the next, and threads that wait and futures lose no payload together. By a member, and by the queue.
+use flatpq::{Error, Member, NotPushed, Options, Queue, TaskQueue};
 use std::future::Future;
 use std::pin::Pin;
 use std::sync::atomic::{AtomicUsize, Ordering};
@@ -437,4 +437,122 @@ fn an_archive_in_the_midst_of_a_poll_is_seen() {
     let mut wait = queue.wait_archived_async(1);
     let polled = Pin::new(&mut wait).poll(&mut Context::from_waker(&waker));
     assert_eq!(polled, Poll::Ready(Ok(())));
+}
+
+fn with_room_for(most_items: u64) -> Queue<u64, u32> {
+    Options::new().most_items(most_items).open().unwrap()
+}
+
+#[test]
+fn a_push_waits_for_room() {
+    let queue = with_room_for(1);
+    let mut member = queue.join().unwrap();
+    let (one, other) = (Counted::new(), Counted::new());
+    assert_eq!(run(queue.push_async(1, 1)), Ok(1));
+    {
+        let mut by_queue = queue.push_async(2, 2);
+        let mut by_member = member.push_async(3, 3);
+        for _ in 0..2 {
+            assert!(polled(&mut by_queue, &one).is_pending());
+            assert!(polled(&mut by_member, &other).is_pending());
+        }
+        assert_eq!((one.wakes(), other.wakes()), (0, 0));
+        // Each place wakes one of them.
+        assert_eq!(queue.pop(), Ok(Some((1, 1))));
+        assert_eq!((one.wakes(), other.wakes()), (1, 0));
+        assert_eq!(polled(&mut by_queue, &one), Poll::Ready(Ok(3)));
+        assert_eq!(queue.pop(), Ok(Some((2, 2))));
+        assert_eq!((one.wakes(), other.wakes()), (1, 1));
+        assert_eq!(polled(&mut by_member, &other), Poll::Ready(Ok(5)));
+    }
+    assert_eq!(member.number(), 5);
+    drop(member);
+    assert!(queue.close().is_ok());
+}
+
+#[test]
+fn a_push_that_is_dropped_wakes_another() {
+    let queue = with_room_for(1);
+    let mut member = queue.join().unwrap();
+    let counted = [(); 3].map(|()| Counted::new());
+    let woken = || [0, 1, 2].map(|at: usize| counted[at].wakes());
+    queue.push(1, 1).unwrap();
+    let mut first = member.push_async(2, 2);
+    let (mut second, mut third) = (queue.push_async(3, 3), queue.push_async(4, 4));
+    assert!(polled(&mut first, &counted[0]).is_pending());
+    assert!(polled(&mut second, &counted[1]).is_pending());
+    assert!(polled(&mut third, &counted[2]).is_pending());
+    queue.pop().unwrap();
+    assert_eq!(woken(), [1, 0, 0]);
+    drop(first);
+    assert_eq!(woken(), [1, 1, 0]);
+    drop(second);
+    assert_eq!(woken(), [1, 1, 1]);
+    assert_eq!(polled(&mut third, &counted[2]), Poll::Ready(Ok(3)));
+    // A thread that waits is woken beside a future that does nothing.
+    let mut idle = queue.push_async(5, 5);
+    assert!(polled(&mut idle, &counted[0]).is_pending());
+    queue.pop().unwrap();
+    assert_eq!(woken(), [2, 1, 1]);
+    thread::scope(|threads| {
+        threads.spawn(|| [6, 7].map(|number| queue.push(6, number).unwrap()));
+        while queue.pop() != Ok(Some((6, 7))) {
+            thread::yield_now();
+        }
+    });
+    drop((third, idle, member));
+    assert!(queue.close().is_ok());
+}
+
+#[test]
+fn a_push_that_waits_sees_the_end() {
+    let queue = with_room_for(1);
+    let counted = Counted::new();
+    queue.push(1, 1).unwrap();
+    let mut push = queue.push_async(2, 2);
+    assert!(polled(&mut push, &counted).is_pending());
+    queue.shut().unwrap();
+    assert_eq!(counted.wakes(), 1);
+    let refused = NotPushed {
+        payload: 2,
+        error: Error::Shut,
+    };
+    assert_eq!(polled(&mut push, &counted), Poll::Ready(Err(refused)));
+    assert_eq!(run(queue.push_async(3, 3)).unwrap_err().error, Error::Shut);
+}
+
+/// Futures push into little room, threads push beside them, and threads take.
+#[test]
+fn no_push_is_lost() {
+    const FUTURES: u32 = 40;
+    const EACH: u32 = 200;
+    const THREADS: u32 = 2;
+    let queue = with_room_for(3);
+    let sum = AtomicUsize::new(0);
+    thread::scope(|threads| {
+        for _ in 0..THREADS {
+            threads.spawn(|| {
+                while let Ok((_, number)) = queue.take() {
+                    sum.fetch_add(number as usize, Ordering::SeqCst);
+                }
+            });
+        }
+        let pushing = (0..THREADS).map(|_| {
+            threads.spawn(|| (0..EACH).for_each(|number| assert!(queue.push(1, number).is_ok())))
+        });
+        let pushing: Vec<_> = pushing.collect();
+        let all = (0..FUTURES).map(|at| -> Pin<Box<dyn Future<Output = ()> + '_>> {
+            let queue = &queue;
+            Box::pin(async move {
+                for number in 0..EACH {
+                    queue.push_async(u64::from(at), number).await.unwrap();
+                }
+            })
+        });
+        run_all(all.collect());
+        pushing.into_iter().for_each(|it| it.join().unwrap());
+        queue.shut().unwrap();
+    });
+    let pushed = (FUTURES + THREADS) * (0..EACH).sum::<u32>();
+    assert_eq!(sum.into_inner(), pushed as usize);
 }

@@ -163,6 +163,7 @@ static void a_lock_that_is_held_costs_little(void) {
     uint64_t began, until, calls = 0;
     holder own;
     hold(&own, queue, HOLDS_AND_STOPS);
+    CHECK(pq_take_due_or_listen(it.member, -1, &it.item, NULL) == PQ_NO_TIMER && pq_unlisten(it.member) == 0);
     began = pq_now();
     until = in_ms(50);
     for (; calls == 0 || pq_now() < until; calls++) {

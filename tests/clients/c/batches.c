@@ -299,7 +299,22 @@ static void a_batch_takes_all_that_is_due(int with_later) {
     close_and_free(queue);
 }
 
+/* A part that was taken is all that is due. The room for the rest stays as it was. */
+static void what_is_left_after_a_part_stays(void) {
+    enum { AT_ONCE = 64 };
+    pq_queue *queue = opened(1);
+    pq_item taken[AT_ONCE + 2] = { { 1, 0 } };
+    size_t done = 0;
+    for (int i = 0; i <= AT_ONCE; i++) {
+        CHECK(pq_push(pq_own(queue), item_of(i < AT_ONCE ? 1 : 9, 5), PQ_FOREVER, NULL) == PQ_OK);
+    }
+    CHECK(pq_pop_due_many(pq_own(queue), 1, taken, AT_ONCE + 2, PQ_FOREVER, &done, NULL) == PQ_OK && done == AT_ONCE);
+    CHECK(is_item(taken[0], 1, 5) && is_item(taken[AT_ONCE - 1], 1, 5) && is_item(taken[AT_ONCE], 0, 0) && size_of(queue) == 1);
+    close_and_free(queue);
+}
+
 int main(void) {
+    what_is_left_after_a_part_stays();
     fill();
     batches_of_each_size();
     a_full_room_is_not_left();

@@ -48,9 +48,15 @@ static void calls(void) {
     pq_give_back(member);
     pq_leave(queue);
     pq_free(queue, NULL, NULL);
+    CHECK(pq_place(member) == UINT32_MAX && pq_place(pq_own(queue)) == UINT32_MAX);
     CHECK(pq_count(journal, NULL) == 1 && pq_read(journal, 0, &entry) == PQ_OK && is_item(entry.item, 5, 6));
     CHECK(pq_text(&entry, text) > 0 && pq_now() > 0 && pq_version() == PQ_VERSION);
     pq_journal_free(journal);
+}
+
+/* The thread that forked has a member of its own, which its end in the child leaves alone. */
+static void ends_as_a_thread(void) {
+    pthread_exit(NULL);
 }
 
 static void grandchildren_are_refused(void) {
@@ -74,6 +80,7 @@ int main(void) {
         in_child(calls);
     }
     in_child(grandchildren_are_refused);
+    in_child(ends_as_a_thread);
     set(&is_over, 1);
     for (size_t i = 0; i < THREADS; i++) {
         ended(threads[i]);

@@ -256,18 +256,20 @@ static void *has_own_members(void *unused) {
 }
 
 /* Where a push is refused, so is a move, and the item stays where it is. */
-static void a_refused_move_leaves_the_item(uint32_t keeping, uint32_t entries) {
-    const pq_options options = { 1, keeping, entries, 1, 0, 0, 0 };
+static void a_refused_move_leaves_the_item(uint32_t keeping, uint32_t entries, uint64_t most_items) {
+    const pq_options options = { 1, keeping, entries, 1, 0, 0, most_items };
     pq_queue *queue = NULL;
     pq_item item;
     uint64_t ticket = 0, number = 9, others = 0;
+    pq_code code;
     CHECK(pq_open(&options, &queue) == PQ_OK);
     pq_member *member = joined(queue);
     CHECK(pq_push(member, item_of(50, 1), PQ_FOREVER, &ticket) == PQ_OK);
     refuse_after(0);
-    for (; pq_push(member, item_of(60, 2), PQ_FOREVER, NULL) == PQ_OK; others++) {
+    while ((code = pq_push(member, item_of(60, 2), PQ_FOREVER, NULL)) == PQ_OK) {
+        others++;
     }
-    CHECK(refused == 1 && pq_reschedule(member, ticket, 70, PQ_FOREVER, &number) == PQ_NO_MEMORY && refused == 2 && number == 9);
+    CHECK(code == PQ_NO_MEMORY && refused == 1 && pq_reschedule(member, ticket, 70, PQ_FOREVER, &number) == PQ_NO_MEMORY && refused == 2 && number == 9);
     CHECK(pq_reschedule(member, 1000, 70, PQ_FOREVER, &number) == PQ_GONE && refused == 2 && number == others + 2);
     CHECK(pq_peek(member, &item, PQ_FOREVER, NULL) == PQ_OK && is_item(item, 50, 1));
     refuse_after(-1);
@@ -280,11 +282,24 @@ static void a_refused_move_leaves_the_item(uint32_t keeping, uint32_t entries) {
     close_and_free(queue);
 }
 
+/* The system has no key left, by whose destructor a thread's end would give its member back. */
+static void a_thread_without_an_end_has_no_member(void) {
+    pthread_key_t key;
+    pq_queue *queue = opened(1);
+    while (pthread_key_create(&key, NULL) == 0) {
+    }
+    CHECK(pq_combine(pq_own(queue)) == PQ_NO_MEMORY && pq_place(pq_own(queue)) == UINT32_MAX);
+    pq_give_back(joined(queue));
+    close_and_free(queue);
+}
+
 int main(void) {
+    in_child(a_thread_without_an_end_has_no_member);
     a_batch_ends_where_memory_does(PQ_FILLS, 1000);
     a_batch_ends_where_memory_does(PQ_FORGETS, 0);
-    a_refused_move_leaves_the_item(PQ_FILLS, 100);
-    a_refused_move_leaves_the_item(PQ_FORGETS, 0);
+    a_refused_move_leaves_the_item(PQ_FILLS, 100, 0);
+    a_refused_move_leaves_the_item(PQ_FORGETS, 0, 0);
+    a_refused_move_leaves_the_item(PQ_FORGETS, 0, UINT64_MAX);
     CHECK(out == 0);
     for (int i = 0; i < 2; i++) {
         goes_on_without_memory(PQ_FILLS, 100);

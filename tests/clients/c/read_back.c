@@ -3,6 +3,7 @@
 #include "../check.h"
 
 #include <fcntl.h>
+#include <signal.h>
 #include <string.h>
 
 enum { KEPT = 65536 };
@@ -247,7 +248,47 @@ static void a_read_fails_midway(void) {
     CHECK(close(ends[0]) == 0 && close(ends[1]) == 0);
 }
 
+static void catches(int number) {
+    CHECK(number == SIGUSR1);
+}
+
+static int ends[2];
+
+static void *writes(void *journal) {
+    CHECK(pq_write((pq_journal *)journal, ends[1]) == PQ_OK && close(ends[1]) == 0);
+    return NULL;
+}
+
+static void *reads_all(void *journal) {
+    CHECK(pq_journal_read(ends[0], (pq_journal **)journal, NULL, NULL) == PQ_OK);
+    return NULL;
+}
+
+/* Signals end neither a read from an empty pipe nor a write to a full one. Where a write fails no more is written. */
+static void signals_end_nothing(void) {
+    pq_queue *queue = opened(2);
+    struct sigaction action = { .sa_handler = catches };
+    makes(queue, 2000);
+    pq_journal *written = closed(queue), *read = NULL;
+    CHECK(sigaction(SIGUSR1, &action, NULL) == 0 && pq_write(written, -1) == PQ_NOT_WRITTEN);
+    for (int reads_first = 0; reads_first < 2; reads_first++) {
+        CHECK(pipe(ends) == 0);
+        pthread_t first = reads_first ? started(reads_all, &read) : started(writes, written);
+        for (int i = 0; i < 10; i++) {
+            sleep_ms(2);
+            CHECK(pthread_kill(first, SIGUSR1) == 0);
+        }
+        pthread_t second = reads_first ? started(writes, written) : started(reads_all, &read);
+        ended(first);
+        ended(second);
+        CHECK(pq_count(read, NULL) == pq_count(written, NULL) && close(ends[0]) == 0);
+        pq_journal_free(read);
+    }
+    pq_journal_free(written);
+}
+
 int main(void) {
+    signals_end_nothing();
     is_read_back(0);
     is_read_back(requests(20000));
     keeps_the_last();

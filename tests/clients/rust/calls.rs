@@ -1,5 +1,5 @@
 //! Each call once, by the queue and by a member; and what threads do to each other through them: waiting, shutting, coming and going.
-use flatpq::{Due, Error, Options, Queue, TaskQueue, Until};
+use flatpq::{Due, Error, Keeping, Options, Queue, TaskQueue, Until};
 use std::cell::Cell;
 use std::collections::BTreeSet;
 use std::sync::{mpsc, Arc, Barrier};
@@ -296,4 +296,19 @@ fn a_poll_sees_the_end() {
     assert!(!member.unlisten());
     drop(member);
     assert!(queue.close().is_ok());
+}
+
+/// The first part of a batch stays out.
+#[test]
+fn a_journal_that_fills_after_a_part() {
+    const PART: u64 = 1024;
+    let entries = 2 * PART as u32 + 1;
+    let queue: Queue = Options::new()
+        .keeping(Keeping::Fills(entries))
+        .open()
+        .unwrap();
+    queue.push_many((0..=PART).map(|it| (it, it))).unwrap();
+    let popped = queue.pop_due_many(PART, usize::MAX).unwrap();
+    assert_eq!(popped.len() as u64, PART);
+    assert_eq!(queue.pop(), Err(Error::JournalFull));
 }

@@ -1,6 +1,11 @@
 //! A delay queue: a payload comes out once it is due and not before. What an earlier push, a deadline and a shut do to a thread that waits is
 //! in `expected.rs`.
 use flatpq::{Due, Error, Key, Options, TaskQueue, TickKey, TimeKey};
+use std::cell::Cell;
+use std::future::{poll_fn, Future};
+use std::sync::atomic::{AtomicUsize, Ordering::SeqCst};
+use std::sync::Arc;
+use std::task::{Context, Poll, Wake};
 use std::time::{Duration, Instant};
 
 const UNIT: Duration = Duration::from_millis(1);
@@ -81,4 +86,46 @@ fn a_type_of_keys_has_its_unit() {
     assert_eq!(queue.take_due(), Ok((soon, "soon")));
     assert!(began.elapsed() < 1000 * UNIT);
     assert!(Instant::now().to_number() ^ 1 << 63 >= soon.0 * 1000);
+}
+
+struct Counted(AtomicUsize);
+
+impl Wake for Counted {
+    fn wake(self: Arc<Counted>) {
+        self.0.fetch_add(1, SeqCst);
+    }
+}
+
+/// A future sleeps once until the first is due. Where a sleep ends too early its task is woken, and it sleeps again.
+#[test]
+fn a_future_sleeps_until_the_first_is_due() {
+    let queue = TaskQueue::new().unwrap();
+    let (sleeps, is_over) = (Cell::new(0), Cell::new(false));
+    let sleep = |_: Instant| {
+        sleeps.set(sleeps.get() + 1);
+        poll_fn(|_| {
+            if is_over.get() {
+                Poll::Ready(())
+            } else {
+                Poll::Pending
+            }
+        })
+    };
+    let woken = Arc::new(Counted(AtomicUsize::new(0)));
+    let waker = Arc::clone(&woken).into();
+    let mut take = Box::pin(queue.take_due_async(sleep));
+    let mut poll = || take.as_mut().poll(&mut Context::from_waker(&waker));
+    assert!(poll().is_pending() && sleeps.get() == 0);
+    let late = Instant::now() + 3_600_000 * UNIT;
+    queue.push(late, "late").unwrap();
+    assert!(poll().is_pending() && poll().is_pending() && sleeps.get() == 1);
+    assert_eq!(woken.0.swap(0, SeqCst), 1);
+    is_over.set(true);
+    assert!(poll().is_pending() && woken.0.swap(0, SeqCst) == 1);
+    is_over.set(false);
+    assert!(poll().is_pending() && sleeps.get() == 2);
+    let past = Instant::now();
+    queue.push(past, "past").unwrap();
+    assert_eq!(poll(), Poll::Ready(Ok((past, "past"))));
+    assert_eq!(queue.pop(), Ok(Some((late, "late"))));
 }

@@ -1,10 +1,13 @@
-//! Where memory is refused to a push, it says so and changes nothing; and goes on once there is memory again. A batch of pops asks for little.
+//! Where memory is refused to a push, it says so and changes nothing; and goes on once there is memory again. A batch of pops asks for little. A
+//! listener needs a descriptor, and the first future a thread.
 //! The only test of its process, whose address space it limits, and whose allocator refuses.
 use flatpq::{Error, NotPushed, TaskQueue};
 use std::alloc::{GlobalAlloc, Layout, System};
 use std::fs;
 use std::ptr;
 use std::sync::atomic::{AtomicUsize, Ordering::Relaxed};
+use std::sync::Arc;
+use std::task::{Context, Poll, Wake};
 
 /// Of these payloads so many get memory, and then none.
 type Large = [u64; 80];
@@ -34,6 +37,8 @@ unsafe impl GlobalAlloc for Refusing {
 }
 
 const MORE: u64 = 16 << 20;
+const TOO_MANY_FILES: i32 = 24;
+const DESCRIPTORS: i32 = 7;
 const ADDRESS_SPACE: i32 = 9;
 
 #[repr(C)]
@@ -53,24 +58,24 @@ fn in_use() -> u64 {
     4096 * status.split(' ').next().unwrap().parse::<u64>().unwrap()
 }
 
-fn limit_to(soft: u64) -> u64 {
+fn limit_to(resource: i32, soft: u64) -> u64 {
     let mut limit = Limit { soft: 0, hard: 0 };
     // SAFETY: the limit is this call's own.
     unsafe {
-        assert_eq!(getrlimit(ADDRESS_SPACE, &mut limit), 0);
+        assert_eq!(getrlimit(resource, &mut limit), 0);
         let before = limit.soft;
         limit.soft = soft;
-        assert_eq!(setrlimit(ADDRESS_SPACE, &limit), 0);
+        assert_eq!(setrlimit(resource, &limit), 0);
         before
     }
 }
 
 /// The first number whose push is refused comes back; and then it is pushed. The first payload has the number 0.
 fn comes_back<T: Send>(queue: &TaskQueue<u64, T>, of: fn(u64) -> T, number_of: fn(T) -> u64) {
-    let before = limit_to(in_use() + MORE);
+    let before = limit_to(ADDRESS_SPACE, in_use() + MORE);
     let push = |number| queue.push(1, of(number)).err();
     let refused = (0..u64::MAX).find_map(|number| Some((number, push(number)?)));
-    limit_to(before);
+    limit_to(ADDRESS_SPACE, before);
     let (number, NotPushed { payload, error }) = refused.expect("memory is refused some time");
     assert_eq!((number_of(payload), error), (number, Error::NoMemory));
     assert_eq!(queue.push(1, of(number)).unwrap(), number + 1);
@@ -80,9 +85,9 @@ fn comes_back<T: Send>(queue: &TaskQueue<u64, T>, of: fn(u64) -> T, number_of: f
 /// It asks for room for as many payloads as 64 KiB hold, or for one.
 fn a_batch_asks_for_little() {
     let queue: TaskQueue<u64, [u64; 1 << 17]> = TaskQueue::new().unwrap();
-    let before = limit_to(in_use() + MORE);
+    let before = limit_to(ADDRESS_SPACE, in_use() + MORE);
     let popped = queue.pop_due_many(5, usize::MAX);
-    limit_to(before);
+    limit_to(ADDRESS_SPACE, before);
     assert!(popped.unwrap().is_empty());
 }
 
@@ -98,9 +103,40 @@ fn a_batch_comes_back() {
     assert_eq!(queue.len(), Ok(0));
 }
 
+struct Nobody;
+
+impl Wake for Nobody {
+    fn wake(self: Arc<Nobody>) {}
+}
+
+/// The stack of a thread is greater than what there is.
+fn a_future_without_a_thread_is_refused() {
+    let queue: TaskQueue<u64, u64> = TaskQueue::new().unwrap();
+    let mut member = queue.join().unwrap();
+    let waker = Arc::new(Nobody).into();
+    let mut context = Context::from_waker(&waker);
+    let before = limit_to(ADDRESS_SPACE, in_use() + MORE / 16);
+    let polled = member.poll_take(&mut context);
+    limit_to(ADDRESS_SPACE, before);
+    assert_eq!(polled, Poll::Ready(Err(Error::NoMemory)));
+    assert!(member.poll_take(&mut context).is_pending());
+}
+
+/// And gives its member back.
+fn a_listener_without_a_descriptor_is_refused() {
+    let queue: TaskQueue<u64, u64> = flatpq::Options::new().members(1).open().unwrap();
+    let before = limit_to(DESCRIPTORS, 0);
+    let refused = queue.listener().err();
+    limit_to(DESCRIPTORS, before);
+    assert_eq!(refused.unwrap().raw_os_error(), Some(TOO_MANY_FILES));
+    assert!(queue.listener().is_ok());
+}
+
 /// In the item itself, and in blocks of their own.
 #[test]
 fn a_push_without_memory_is_refused() {
+    a_future_without_a_thread_is_refused();
+    a_listener_without_a_descriptor_is_refused();
     a_batch_asks_for_little();
     a_batch_comes_back();
     comes_back(&TaskQueue::new().unwrap(), |it| it, |it| it);

@@ -332,6 +332,11 @@ fn threads_drop_each_once() {
 #[repr(align(16))]
 struct Aligned(u128);
 
+/// It has no bytes, and stands in a block all the same.
+#[derive(Clone, Debug, PartialEq)]
+#[repr(align(16))]
+struct Wide;
+
 /// A payload that fits into the value, and counts its drops.
 struct Small(&'static AtomicU32);
 
@@ -376,6 +381,7 @@ fn come_out<T: Clone + PartialEq + std::fmt::Debug + Send + 'static>(payloads: &
 fn payloads_of_each_size_come_out() {
     static NUMBER: u32 = 5;
     come_out(&[(), ()]);
+    come_out(&[Wide, Wide]);
     come_out(&[true, false]);
     come_out(&['a', char::MAX]);
     come_out(&[0, 1, u64::MAX]);

@@ -1,6 +1,6 @@
 //! Words of scenarios, by the crate: futures, listeners, and calls beside them. Each says to the explorer what its call came to.
 use crate::clock;
-use crate::error::{Due, Error};
+use crate::error::{Due, Error, NotPushed};
 use crate::explorer::{self, In, Word, Wrapper, FOREVER, MOST_THREADS, UNNUMBERED};
 use crate::futures::WaitArchived;
 use crate::journal::Item;
@@ -21,6 +21,7 @@ use std::time::Instant;
 
 type Queue = TaskQueue<u64, u64>;
 type Taken = Result<(u64, u64), Error>;
+type Pushed = Result<u64, NotPushed<u64>>;
 
 const PUSH: u32 = 0;
 const POP: u32 = 1;
@@ -34,6 +35,7 @@ enum Awaited {
     Take(Pin<Box<dyn Future<Output = Taken>>>),
     TakeDue(Pin<Box<dyn Future<Output = Taken>>>),
     Archived(WaitArchived<'static, u64>, u64),
+    Push(Pin<Box<dyn Future<Output = Pushed>>>, Item),
 }
 
 /// What a thread has of the queue. A field that uses another comes before it.
@@ -93,6 +95,15 @@ fn ends(taken: Taken) -> Option<Error> {
         Err(error) => explorer::ends(POP, error as u32, Item::default(), 0),
     }
     taken.err()
+}
+
+fn ends_push(pushed: Pushed, item: Item) -> Option<Error> {
+    let (code, number) = match &pushed {
+        Ok(number) => (raw::OK, *number),
+        Err(refused) => (refused.error as u32, 0),
+    };
+    explorer::ends(PUSH, code, item, number);
+    pushed.err().map(|it| it.error)
 }
 
 fn stays(code: u32) {
@@ -164,6 +175,23 @@ extern "C" fn wait_archived_async(_: c_int, numbers: *const u64) {
     });
 }
 
+fn new_item(priority: u64) -> Item {
+    let value = explorer::next_value();
+    Item { priority, value }
+}
+
+extern "C" fn push_async(_: c_int, numbers: *const u64) {
+    let item = new_item(first_of(numbers));
+    let push = Box::pin(member().push_async(item.priority, item.value));
+    own(|it| it.awaited = Some(Awaited::Push(push, item)));
+}
+
+extern "C" fn push_async_by_queue(_: c_int, numbers: *const u64) {
+    let item = new_item(first_of(numbers));
+    let push = Box::pin(queue().push_async(item.priority, item.value));
+    own(|it| it.awaited = Some(Awaited::Push(push, item)));
+}
+
 /// Polls what the thread awaits, by its waker: what that came to.
 fn polled() -> Poll<Option<Error>> {
     let waker = own(|it| it.waker.take()).unwrap_or_else(waker::new);
@@ -177,6 +205,7 @@ fn polled() -> Poll<Option<Error>> {
         Awaited::Polls => member().poll_take(cx).map(ends),
         Awaited::Take(take) | Awaited::TakeDue(take) => take.as_mut().poll(cx).map(ends),
         Awaited::Archived(wait, _) => Pin::new(wait).poll(cx).map(Result::err),
+        Awaited::Push(push, item) => push.as_mut().poll(cx).map(|it| ends_push(it, *item)),
     };
     if done.is_pending() {
         stays(raw::EMPTY);
@@ -192,6 +221,7 @@ fn sleep_while_pending(until: u64) {
     let (call, number) = own(|it| match &it.awaited {
         Some(Awaited::TakeDue(_)) => (In::ListensForDue, 0),
         Some(Awaited::Archived(_, number)) => (In::Awaits, *number),
+        Some(Awaited::Push(..)) => (In::Pushes, 0),
         _ => (In::ListensFor, u64::MAX),
     });
     explorer::begins(call, FOREVER, number);
@@ -351,15 +381,9 @@ extern "C" fn drop_listeners(_: c_int, _: *const u64) {
  */
 
 extern "C" fn push(_: c_int, numbers: *const u64) {
-    let item = Item {
-        priority: first_of(numbers),
-        value: explorer::next_value(),
-    };
+    let item = new_item(first_of(numbers));
     explorer::begins(In::Pushes, FOREVER, 0);
-    match queue().push(item.priority, item.value) {
-        Ok(number) => explorer::ends(PUSH, raw::OK, item, number),
-        Err(refused) => explorer::ends(PUSH, refused.error as u32, item, 0),
-    }
+    ends_push(queue().push(item.priority, item.value), item);
 }
 
 /// A call that waits: wakers run in the thread that serves meanwhile.
@@ -371,6 +395,15 @@ extern "C" fn take(_: c_int, _: *const u64) {
 extern "C" fn take_due(_: c_int, _: *const u64) {
     explorer::begins(In::TakesDue, FOREVER, 0);
     ends(queue().take_due());
+}
+
+extern "C" fn pop(_: c_int, _: *const u64) {
+    explorer::begins(In::Calls, FOREVER, 0);
+    match queue().pop() {
+        Ok(None) => stays(raw::EMPTY),
+        Ok(Some(taken)) => drop(ends(Ok(taken))),
+        Err(error) => drop(ends(Err(error))),
+    }
 }
 
 extern "C" fn archive(_: c_int, numbers: *const u64) {
@@ -430,7 +463,10 @@ words! {
     c"listen-due": listen_due,
     c"move-listener": move_listeners,
     c"drop-listener": drop_listeners,
+    c"push-async": push_async,
+    c"push-async-by-queue": push_async_by_queue,
     c"push": push,
+    c"pop": pop,
     c"take": take,
     c"take-due": take_due,
     c"archive": archive,

@@ -96,6 +96,10 @@ static void payloads_show_their_keys() {
     CHECK(journal.begin()->number == 2 && *journal.begin()->item == -1.0 && (*journal.begin()++).number == 2);
     CHECK((*std::next(journal.begin())).request == request::pop);
     CHECK(std::all_of(journal.begin(), journal.end(), [](auto it) { return it.item == -1.0; }));
+    auto other = *queue.join();
+    CHECK(*other.push(3, "first of its member") == 4);
+    const auto entry = *queue.archive(3)->read(0);
+    CHECK(entry.number == 4 && entry.serial == 1);
 }
 
 static void memory_refuses_or_forgets() {

@@ -122,10 +122,13 @@ static void refuses_what_may_not_come_next(void) {
         "3 3 5 push 18446744073709551616 1 pushed\n", "03 3 5 pop got 5 1\n", "3 03 5 pop got 5 1\n", "3 3 05 pop got 5 1\n",
         "3 3 5 pop got 05 1\n", "3 3 5 pop got 5 01\n", "3 3 5 push 00 1 pushed\n", "3 2080 1 pop got 5 1\n",
         "3 3 5 pop got 5 1 3e767fbf\n" };
+    pq_journal *journal;
+    uint64_t line;
     for (size_t i = 0; i < sizeof unlawful / sizeof *unlawful; i++) {
         is_refused(unlawful[i], 3);
     }
     is_refused("3 3 5 pop got 5 1\n3 3 6 pop got 6 2\n", 4);
+    CHECK(reads("1\n", 2, &journal, &line) == PQ_NOT_LAWFUL && line == 1);
 }
 
 /* What is lawful: the last place, numbers that are 0, and a member whose first request has no entry, as memory for it was refused. */
@@ -274,8 +277,8 @@ static void signals_end_nothing(void) {
     for (int reads_first = 0; reads_first < 2; reads_first++) {
         CHECK(pipe(ends) == 0);
         pthread_t first = reads_first ? started(reads_all, &read) : started(writes, written);
-        for (int i = 0; i < 10; i++) {
-            sleep_ms(2);
+        for (int i = 0; i < 40; i++) {
+            sleep_ms(5);
             CHECK(pthread_kill(first, SIGUSR1) == 0);
         }
         pthread_t second = reads_first ? started(writes, written) : started(reads_all, &read);

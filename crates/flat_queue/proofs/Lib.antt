@@ -27,6 +27,7 @@ pub mod LineOrder
 pub mod TimeOrder
 pub mod NoteOrder
 pub mod Takings
+pub mod TakenCalls
 pub mod TakeStepping
 pub mod CallStepping
 pub mod Dues

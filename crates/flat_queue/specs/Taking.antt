@@ -1,11 +1,13 @@
 -- What a call makes of its member that takes an item out, and waits for one.
-use Rattle.std.specs.Prelude.{◌≡◌, ℕ, zero, suc, ◌≤◌, ◌⊎◌, ⊤, Option, Some, None, Result, Ok, Err}
+use Rattle.std.specs.Prelude.{◌≡◌, ℕ, zero, suc, ◌+◌, ◌≤◌, ◌⊎◌, ⊤, List, [], ◌∷◌, ◌++◌, Option, Some, None, Result, Ok, Err}
 use Rattle.std.specs.Time.{instant_nanos}
 use Rattle.std.specs.declared.time.Instant.{Instant}
 use Rattle.pq_types.specs.Item.{Item}
 use Rattle.pq_types.specs.Asked.{Request, Reply}
 use Rattle.pq_types.specs.declared.request.Request.TheVariants.{Pop}
 use Rattle.pq_types.specs.declared.answer.Reply.TheVariants.{Got, Empty}
+use Rattle.desk_core.specs.Calls.{call}
+use Rattle.desk_core.specs.declared.model.Call.{Call}
 use Rattle.flat_queue.specs.Members.{Joined}
 use Rattle.flat_queue.specs.Calling.{IsCalled, MakesCall}
 use Rattle.flat_queue.specs.OwnRequest.{EntersAtOnceBy, EntersOrWaitsBy}
@@ -144,6 +146,39 @@ OrEndsBy words Takes before (Ok (Some a)) after = Takes before (Ok a) after
 OrEndsBy words Takes before (Ok None) after =
     (line : ℕ) × (last : Joined) × TakesNoneBy words before line last × FindsNoneBy words last after
 OrEndsBy words Takes before (Err error) after = Takes before (Err error) after
+
+-- the item that a take tells, with its line, if it tells one: without a deadline, until one, and where it heeds the end
+abbrev pub told_item : Result (ℕ × Item) CallError → Option (ℕ × Item)
+told_item (Ok told) = Some told
+told_item (Err error) = None
+
+abbrev pub awaited_item : Result Awaited CallError → Option (ℕ × Item)
+awaited_item (Ok (awaited.Taken number x)) = Some (number, x)
+awaited_item (Ok (awaited.Late number now)) = None
+awaited_item (Ok (awaited.NoClock number)) = None
+awaited_item (Ok (awaited.Held told)) = None
+awaited_item (Err error) = None
+
+abbrev pub item_or_end : {A : Type 0} → (Result A CallError → Option (ℕ × Item)) → Result (Option A) CallError → Option (ℕ × Item)
+item_or_end item (Ok (Some a)) = item (Ok a)
+item_or_end item (Ok None) = None
+item_or_end item (Err error) = item (Err error)
+
+-- the entered pop in vain with this serial, on this line, if there is one
+abbrev pub vain_pop : ℕ → Option ℕ → List Call
+vain_pop serial None = []
+vain_pop serial (Some line) = call line serial Pop Empty ∷ []
+
+-- the entered pop with this serial that took this item out, on this line, if there is one
+abbrev pub taking_pop : ℕ → Option (ℕ × Item) → List Call
+taking_pop serial None = []
+taking_pop serial (Some told) = call told.0 serial Pop (Got told.1) ∷ []
+
+-- What a take adds to the entered calls of its member, where it tells this item, or none: at most one pop in vain, its first request;
+-- then exactly one pop that took this item out, its last request; and nothing else.
+pub record AddsPops (before : Joined) (told : Option (ℕ × Item)) (after : Joined) : Type 0 where
+  pub vain : Option ℕ
+  pub calls : after.pen.mine ≡ before.pen.mine ++ (vain_pop (before.pen.posts + 1) vain ++ taking_pop after.pen.posts told)
 
 -- The same of narrow items, which have one word.
 abbrev pub TakesOne : (before : Joined) (result : Result (ℕ × Item) CallError) (after : Joined) → Type 0

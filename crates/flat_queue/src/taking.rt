@@ -4,6 +4,7 @@ ghost use Rattle.desk_core.specs.Words.{word_number};
 ghost use Rattle.announce_board.specs.Tokens.{is_idle};
 ghost use Rattle.flat_queue.specs.declared.event_count.Wakes.TheVariants.{EventOrEnd};
 ghost use Rattle.flat_queue.specs.Taking.{TakesOneBy, TakesUntilBy, OrEndsBy, LooksUntilBy, LooksOnBy};
+ghost use Rattle.flat_queue.specs.Taking.{AddsPops, awaited_item, told_item};
 
 use crate::deadline::{By, Deadline, Never};
 use crate::error::CallError;
@@ -46,7 +47,8 @@ impl<S: Store<Entry<P>>, P: Part> Queue<S, P> {
     ) -> Result<(u64, Item<P>), CallError>
         requires queue { member.old.queue ≡ self.now }
         requires idle { is_idle member.old.pen.standing ≡ true }
-        ensures { TakesOneBy (word_number P.wide) member.old result member.new }
+        ensures takes { TakesOneBy (word_number P.wide) member.old result member.new }
+        ensures adds { AddsPops member.old (told_item result) member.new }
     {
         match self.take_waking(rt, member, Wakes::Event) {
             Ok(Some(told)) => Ok(told),
@@ -59,6 +61,7 @@ impl<S: Store<Entry<P>>, P: Part> Queue<S, P> {
     /// has passed before, it pops alone. The deadline ends a wait for the lock too: where others hold that, a take whose pop
     /// found no item is `Late`, and one that has made no pop is `Held`. So its pop posts nothing, as a post can't be taken back: it
     /// tries until the lock is free.
+    #[tactic(auto, using(crate::proofs::TakenCalls::awaited_adds))]
     pub fn take_until<R: Wait + TimeSource>(
         &self,
         rt: &R,
@@ -67,7 +70,8 @@ impl<S: Store<Entry<P>>, P: Part> Queue<S, P> {
     ) -> Result<Awaited<Item<P>>, CallError>
         requires queue { member.old.queue ≡ self.now }
         requires idle { is_idle member.old.pen.standing ≡ true }
-        ensures { TakesUntilBy (word_number P.wide) (R.may_tell rt.now) deadline member.old result member.new }
+        ensures takes { TakesUntilBy (word_number P.wide) (R.may_tell rt.now) deadline member.old result member.new }
+        ensures adds { AddsPops member.old (awaited_item result) member.new }
     {
         match self.take_waking_until(rt, member, deadline, Wakes::Event) {
             Ok(Some(awaited)) => Ok(awaited),
@@ -211,7 +215,8 @@ impl<'q, S: Store<Entry<P>>, P: Part> Handle<'q, S, P> {
     /// Takes the first item out of the queue, and waits for one, as `Queue::take` does: the number of the pop's journal
     /// line, and the item. Refusals: `BookFull` (10), `Spent` (11).
     pub fn take<R: Wait>(&mut self, rt: &R) -> Result<(u64, Item<P>), CallError>
-        ensures { TakesOneBy (word_number P.wide) self.old result self.new }
+        ensures takes { TakesOneBy (word_number P.wide) self.old result self.new }
+        ensures adds { AddsPops self.old (told_item result) self.new }
     {
         self.queue.take(rt, &mut self.member)
     }
@@ -222,7 +227,8 @@ impl<'q, S: Store<Entry<P>>, P: Part> Handle<'q, S, P> {
         rt: &R,
         deadline: Instant,
     ) -> Result<Awaited<Item<P>>, CallError>
-        ensures { TakesUntilBy (word_number P.wide) (R.may_tell rt.now) deadline self.old result self.new }
+        ensures takes { TakesUntilBy (word_number P.wide) (R.may_tell rt.now) deadline self.old result self.new }
+        ensures adds { AddsPops self.old (awaited_item result) self.new }
     {
         self.queue.take_until(rt, &mut self.member, deadline)
     }

@@ -2,7 +2,7 @@
 ghost use Rattle.std.specs.Prelude.{◌≡◌, true};
 ghost use Rattle.desk_core.specs.Words.{word_number};
 ghost use Rattle.announce_board.specs.Tokens.{is_idle};
-ghost use Rattle.flat_queue.specs.Taking.{OrEndsBy, TakesOneBy, TakesUntilBy};
+ghost use Rattle.flat_queue.specs.Taking.{OrEndsBy, TakesOneBy, TakesUntilBy, AddsPops, awaited_item, item_or_end, told_item};
 
 use crate::error::CallError;
 use crate::event_count::Wakes;
@@ -29,7 +29,8 @@ impl<S: Store<Entry<P>>, P: Part> Queue<S, P> {
     ) -> Result<Option<(u64, Item<P>)>, CallError>
         requires queue { member.old.queue ≡ self.now }
         requires idle { is_idle member.old.pen.standing ≡ true }
-        ensures { OrEndsBy (word_number P.wide) (TakesOneBy (word_number P.wide)) member.old result member.new }
+        ensures takes { OrEndsBy (word_number P.wide) (TakesOneBy (word_number P.wide)) member.old result member.new }
+        ensures adds { AddsPops member.old (item_or_end told_item result) member.new }
     {
         self.take_waking(rt, member, Wakes::EventOrEnd)
     }
@@ -43,7 +44,8 @@ impl<S: Store<Entry<P>>, P: Part> Queue<S, P> {
     ) -> Result<Option<Awaited<Item<P>>>, CallError>
         requires queue { member.old.queue ≡ self.now }
         requires idle { is_idle member.old.pen.standing ≡ true }
-        ensures { OrEndsBy (word_number P.wide) (TakesUntilBy (word_number P.wide) (R.may_tell rt.now) deadline) member.old result member.new }
+        ensures takes { OrEndsBy (word_number P.wide) (TakesUntilBy (word_number P.wide) (R.may_tell rt.now) deadline) member.old result member.new }
+        ensures adds { AddsPops member.old (item_or_end awaited_item result) member.new }
     {
         self.take_waking_until(rt, member, deadline, Wakes::EventOrEnd)
     }
@@ -53,7 +55,8 @@ impl<'q, S: Store<Entry<P>>, P: Part> Handle<'q, S, P> {
     /// Takes the first item out of the queue, and waits for one until the end of the queue, as `Queue::take_or_end` does: the
     /// number of the pop's journal line, and the item; `None` at the end. Refusals: `BookFull` (10), `Spent` (11).
     pub fn take_or_end<R: Wait>(&mut self, rt: &R) -> Result<Option<(u64, Item<P>)>, CallError>
-        ensures { OrEndsBy (word_number P.wide) (TakesOneBy (word_number P.wide)) self.old result self.new }
+        ensures takes { OrEndsBy (word_number P.wide) (TakesOneBy (word_number P.wide)) self.old result self.new }
+        ensures adds { AddsPops self.old (item_or_end told_item result) self.new }
     {
         self.queue.take_or_end(rt, &mut self.member)
     }
@@ -64,7 +67,8 @@ impl<'q, S: Store<Entry<P>>, P: Part> Handle<'q, S, P> {
         rt: &R,
         deadline: Instant,
     ) -> Result<Option<Awaited<Item<P>>>, CallError>
-        ensures { OrEndsBy (word_number P.wide) (TakesUntilBy (word_number P.wide) (R.may_tell rt.now) deadline) self.old result self.new }
+        ensures takes { OrEndsBy (word_number P.wide) (TakesUntilBy (word_number P.wide) (R.may_tell rt.now) deadline) self.old result self.new }
+        ensures adds { AddsPops self.old (item_or_end awaited_item result) self.new }
     {
         self.queue.take_until_or_end(rt, &mut self.member, deadline)
     }

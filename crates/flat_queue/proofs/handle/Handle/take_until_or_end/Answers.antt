@@ -9,5 +9,5 @@ invariant_of-self g c =
     let before = c.self.inside.member in
     let after = c.take_until_or_end.new.member in
     let h = or_ends_idle _ (TakesUntilBy (word_number g.P.Part.wide) (g.R.TimeSource.may_tell c.args.rt.now) c.args.deadline) before after c.take_until_or_end.result
-    (λ told. until_idle _ (g.R.TimeSource.may_tell c.args.rt.now) c.args.deadline before after told c.self.invariant.1) c.take_until_or_end.ensures in
+    (λ told. until_idle _ (g.R.TimeSource.may_tell c.args.rt.now) c.args.deadline before after told c.self.invariant.1) c.take_until_or_end.ensures.takes in
     (h.0 ∙ c.self.invariant.0, h.1)

@@ -1,0 +1,12 @@
+use Rattle.desk_core.specs.Words.{word_number}
+use Rattle.flat_queue.specs.Taking.{TakesUntilBy, awaited_item}
+use Rattle.flat_queue.proofs.TakenCalls.{until_adds, or_ends_add}
+use Rattle.flat_queue.proofs.queue.Queue.take_until_or_end.Goals as goal
+
+pub returns-clause-adds : goal.returns-clause-adds
+returns-clause-adds g c =
+    let may_tell = g.R.TimeSource.may_tell c.args.rt.now in
+    let before = c.args.member.now in
+    let after = c.take_waking_until.new.member in
+    or_ends_add _ (TakesUntilBy (word_number g.P.Part.wide) may_tell c.args.deadline) awaited_item before after c.take_waking_until.result
+    (λ told. until_adds _ may_tell c.args.deadline before after told) c.take_waking_until.ensures.takes

@@ -68,6 +68,7 @@ impl<S: Store<Entry>> Queue<S> {
     /// `archive` copies; all contracts speak of the whole journal. The ids are refused as by `with_store`,
     /// then `NoMemory` where memory was. All memory that the queue will ever need is taken here, but for
     /// the growth of the store.
+    #[tactic(auto, unfolding(pq_book::specs::Pages::shortage))]
     pub fn lasting(
         alloc: Global,
         ids: &[u64],
@@ -125,6 +126,7 @@ impl<S: Store<Entry<u64>>> Queue<S, u64> {
 
     /// The same, as `lasting` opens one: with a journal of 2^56 lines, of which memory holds the last
     /// 65,536, 4 MiB.
+    #[tactic(auto, unfolding(pq_book::specs::Pages::shortage))]
     pub fn wide_lasting(
         alloc: Global,
         ids: &[u64],

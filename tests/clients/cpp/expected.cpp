@@ -224,9 +224,9 @@ static bool what_is_not_due_is_drained_too() {
 
 static bool an_end_reaches_each_wait() {
     auto queue = *numbers::open();
+    CHECK(queue.push(1, 1) && queue.take(flatpq::now) && queue.take(flatpq::now).error() == code::empty && !queue.is_shut());
     std::thread waiting([&] { CHECK(queue.take().error() == code::shut); });
     std::this_thread::sleep_for(5ms);
-    CHECK(queue.push(1, 1) && queue.take(flatpq::now) && queue.take(flatpq::now).error() == code::empty && !queue.is_shut());
     CHECK(queue.shut() == code::ok && queue.is_shut());
     waiting.join();
     return queue.push(1, 1).error() == code::shut && queue.take(flatpq::now).error() == code::shut;

@@ -302,11 +302,10 @@ static pq_code take_due(wait *it) {
 /* Nothing was there until then. At a queue that is shut a step says whether that is the end. Where the lock is held nothing is known. */
 static pq_code see_end(wait *it, pq_code code) {
     pq_member *member = it->member;
-    uint64_t priority = bound_of(it);
     if (code != PQ_EMPTY || LIKELY(__atomic_load_n(&member->queue->is_shut, SEQ) == 0)) {
         return code;
     }
-    code = flatpq_step_take_at_once(member, priority, it->answer);
+    code = flatpq_step_take_at_once(member, bound_of(it), it->answer);
     end_announcing(member);
     return code == PQ_TIMED_OUT ? PQ_EMPTY : code;
 }

@@ -25,7 +25,7 @@ template <class Work> static void run(std::uint32_t count, Work work) {
 static void each_item_comes_out_once() {
     constexpr std::uint32_t threads = 100;
     const std::uint32_t each = requests(200);
-    flatpq::task_queue<std::unique_ptr<std::uint32_t>> queue({8});
+    flatpq::task_queue<std::unique_ptr<std::uint32_t>> queue({8, flatpq::keeping::forgets, 65536});
     std::vector<std::atomic<int>> seen(threads * each);
     run(threads, [&](std::uint32_t thread) {
         for (std::uint32_t i = 0; i < each; ++i) {

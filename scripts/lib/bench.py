@@ -1,5 +1,5 @@
 """Times a priority queue that threads share, by `queue_bench` for Rattle and by clients of the archive, beside locks and queues of other
-makers, which keep the same data where they can: 24 bytes an entry, 64 a line, the last 65,536 lines.
+makers, which keep the same data where they can: 24 bytes an entry, 64 a line, the last 1,024 lines, those for Rattle 65,536.
 
 A run that lost an item, or a line of its journal, fails the whole. All runs of a table are made in one shuffled order, so many of each,
 and the table has their medians. The tables:
@@ -27,7 +27,7 @@ journal and without; rust-book and rust-heap, a Mutex round BinaryHeap likewise;
 java, PriorityBlockingQueue. Of queues of functions, each of which is called once it is popped: cpp-tasks and rust-tasks, those of the
 library; cpp-functions, a std::mutex round std::priority_queue, and rust-closures, a Mutex round BinaryHeap. Of light: c-queue and c-own;
 rust-crate, the same queue by the crate for Rust; std-mutex and adaptive-mutex, such mutexes around std::priority_queue and the last
-65,536 lines; rust-mutex, the same in Rust, and rust-parking-lot, that by a mutex of parking_lot (librust-parking-lot-dev); tbb. Of hold:
+1,024 lines; rust-mutex, the same in Rust, and rust-parking-lot, that by a mutex of parking_lot (librust-parking-lot-dev); tbb. Of hold:
 c-queue, and a std::mutex and such lines around std-heap, std::priority_queue, four-heap, a 4-ary heap, and hole-heap, a binary one with
 holes. What isn't there is told, and has no rows.
 

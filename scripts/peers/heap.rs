@@ -66,7 +66,7 @@ impl Heap {
         };
         Heap {
             entries: BinaryHeap::new(),
-            ring: vec![line; if has_lines { 65536 } else { 0 }],
+            ring: vec![line; if has_lines { 1024 } else { 0 }],
             calls: 0,
         }
     }

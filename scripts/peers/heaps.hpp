@@ -1,5 +1,5 @@
 // What the queue is measured against, for the programs in C++: heaps of items behind a lock, with a line for each call in a ring. All keep
-// the data that the queue keeps: 24 bytes an item, 64 a line, the last 65,536 lines.
+// the data that the queue keeps: 24 bytes an item, 64 a line, the last 1,024 lines.
 #ifndef HEAPS_HPP
 #define HEAPS_HPP
 
@@ -170,7 +170,7 @@ private:
 template <class Lock, class Heap, bool HasLines = true> class locked {
 public:
     // All of the ring is written once, so that none of its pages is new in the run.
-    explicit locked(std::uint32_t) : ring_(HasLines ? 65536 : 0, line{1, 1, request::pop, {1, 1}, reply::empty, {1, 1}}) {}
+    explicit locked(std::uint32_t) : ring_(HasLines ? 1024 : 0, line{1, 1, request::pop, {1, 1}, reply::empty, {1, 1}}) {}
 
     void push(std::uint32_t worker, item pushed) {
         const std::lock_guard<Lock> held(lock_);

@@ -161,6 +161,7 @@ fn open(
 /// Unless `tickets` is 0 the store keeps the places of tickets, so that a removal takes no longer than a pop.
 /// Refusals, which leave the handle as it was: 42 where it isn't empty, 5 where a number is out of its range, 6 no memory.
 #[unsafe(no_mangle)]
+#[tactic(auto, unfolding(pq_book::specs::Pages::long_page, pq_book::specs::Pages::shortage))]
 pub extern "C" fn pq_core_open(
     alloc: Global,
     threads: u32,

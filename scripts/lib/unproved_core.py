@@ -19,7 +19,7 @@ from unproved import TARGET, Build, NotBuilt
 from unproved_module import without_checks
 
 CRATE = "queue_c"
-EXPORTED = re.compile(r'#\[unsafe\(no_mangle\)\]\npub extern "C" fn (\w+)\(([^()]*)\)')
+EXPORTED = re.compile(r'#\[unsafe\(no_mangle\)\]\n(?:#\[.*\]\n)*pub extern "C" fn (\w+)\(([^()]*)\)')
 NUMBERS = ("u8", "u16", "u32", "u64", "usize")
 # A call as a function of the module, and the one that shows it by its own name, which a proved crate has too.
 CALL = re.compile(r'(?m)^define internal noundef (\w+) (@"queue_c::(?:\w+::)*(pq_core_\w+)")\((.*)\) (#\d+) \{$')

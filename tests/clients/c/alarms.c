@@ -35,18 +35,12 @@ static pq_code take(alarm_of *it) {
     return pq_take_due_or_listen(it->member, it->timer, &it->item, &it->number);
 }
 
-static int is_readable_in(const alarm_of *it, int milliseconds) {
-    struct pollfd one = { 0, POLLIN, 0 };
-    one.fd = it->timer;
-    return poll(&one, 1, milliseconds) == 1 && one.revents == POLLIN;
-}
-
 static int rings(const alarm_of *it) {
-    return is_readable_in(it, 60000);
+    return is_readable(it->timer, 60000);
 }
 
 static int is_quiet(const alarm_of *it) {
-    return !is_readable_in(it, 10);
+    return !is_readable(it->timer, 10);
 }
 
 static void push(pq_member *member, uint64_t priority) {
@@ -70,7 +64,7 @@ static void it_rings_once_the_first_is_due(pq_queue *queue, pq_member *member) {
     push(pq_own(queue), second);
     push(pq_own(queue), first);
     CHECK(rings(&it) && take(&it) == PQ_NOT_DUE && is_item(it.item, first, 4) && it.number == 9);
-    CHECK(!is_readable_in(&it, 0) || pq_now() >= first);
+    CHECK(!is_readable(it.timer, 0) || pq_now() >= first);
     CHECK(rings(&it) && pq_now() >= first && take(&it) == PQ_OK && is_item(it.item, first, 4) && it.number != 9);
     CHECK(take(&it) == PQ_NOT_DUE && is_item(it.item, second, 4) && rings(&it) && pq_now() >= second);
     CHECK(take(&it) == PQ_OK && is_item(it.item, second, 4) && take(&it) == PQ_EMPTY && is_quiet(&it));

@@ -42,10 +42,14 @@ static void a_deadline_may_be_past(pq_member *member) {
     }
 }
 
-/* Items of which one half alone is other than 0, each a while after the last. */
+/* Items of which one half alone is other than 0, each a while after the last was taken. */
 static void *push_late(void *member) {
     for (uint64_t i = 0; i < 3; i++) {
-        sleep_ms(15);
+        uint64_t size;
+        do {
+            sleep_ms(15);
+            CHECK(pq_size((pq_member *)member, PQ_FOREVER, &size, NULL) == PQ_OK);
+        } while (size > 0);
         CHECK(pq_push((pq_member *)member, item_of(i * UPPER, UINT64_MAX - i), PQ_FOREVER, NULL) == PQ_OK);
     }
     return NULL;

@@ -181,6 +181,12 @@ fn where_none_of_its_kind_has_a_member_a_future_is_refused() {
     assert_eq!(run(queue.take_due_async(sleep)), Err(Error::AllJoined));
     queue.push(1, 2).unwrap();
     assert_eq!(run(takes), Ok((1, 2)));
+    let queue = Options::new().members(2).most_items(1).open().unwrap();
+    queue.push(Instant::now() + LONG, 1).unwrap();
+    let mut due = queue.take_due_async(|_| std::future::pending::<()>());
+    assert!(polled(&mut due, &Counted::new()).is_pending());
+    let refused = run(queue.push_async(Instant::now(), 2)).unwrap_err();
+    assert_eq!((refused.error, refused.payload), (Error::AllJoined, 2));
 }
 
 /// Threads run tasks that take in loops, and drop some of their futures, while others push.

@@ -150,8 +150,8 @@ public:
         return why == code::ok ? result<std::uint64_t>(number) : why;
     }
 
-    /// Waits for an item, and takes the first one out. code::empty: none came until then; code::timed_out; code::shut: it is shut and empty. A take
-    /// that would get the last free member waits for one, as a call does. So of `members` threads at most `members` - 1 sleep here.
+    /// Waits for an item, and takes the first one out. code::empty: none came until then; code::timed_out; code::shut: it is shut and empty. By the
+    /// queue itself a thread waits without a member where the others' wait too, so any number of threads may.
     found take(deadline until = {}) noexcept { return got<pq_take>(until); }
 
     /// The same once the first item is due: it waits for that in a shut queue too, and sleeps as a take does. Keys are times. code::not_due:

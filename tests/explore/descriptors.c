@@ -27,6 +27,7 @@ ssize_t __real_read(int descriptor, void *to, size_t room);
 long __real_syscall(long number, ...);
 int __real_clock_gettime(clockid_t clock, struct timespec *time);
 pq_code __real_pq_open(const pq_options *options, pq_queue **opened);
+void __real_pq_give_back(pq_member *member);
 
 void descriptors_begin(void) {
     made = 0;
@@ -172,4 +173,12 @@ pq_code __wrap_pq_open(const pq_options *options, pq_queue **opened) {
     pq_code code = __real_pq_open(options, opened);
     queue = code == PQ_OK ? *opened : NULL;
     return code;
+}
+
+/* A future may give its member away and get one again in one poll: that is another use (proved.c). */
+void __wrap_pq_give_back(pq_member *member) {
+    __real_pq_give_back(member);
+    if (me != NULL) {
+        me->calls++;
+    }
 }

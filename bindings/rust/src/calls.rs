@@ -451,8 +451,8 @@ macro_rules! calls {
 macro_rules! takes {
     ($Type:ident $($mutable:tt)?) => {
         impl<K: Key, T: Send> $Type<K, T> {
-            /// Waits for a payload, and takes the first one out, with its key. The thread keeps its member meanwhile. By the queue itself a take
-            /// that would get the last free member waits for another one, as a call does where all are in use.
+            /// Waits for a payload, and takes the first one out, with its key. The thread keeps its member meanwhile; but by the queue itself it
+            /// waits without one where those of the others wait too, so any number of threads may.
             ///
             /// # Errors
             ///

@@ -6,6 +6,7 @@ use crate::key::{Key, TimeKey};
 use crate::raw::{self, Notify};
 use crate::sync::Mutex;
 use crate::tasks::{Shared, TaskMember, TaskQueue};
+use crate::turns::{Line, Turn};
 use std::collections::BTreeMap;
 use std::future::Future;
 use std::mem;
@@ -241,22 +242,22 @@ impl<K: Key, T: Send> TaskMember<K, T> {
 
 impl<K: Key, T: Send> TaskQueue<K, T> {
     /// Waits for a payload by a future, as [`TaskMember::take_async`] does. A future that is polled joins, and gives that member back when
-    /// it is ready or dropped. A task that takes in a loop joins once, and awaits by that member: this takes half the time.
+    /// it is ready or dropped. Where none is left it waits without one, until another such future gives its own back: so any number may wait.
+    /// A task that takes in a loop joins once, and awaits by that member: this takes half the time.
     ///
     /// # Errors
     ///
-    /// Those of [`TaskMember::take_async`], and [`Error::AllJoined`] where no member is left. So one future less than members waits at once: a
-    /// program with more tasks that wait has some take for the others.
+    /// Those of [`TaskMember::take_async`], but [`Error::AllJoined`] only where no member is left, and no other such future has one.
     pub fn take_async(&self) -> Take<'_, K, T> {
-        Take(Taker::Queue(self, None))
+        Take(Taker::by_queue(self, &self.shared.lines.any))
     }
 
     /// Puts a payload in, and waits by a future while the queue has no room, as [`TaskMember::push_async`] does. Only where it finds none it
-    /// joins, and gives that member back when it is ready or dropped.
+    /// joins, and waits so as [`TaskQueue::take_async`] does, for other futures that push.
     ///
     /// # Errors
     ///
-    /// Those of [`TaskMember::push_async`], and [`Error::AllJoined`] where no member is left.
+    /// Those of [`TaskMember::push`] and [`TaskQueue::take_async`], each with the payload.
     ///
     /// ```
     /// use std::future::Future;
@@ -277,10 +278,11 @@ impl<K: Key, T: Send> TaskQueue<K, T> {
     /// # Ok::<(), flatpq::Error>(())
     /// ```
     pub fn push_async(&self, key: K, payload: T) -> Push<'_, K, T> {
-        Push::by(Taker::Queue(self, None), key, payload)
+        Push::by(Taker::by_queue(self, &self.shared.lines.room), key, payload)
     }
 
-    /// Waits by a future until the first payload is due, as [`TaskMember::take_due_async`] does, by a member that it joins.
+    /// Waits by a future until the first payload is due, as [`TaskMember::take_due_async`] does, by a member that it joins, or without one as
+    /// [`TaskQueue::take_async`] does, for other futures that wait for what is due.
     ///
     /// # Errors
     ///
@@ -291,7 +293,7 @@ impl<K: Key, T: Send> TaskQueue<K, T> {
         S: FnMut(Instant) -> F,
         F: Future<Output = ()>,
     {
-        TakeDue::by(Taker::Queue(self, None), sleep)
+        TakeDue::by(Taker::by_queue(self, &self.shared.lines.due), sleep)
     }
 }
 
@@ -339,8 +341,40 @@ debug_by_name!(WaitArchived<'a, T>);
 /// By whom a future takes or pushes.
 enum Taker<'a, K, T> {
     Member(&'a mut TaskMember<K, T>),
-    /// By a member that it joins.
-    Queue(&'a TaskQueue<K, T>, Option<TaskMember<K, T>>),
+    Queue(ByQueue<'a, K, T>),
+}
+
+/// By a member that it joins, while it has a turn. The member is given back before that ends.
+struct ByQueue<'a, K, T> {
+    queue: &'a TaskQueue<K, T>,
+    joined: Option<TaskMember<K, T>>,
+    turn: Turn<'a>,
+}
+
+impl<'a, K, T> Taker<'a, K, T> {
+    fn by_queue(queue: &'a TaskQueue<K, T>, line: &'a Line) -> Taker<'a, K, T> {
+        Taker::Queue(ByQueue {
+            queue,
+            joined: None,
+            turn: line.turn(),
+        })
+    }
+}
+
+impl<K, T> ByQueue<'_, K, T> {
+    fn end(&mut self) {
+        drop(self.joined.take());
+        // Another thread of the parent may have had the line's lock.
+        if !self.queue.shared.is_forked() {
+            self.turn.end();
+        }
+    }
+}
+
+impl<K, T> Drop for ByQueue<'_, K, T> {
+    fn drop(&mut self) {
+        self.end();
+    }
 }
 
 impl<K: Key, T: Send> Taker<'_, K, T> {
@@ -348,25 +382,55 @@ impl<K: Key, T: Send> Taker<'_, K, T> {
     fn member(&mut self) -> Result<&mut TaskMember<K, T>, Error> {
         match self {
             Taker::Member(member) => Ok(member),
-            Taker::Queue(_, Some(joined)) => Ok(joined),
-            Taker::Queue(queue, joined) => Ok(joined.insert(queue.join()?)),
+            Taker::Queue(by) => match &mut by.joined {
+                Some(joined) => Ok(joined),
+                none => Ok(none.insert(by.queue.join()?)),
+            },
         }
     }
 
-    // The future is ready: a member that was joined is given back.
-    fn give_back(&mut self) {
-        if let Taker::Queue(_, joined) = self {
-            drop(joined.take());
+    fn begin(&mut self) -> Result<(), Error> {
+        if let Taker::Queue(by) = self {
+            if by.queue.shared.is_forked() {
+                return Err(Error::Forked);
+            }
+            by.turn.begin();
+        }
+        Ok(())
+    }
+
+    // Gives the member back that it joined, and waits until one is left, if another of its line has one.
+    fn waits(&mut self, waker: &Waker) -> bool {
+        match self {
+            Taker::Member(_) => false,
+            Taker::Queue(by) => {
+                drop(by.joined.take());
+                by.turn.waits(waker)
+            }
         }
     }
 
-    fn poll(
+    // Polls. Where no member is left it does so once more, as the last of its line that had one may have given it back meanwhile.
+    fn poll<R>(
         &mut self,
-        poll: impl FnOnce(&mut TaskMember<K, T>) -> Poll<Result<(K, T), Error>>,
-    ) -> Poll<Result<(K, T), Error>> {
-        let polled = poll(self.member()?);
-        if polled.is_ready() {
-            self.give_back();
+        cx: &mut Context<'_>,
+        mut poll: impl FnMut(&mut Self, &mut Context<'_>) -> Poll<Result<R, Error>>,
+    ) -> Poll<Result<R, Error>> {
+        self.begin()?;
+        let mut polled = poll(self, cx);
+        for tries_again in [true, false] {
+            if !matches!(polled, Poll::Ready(Err(Error::AllJoined))) {
+                break;
+            }
+            if self.waits(cx.waker()) {
+                return Poll::Pending;
+            }
+            if tries_again {
+                polled = poll(self, cx);
+            }
+        }
+        if let (Taker::Queue(by), Poll::Ready(_)) = (self, &polled) {
+            by.end();
         }
         polled
     }
@@ -389,7 +453,7 @@ impl<K: Key, T: Send> Future for Take<'_, K, T> {
     type Output = Result<(K, T), Error>;
 
     fn poll(mut self: Pin<&mut Self>, cx: &mut Context<'_>) -> Poll<Self::Output> {
-        self.0.poll(|member| member.poll_take(cx))
+        self.0.poll(cx, |by, cx| by.member()?.poll_take(cx))
     }
 }
 
@@ -430,7 +494,7 @@ where
             sleep,
             timer,
         } = &mut *self;
-        taker.poll(|member| member.poll_take_due(sleep, timer, cx))
+        taker.poll(cx, |by, cx| by.member()?.poll_take_due(sleep, timer, cx))
     }
 }
 
@@ -454,20 +518,27 @@ impl<'a, K, T> Push<'a, K, T> {
 // The payload is moved, and never pinned.
 impl<K, T> Unpin for Push<'_, K, T> {}
 
-impl<K: Key, T: Send> Push<'_, K, T> {
-    // Tries without a member of its own first.
-    fn pushed(&mut self, payload: T, cx: &mut Context<'_>) -> Result<u64, NotPushed<T>> {
-        let payload = match &self.by {
-            Taker::Queue(queue, None) => match queue.until(Until::NOW).push(self.key, payload) {
-                Err(refused) if matches!(refused.error, Error::Full | Error::TimedOut) => refused.payload,
+// Puts a payload in, at first without a member of its own. `Error::Full`: it listens.
+fn pushed<K: Key, T: Send>(
+    by: &mut Taker<'_, K, T>,
+    key: K,
+    payload: T,
+    cx: &mut Context<'_>,
+) -> Result<u64, NotPushed<T>> {
+    let payload = match by {
+        Taker::Queue(by) if by.joined.is_none() => {
+            match by.queue.until(Until::NOW).push(key, payload) {
+                Err(refused) if matches!(refused.error, Error::Full | Error::TimedOut) => {
+                    refused.payload
+                }
                 done => return done,
-            },
-            _ => payload,
-        };
-        match self.by.member() {
-            Ok(member) => member.push_or_listen(self.key, payload, cx),
-            Err(error) => Err(NotPushed { payload, error }),
+            }
         }
+        _ => payload,
+    };
+    match by.member() {
+        Ok(member) => member.push_or_listen(key, payload, cx),
+        Err(error) => Err(NotPushed { payload, error }),
     }
 }
 
@@ -475,17 +546,24 @@ impl<K: Key, T: Send> Future for Push<'_, K, T> {
     type Output = Result<u64, NotPushed<T>>;
 
     fn poll(mut self: Pin<&mut Self>, cx: &mut Context<'_>) -> Poll<Self::Output> {
-        let payload = self.payload.take().expect("a push that is ready is over");
-        match self.pushed(payload, cx) {
-            Err(refused) if refused.error == Error::Full => {
-                self.payload = Some(refused.payload);
-                Poll::Pending
+        const OVER: &str = "a push that is ready is over";
+        let Push { by, key, payload } = &mut *self;
+        let polled = by.poll(cx, |by, cx| {
+            match pushed(by, *key, payload.take().expect(OVER), cx) {
+                Ok(number) => Poll::Ready(Ok(number)),
+                Err(refused) => {
+                    *payload = Some(refused.payload);
+                    match refused.error {
+                        Error::Full => Poll::Pending,
+                        error => Poll::Ready(Err(error)),
+                    }
+                }
             }
-            done => {
-                self.by.give_back();
-                Poll::Ready(done)
-            }
-        }
+        });
+        polled.map_err(|error| {
+            let payload = payload.take().expect(OVER);
+            NotPushed { payload, error }
+        })
     }
 }
 

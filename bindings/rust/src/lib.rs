@@ -75,6 +75,7 @@ mod payload;
 mod raw;
 mod sync;
 mod tasks;
+mod turns;
 
 pub use batches::Pushed;
 pub use calls::{Limited, Number};

@@ -10,6 +10,7 @@ use crate::key::{Key, TimeKey};
 use crate::options::Options;
 use crate::payload::{self, payload_of, value_of};
 use crate::raw::{self, RawMember, RawOptions, RawQueue};
+use crate::turns::Lines;
 use std::cell::Cell;
 use std::marker::PhantomData;
 use std::os::raw::c_void;
@@ -24,6 +25,7 @@ pub struct Shared<T> {
     /// A push may wait for room.
     pub is_bounded: bool,
     pub archives: Archives,
+    pub lines: Lines,
     // Payloads go from thread to thread, and none is used by two at once.
     payloads: PhantomData<Mutex<T>>,
 }
@@ -45,6 +47,11 @@ impl<T> Shared<T> {
 
     fn shut(&self) -> Result<(), Error> {
         Error::unless_ok(after::calling(|| self.queue.shut()))
+    }
+
+    /// No entry has the number 0, so this never waits.
+    pub fn is_forked(&self) -> bool {
+        self.queue.wait_archived(0, 0) == Error::Forked as u32
     }
 }
 
@@ -136,6 +143,7 @@ impl<K: Key, T: Send> TaskQueue<K, T> {
             times,
             is_bounded: options.most_items > 0,
             archives: Archives::default(),
+            lines: Lines::default(),
             payloads: PhantomData,
         };
         Ok(TaskQueue {

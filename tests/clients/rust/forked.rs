@@ -1,8 +1,12 @@
 //! In children that are forked while threads are busy each call is refused, and queues and members end without waiting.
-use flatpq::{Error, TaskMember, TaskQueue, Until};
+use flatpq::{Error, Queue, Take, TaskMember, TaskQueue, Until};
+use std::future::Future;
 use std::os::unix::io::AsRawFd;
+use std::pin::Pin;
 use std::ptr;
 use std::sync::atomic::{AtomicBool, AtomicU32, Ordering::Relaxed};
+use std::sync::Arc;
+use std::task::{Context, Poll, Wake, Waker};
 use std::thread;
 use std::time::Duration;
 
@@ -108,6 +112,43 @@ fn children_are_refused_and_none_hangs() {
     assert!(queue.pop().unwrap().is_some());
     drop((own, queue));
     assert_eq!(DROPS.load(Relaxed), 1);
+}
+
+struct Nobody;
+
+impl Wake for Nobody {
+    fn wake(self: Arc<Nobody>) {}
+}
+
+fn is_polled(take: &mut Take<'_, u64, u64>, polled: Poll<Result<(u64, u64), Error>>) -> bool {
+    let waker = Waker::from(Arc::new(Nobody));
+    Pin::new(take).poll(&mut Context::from_waker(&waker)) == polled
+}
+
+/// Futures of a queue share a lock, which another thread may have.
+#[test]
+fn a_child_waits_for_no_future() {
+    let (queue, is_over) = (Queue::new().unwrap(), AtomicBool::new(false));
+    let listens = || {
+        let mut take = queue.take_async();
+        assert!(is_polled(&mut take, Poll::Pending));
+        take
+    };
+    thread::scope(|threads| {
+        for _ in 0..2 {
+            threads.spawn(|| {
+                while !is_over.load(Relaxed) {
+                    drop(listens());
+                }
+            });
+        }
+        let each = (0..CHILDREN).all(|_| {
+            let mut take = listens();
+            forked(move || is_polled(&mut take, Poll::Ready(Err(Error::Forked))))
+        });
+        is_over.store(true, Relaxed);
+        assert!(each);
+    });
 }
 
 /// The child has the parent's descriptor too.

@@ -1,75 +1,16 @@
 //! Takes and pushes by futures, on an executor of this test's own: what is there, or has room, is ready at once, a push, a pop and a shut wake, one
 //! that is dropped when it was woken wakes the next, and threads that wait and futures lose no payload together. By a member, and by the queue.
+mod executor;
+
+use executor::{polled, run, run_all, Counted, LONG};
 use flatpq::{Error, Member, NotPushed, Options, Queue, TaskQueue};
 use std::future::Future;
 use std::pin::Pin;
 use std::sync::atomic::{AtomicUsize, Ordering};
 use std::sync::{Arc, Mutex};
-use std::task::{Context, Poll, RawWaker, RawWakerVTable, Wake, Waker};
-use std::thread::{self, Thread};
+use std::task::{Context, Poll, RawWaker, RawWakerVTable, Waker};
+use std::thread;
 use std::time::{Duration, Instant};
-
-const LONG: Duration = Duration::from_secs(60);
-
-/// Counts how often it is woken, and lets a thread go on.
-struct Counted {
-    wakes: AtomicUsize,
-    thread: Thread,
-}
-
-impl Counted {
-    fn new() -> Arc<Counted> {
-        Arc::new(Counted {
-            wakes: AtomicUsize::new(0),
-            thread: thread::current(),
-        })
-    }
-
-    fn wakes(&self) -> usize {
-        self.wakes.load(Ordering::SeqCst)
-    }
-}
-
-impl Wake for Counted {
-    fn wake(self: Arc<Counted>) {
-        self.wakes.fetch_add(1, Ordering::SeqCst);
-        self.thread.unpark();
-    }
-}
-
-fn polled<F: Future + Unpin>(future: &mut F, counted: &Arc<Counted>) -> Poll<F::Output> {
-    let waker = Waker::from(Arc::clone(counted));
-    Pin::new(future).poll(&mut Context::from_waker(&waker))
-}
-
-/// Runs futures in this thread until all are ready: each is polled where it was woken.
-fn run_all<T>(mut futures: Vec<Pin<Box<dyn Future<Output = T> + '_>>>) -> Vec<T> {
-    let counted: Vec<_> = futures.iter().map(|_| Counted::new()).collect();
-    let mut ready: Vec<Option<T>> = futures.iter().map(|_| None).collect();
-    let mut polled_at = vec![usize::MAX; futures.len()];
-    while ready.iter().any(Option::is_none) {
-        for (at, future) in futures.iter_mut().enumerate() {
-            let wakes = counted[at].wakes();
-            if ready[at].is_none() && polled_at[at] != wakes {
-                polled_at[at] = wakes;
-                if let Poll::Ready(output) = polled(future, &counted[at]) {
-                    ready[at] = Some(output);
-                }
-            }
-        }
-        let idle = Instant::now();
-        let is_woken = |at: usize| ready[at].is_none() && polled_at[at] != counted[at].wakes();
-        while ready.iter().any(Option::is_none) && !(0..ready.len()).any(is_woken) {
-            assert!(idle.elapsed() < LONG);
-            thread::park_timeout(LONG);
-        }
-    }
-    ready.into_iter().flatten().collect()
-}
-
-fn run<'a, T: 'a>(future: impl Future<Output = T> + 'a) -> T {
-    run_all(vec![Box::pin(future)]).remove(0)
-}
 
 fn members<const COUNT: usize>(queue: &Queue) -> [Member; COUNT] {
     [(); COUNT].map(|()| queue.join().unwrap())
@@ -145,10 +86,10 @@ fn a_future_of_the_queue_joins_while_it_waits() {
     let mut takes = [queue.take_async(), queue.take_async(), queue.take_async()];
     assert!(polled(&mut takes[0], &counted).is_pending());
     assert!(polled(&mut takes[1], &counted).is_pending());
-    let refused = Poll::Ready(Err(Error::AllJoined));
-    assert_eq!(polled(&mut takes[2], &counted), refused);
+    assert!(polled(&mut takes[2], &counted).is_pending());
     let [first, second, mut third] = takes;
     drop(second);
+    assert_eq!(counted.wakes(), 1);
     assert_eq!(queue.until(Duration::ZERO).pop(), Ok(None));
     queue.leave();
     thread::scope(|scope| {

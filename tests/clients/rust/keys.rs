@@ -1,8 +1,9 @@
 //! Payloads come out in the order of their keys, and each key as it was pushed: of integers and floating-point numbers, durations and
 //! moments, and of types of a program's own.
-use flatpq::{Due, Key, TaskQueue};
+use flatpq::{Due, Key, TaskQueue, TickKey, TimeKey};
 use std::cmp::{Ordering, Reverse};
 use std::fmt::Debug;
+use std::marker::PhantomData;
 use std::num::{NonZeroI8, NonZeroIsize, NonZeroU32, NonZeroU64};
 use std::ops::Neg;
 use std::thread;
@@ -223,4 +224,46 @@ fn a_type_of_a_program_s_own_is_a_key() {
     let keys = [key(0, 9), key(1, 0), key(1, 1), key(255, 0)];
     are_in_order(&keys);
     come_back(&keys, |key| key);
+}
+
+/// Whether a type has a trait: the type's own constant comes before that of a trait which all have.
+macro_rules! has {
+    ($Trait:ident: $($Type:ty),*) => {{
+        struct Asked<K>(PhantomData<K>);
+        trait Otherwise {
+            const HAS: bool = false;
+        }
+        impl<K> Otherwise for Asked<K> {}
+        impl<K: $Trait> Asked<K> {
+            const HAS: bool = true;
+        }
+        [$(Asked::<$Type>::HAS),*]
+    }};
+}
+
+/// Integers count from a start, and a moment is a time by itself. Other keys would never be due, or lose their order.
+#[test]
+fn only_integers_and_moments_are_times() {
+    let all = [true; 10];
+    assert_eq!(
+        has!(TimeKey: u8, u16, u32, u64, usize, i8, i16, i32, i64, isize),
+        all
+    );
+    assert_eq!(
+        has!(TickKey: u8, u16, u32, u64, usize, i8, i16, i32, i64, isize),
+        all
+    );
+    assert_eq!(
+        (has!(TimeKey: Instant), has!(TickKey: Instant)),
+        ([true], [false])
+    );
+    let none = [false; 9];
+    assert_eq!(
+        has!(TimeKey: f32, f64, Duration, Reverse<u32>, Reverse<Instant>, bool, (u32, u32), NonZeroU32, Version),
+        none
+    );
+    assert_eq!(
+        has!(TickKey: f32, f64, Duration, Reverse<u32>, Reverse<Instant>, bool, (u32, u32), NonZeroU32, Version),
+        none
+    );
 }

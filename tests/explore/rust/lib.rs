@@ -32,6 +32,8 @@ mod payload;
 mod raw;
 #[path = "../../../bindings/rust/src/tasks.rs"]
 mod tasks;
+#[path = "../../../bindings/rust/src/turns.rs"]
+mod turns;
 
 mod explorer;
 mod sync;

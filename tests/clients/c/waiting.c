@@ -5,7 +5,7 @@
 
 #include <signal.h>
 #include <string.h>
-#include <unistd.h>
+#include <sys/resource.h>
 
 static const uint64_t UPPER = (uint64_t)1 << 32;
 static uint64_t entries; /* how many requests there were that have one */
@@ -44,9 +44,14 @@ static void a_deadline_may_be_past(pq_member *member) {
     }
 }
 
-/* Items of which one half alone is other than 0, each a while after the last. */
+static uint64_t taken;
+
+/* Items of which one half alone is other than 0, each a while after the last was taken. */
 static void *push_late(void *member) {
     for (uint64_t i = 0; i < 3; i++) {
+        while (__atomic_load_n(&taken, __ATOMIC_RELAXED) < i) {
+            sleep_ms(1);
+        }
         sleep_ms(15);
         CHECK(pq_push((pq_member *)member, item_of(i * UPPER, UINT64_MAX - i), PQ_FOREVER, NULL) == PQ_OK);
     }
@@ -55,61 +60,50 @@ static void *push_late(void *member) {
 
 static void gets_what_comes_later(pq_member *member, pq_member *other) {
     const uint64_t until[] = { in_ms(60000), PQ_FOREVER, UINT64_MAX - 1 };
-    pthread_t thread = started(push_late, other);
+    pthread_t thread;
+    taken = 0;
+    thread = started(push_late, other);
     for (uint64_t i = 0; i < 3; i++) {
         entries++;
         take(member, until[i], i * UPPER, UINT64_MAX - i);
+        __atomic_store_n(&taken, i + 1, __ATOMIC_RELAXED);
     }
     ended(thread);
     CHECK(pq_now() < until[0]);
 }
 
-/* Pushes one item, whose value is the time, once the other thread sleeps; or writes the time into a pipe. */
-static int ends[2];
-
-static void *push_the_time(void *member) {
-    sleep_ms(5);
-    CHECK(pq_push((pq_member *)member, item_of(1, pq_now()), PQ_FOREVER, NULL) == PQ_OK);
+/* Pushes one item once the other thread sleeps for long, and stays until that has it. */
+static void *push_and_stay(void *member) {
+    sleep_ms(100);
+    CHECK(pq_push((pq_member *)member, item_of(1, 1), PQ_FOREVER, NULL) == PQ_OK);
+    while (__atomic_load_n(&taken, __ATOMIC_RELAXED) == 0) {
+        sleep_ms(1);
+    }
     return NULL;
 }
 
-static void *write_the_time(void *unused) {
-    uint64_t now;
-    (void)unused;
-    sleep_ms(5);
-    now = pq_now();
-    CHECK(write(ends[1], &now, sizeof now) == sizeof now);
-    return NULL;
+/* How often this thread has slept. */
+static long sleeps(void) {
+    struct rusage used;
+    CHECK(getrusage(RUSAGE_THREAD, &used) == 0);
+    return used.ru_nvcsw;
 }
 
-/* How many nanoseconds pass from the push, or the write, until the other thread goes on, of 20 together. */
-static uint64_t till_woken(pq_member *member, pq_member *other) {
-    uint64_t sum = 0;
-    for (int i = 0; i < 20; i++) {
-        pthread_t thread = started(other != NULL ? push_the_time : write_the_time, other);
-        pq_item item = item_of(0, 0);
-        if (other != NULL) {
-            CHECK(pq_take(member, &item, PQ_FOREVER, NULL) == PQ_OK);
-            entries += 2;
-        } else {
-            CHECK(read(ends[0], &item.value, sizeof item.value) == sizeof item.value);
-        }
-        sum += pq_now() - item.value;
+/* The push wakes it. A thread that looked again every few milliseconds would sleep often: this does not depend on how slow the machine is. */
+static void sleeps_until_it_is_woken(pq_member *member, pq_member *other) {
+    const long few = 5;
+    for (int i = 0; i < 3; i++) {
+        pthread_t thread;
+        long before;
+        taken = 0;
+        thread = started(push_and_stay, other);
+        before = sleeps();
+        entries++;
+        take(member, PQ_FOREVER, 1, 1);
+        CHECK(sleeps() - before <= few);
+        __atomic_store_n(&taken, 1, __ATOMIC_RELAXED);
         ended(thread);
     }
-    return sum;
-}
-
-/* It takes little longer than a read from a pipe, once of some times: where the machine is slow both take long. A thread that looked again
-   every few milliseconds would take some of them each time. */
-static void is_woken_soon(pq_member *member, pq_member *other) {
-    int is_soon = 0;
-    CHECK(pipe(ends) == 0);
-    for (int i = 0; i < 5 && !is_soon; i++) {
-        uint64_t plain = till_woken(NULL, NULL);
-        is_soon = till_woken(member, other) <= 2 * plain + 10000000;
-    }
-    CHECK(is_soon && close(ends[0]) == 0 && close(ends[1]) == 0);
 }
 
 static void catch_signal(int number) {
@@ -173,8 +167,8 @@ int main(void) {
     a_deadline_may_be_past(own);
     gets_what_comes_later(member, other);
     gets_what_comes_later(own, own);
-    is_woken_soon(member, other);
-    is_woken_soon(own, own);
+    sleeps_until_it_is_woken(member, other);
+    sleeps_until_it_is_woken(own, own);
     signals_do_not_end_it(own, other);
     is_no_cancellation_point(member);
     pq_leave(queue);

@@ -4,6 +4,7 @@
 
 #include <signal.h>
 #include <string.h>
+#include <sys/resource.h>
 
 static const uint64_t UPPER = (uint64_t)1 << 32;
 static uint64_t entries; /* how many requests there were that have one */
@@ -42,14 +43,15 @@ static void a_deadline_may_be_past(pq_member *member) {
     }
 }
 
+static uint64_t taken;
+
 /* Items of which one half alone is other than 0, each a while after the last was taken. */
 static void *push_late(void *member) {
     for (uint64_t i = 0; i < 3; i++) {
-        uint64_t size;
-        do {
-            sleep_ms(15);
-            CHECK(pq_size((pq_member *)member, PQ_FOREVER, &size, NULL) == PQ_OK);
-        } while (size > 0);
+        while (__atomic_load_n(&taken, __ATOMIC_RELAXED) < i) {
+            sleep_ms(1);
+        }
+        sleep_ms(15);
         CHECK(pq_push((pq_member *)member, item_of(i * UPPER, UINT64_MAX - i), PQ_FOREVER, NULL) == PQ_OK);
     }
     return NULL;
@@ -57,13 +59,50 @@ static void *push_late(void *member) {
 
 static void gets_what_comes_later(pq_member *member, pq_member *other) {
     const uint64_t until[] = { in_ms(60000), PQ_FOREVER, UINT64_MAX - 1 };
-    pthread_t thread = started(push_late, other);
+    pthread_t thread;
+    taken = 0;
+    thread = started(push_late, other);
     for (uint64_t i = 0; i < 3; i++) {
         entries++;
         take(member, until[i], i * UPPER, UINT64_MAX - i);
+        __atomic_store_n(&taken, i + 1, __ATOMIC_RELAXED);
     }
     ended(thread);
     CHECK(pq_now() < until[0]);
+}
+
+/* Pushes one item once the other thread sleeps for long, and stays until that has it. */
+static void *push_and_stay(void *member) {
+    sleep_ms(100);
+    CHECK(pq_push((pq_member *)member, item_of(1, 1), PQ_FOREVER, NULL) == PQ_OK);
+    while (__atomic_load_n(&taken, __ATOMIC_RELAXED) == 0) {
+        sleep_ms(1);
+    }
+    return NULL;
+}
+
+/* How often this thread has slept. */
+static long sleeps(void) {
+    struct rusage used;
+    CHECK(getrusage(RUSAGE_THREAD, &used) == 0);
+    return used.ru_nvcsw;
+}
+
+/* The push wakes it. A thread that looked again every few milliseconds would sleep often: this does not depend on how slow the machine is. */
+static void sleeps_until_it_is_woken(pq_member *member, pq_member *other) {
+    const long few = 5;
+    for (int i = 0; i < 3; i++) {
+        pthread_t thread;
+        long before;
+        taken = 0;
+        thread = started(push_and_stay, other);
+        before = sleeps();
+        entries++;
+        take(member, PQ_FOREVER, 1, 1);
+        CHECK(sleeps() - before <= few);
+        __atomic_store_n(&taken, 1, __ATOMIC_RELAXED);
+        ended(thread);
+    }
 }
 
 static void catch_signal(int number) {
@@ -108,6 +147,8 @@ int main(void) {
     a_deadline_may_be_past(own);
     gets_what_comes_later(member, other);
     gets_what_comes_later(own, own);
+    sleeps_until_it_is_woken(member, other);
+    sleeps_until_it_is_woken(own, own);
     signals_do_not_end_it(own, other);
     pq_leave(queue);
     pq_give_back(member);

@@ -230,10 +230,12 @@ fn a_type_of_a_program_s_own_is_a_key() {
 macro_rules! has {
     ($Trait:ident: $($Type:ty),*) => {{
         struct Asked<K>(PhantomData<K>);
+        #[allow(dead_code)]
         trait Otherwise {
             const HAS: bool = false;
         }
         impl<K> Otherwise for Asked<K> {}
+        #[allow(dead_code)]
         impl<K: $Trait> Asked<K> {
             const HAS: bool = true;
         }

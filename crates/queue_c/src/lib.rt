@@ -4,7 +4,6 @@
 #![tactic(auto)]
 
 mod archiving;
-mod asking;
 mod batches;
 mod buffers;
 mod calling;
@@ -20,6 +19,7 @@ mod length;
 mod looking;
 mod opening;
 mod place;
+mod placing;
 mod plain;
 mod plain_batch;
 mod raw_box;

@@ -72,6 +72,13 @@ static inline void sleep_ms(int milliseconds) {
     (void)poll(NULL, 0, milliseconds);
 }
 
+/* Whether a descriptor is readable in so many milliseconds. */
+static inline int is_readable(int fd, int milliseconds) {
+    struct pollfd one = { 0, POLLIN, 0 };
+    one.fd = fd;
+    return poll(&one, 1, milliseconds) == 1 && (one.revents & POLLIN) != 0;
+}
+
 /* A word that threads set and read without a lock, and without the order that ThreadSanitizer would take from it. */
 static inline int is_set(const int *word) {
     return __atomic_load_n(word, __ATOMIC_RELAXED);

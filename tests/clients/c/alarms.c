@@ -1,6 +1,6 @@
 /* pq_take_due_or_listen: the timer of a member that listens is readable once the first item is due, and after a push of an earlier one. No
    push rings it after pq_unlisten. Each refusal has its code, and a thread that has the lock for long has the loop call again some times a
-   millisecond. Schedules of threads tests/explore tries, and loops beside threads many_events.c. */
+   millisecond. Schedules of threads tests/explore tries. */
 #include "../wrapped.h"
 
 #include <sys/eventfd.h>
@@ -35,18 +35,12 @@ static pq_code take(alarm_of *it) {
     return pq_take_due_or_listen(it->member, it->timer, &it->item, &it->number);
 }
 
-static int is_readable_in(const alarm_of *it, int milliseconds) {
-    struct pollfd one = { 0, POLLIN, 0 };
-    one.fd = it->timer;
-    return poll(&one, 1, milliseconds) == 1 && one.revents == POLLIN;
-}
-
 static int rings(const alarm_of *it) {
-    return is_readable_in(it, 60000);
+    return is_readable(it->timer, 60000);
 }
 
 static int is_quiet(const alarm_of *it) {
-    return !is_readable_in(it, 10);
+    return !is_readable(it->timer, 10);
 }
 
 static void push(pq_member *member, uint64_t priority) {
@@ -70,46 +64,23 @@ static void it_rings_once_the_first_is_due(pq_queue *queue, pq_member *member) {
     push(pq_own(queue), second);
     push(pq_own(queue), first);
     CHECK(rings(&it) && take(&it) == PQ_NOT_DUE && is_item(it.item, first, 4) && it.number == 9);
-    CHECK(!is_readable_in(&it, 0) || pq_now() >= first);
+    CHECK(!is_readable(it.timer, 0) || pq_now() >= first);
     CHECK(rings(&it) && pq_now() >= first && take(&it) == PQ_OK && is_item(it.item, first, 4) && it.number != 9);
     CHECK(take(&it) == PQ_NOT_DUE && is_item(it.item, second, 4) && rings(&it) && pq_now() >= second);
     CHECK(take(&it) == PQ_OK && is_item(it.item, second, 4) && take(&it) == PQ_EMPTY && is_quiet(&it));
     CHECK(pq_unlisten(it.member) == 1 && close(it.timer) == 0);
 }
 
-/* The item of another was taken out, or is due later than the timer: the call sets the timer anew. */
-static void what_went_rings_for_nothing(pq_queue *queue, pq_member *member) {
-    const uint64_t first = soon(), last = in_ms(HOUR);
+/* A time that the system has no more, and the last one, which never comes. */
+static void some_times_never_ring(pq_queue *queue, pq_member *member) {
     alarm_of it = alarm_by(member);
-    push(pq_own(queue), first);
-    CHECK(take(&it) == PQ_NOT_DUE && pop(queue) == PQ_OK);
-    push(pq_own(queue), last);
-    CHECK(rings(&it) && pq_now() >= first && take(&it) == PQ_NOT_DUE && it.item.priority == last && is_quiet(&it));
-    CHECK(pop(queue) == PQ_OK && is_quiet(&it) && take(&it) == PQ_EMPTY && is_quiet(&it));
-    /* A time that the system has no more, and the last one, which never comes. */
     for (uint64_t never = UINT64_MAX - 1; never != 0; never++) {
         push(pq_own(queue), never);
         CHECK(take(&it) == PQ_NOT_DUE && it.item.priority == never && is_quiet(&it) && pop(queue) == PQ_OK);
     }
-    CHECK(pq_unlisten(it.member) == 1);
-    CHECK(close(it.timer) == 0);
-}
-
-static void who_listens_no_more_is_not_rung(pq_queue *queue, pq_member *member) {
-    alarm_of it = alarm_by(member), other = alarm_by(joined(queue));
-    pq_item item;
-    CHECK(pq_unlisten(it.member) == 0 && take(&it) == PQ_EMPTY && pq_unlisten(it.member) == 1 && pq_unlisten(it.member) == 0);
+    CHECK(pq_unlisten(it.member) == 1 && pq_unlisten(it.member) == 0);
     push(pq_own(queue), 0);
-    CHECK(is_quiet(&it) && take(&it) == PQ_OK && take(&it) == PQ_EMPTY);
-    push(pq_own(queue), 0);
-    CHECK(rings(&it) && pq_unlisten(it.member) == 0 && take(&it) == PQ_OK);
-    /* Nor one that waits in another call, or was given back. */
-    CHECK(take(&it) == PQ_EMPTY && pq_take_due(it.member, &item, PQ_NOW, NULL) == PQ_EMPTY && pq_unlisten(it.member) == 0);
-    CHECK(take(&other) == PQ_EMPTY);
-    pq_give_back(other.member);
-    push(pq_own(queue), 0);
-    CHECK(is_quiet(&it) && is_quiet(&other) && close(other.timer) == 0 && take(&it) == PQ_OK);
-    CHECK(close(it.timer) == 0);
+    CHECK(is_quiet(&it) && take(&it) == PQ_OK && close(it.timer) == 0);
 }
 
 /* Times are those of the options, to both ends of 64 bits. */
@@ -185,8 +156,7 @@ int main(void) {
     pq_queue *queue = opened(6);
     pq_member *member = joined(queue);
     it_rings_once_the_first_is_due(queue, member);
-    what_went_rings_for_nothing(queue, member);
-    who_listens_no_more_is_not_rung(queue, member);
+    some_times_never_ring(queue, member);
     it_is_refused(queue, member);
     pq_give_back(member);
     close_and_free(queue);

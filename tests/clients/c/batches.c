@@ -1,6 +1,6 @@
 /* Batches: of no item, of one, of as many as there is room for; one that a refusal ends in its midst says how many were done, and these
    stay done; a pop returns such a refusal at the next call. A shut ends a long batch between two of its parts. Each batch returns the number of
-   its first entry, and leaves the number as it was where it has none. A batch of pops takes all that is due at one moment, and has room. */
+   its first entry, and leaves the number as it was where it has none. Batches beside other threads tests/explore tries. */
 #include "../wrapped.h"
 
 enum { MANY = 100, PART = 64, LONG = 5 * PART, NONE = 7777 };
@@ -220,85 +220,6 @@ static void a_batch_without_an_entry_has_no_number(void) {
     close_and_free(queue);
 }
 
-/* A thread that pushes batches, with what they returned. */
-enum { THREADS = 4, ROUNDS = 40 };
-
-struct pusher {
-    pq_queue *queue;
-    uint64_t thread;
-    uint64_t numbers[ROUNDS];
-};
-
-/* Fills the batch of a thread's round. */
-static void fill_round(pq_item *batch, uint64_t thread, uint64_t round) {
-    for (size_t i = 0; i < PART; i++) {
-        batch[i] = item_of(i % 7, (thread * ROUNDS + round) * PART + i);
-    }
-}
-
-static void *push_rounds(void *own) {
-    struct pusher *it = (struct pusher *)own;
-    for (uint64_t round = 0; round < ROUNDS; round++) {
-        pq_item batch[PART];
-        size_t done = 0;
-        fill_round(batch, it->thread, round);
-        CHECK(pq_push_many(pq_own(it->queue), batch, PART, PQ_FOREVER, &done, &it->numbers[round]) == PQ_OK && done == PART);
-    }
-    return NULL;
-}
-
-static void batches_of_threads_have_consecutive_entries(void) {
-    static struct pusher pushers[THREADS];
-    pq_queue *queue = opened(THREADS + 1);
-    pthread_t threads[THREADS];
-    for (uint64_t i = 0; i < THREADS; i++) {
-        pushers[i].queue = queue;
-        pushers[i].thread = i;
-        threads[i] = started(push_rounds, &pushers[i]);
-    }
-    for (size_t i = 0; i < THREADS; i++) {
-        ended(threads[i]);
-    }
-    pq_journal *journal = closed(queue);
-    for (uint64_t i = 0; i < THREADS; i++) {
-        for (uint64_t round = 0; round < ROUNDS; round++) {
-            pq_item batch[PART];
-            fill_round(batch, i, round);
-            CHECK(are_entries(journal, pushers[i].numbers[round], PQ_PUSH, batch, PART));
-        }
-    }
-    pq_journal_free(journal);
-}
-
-/* A thread pushes items that are due two by two, each pair under one lock. */
-enum { PAIRS = 100000, ROOM = 8 };
-
-static void *push_pairs(void *queue) {
-    const pq_item pair[] = { item_of(1, 1), item_of(1, 2) };
-    for (uint32_t i = 0; i < requests(PAIRS); i++) {
-        size_t done = 0;
-        CHECK(pq_push_many(pq_own((pq_queue *)queue), pair, 2, PQ_FOREVER, &done, NULL) == PQ_OK && done == 2);
-    }
-    return NULL;
-}
-
-/* No batch parts a pair, also where the one before took nothing: beside an item that is never due, or none. */
-static void a_batch_takes_all_that_is_due(int with_later) {
-    const uint32_t due = 2 * requests(PAIRS);
-    const pq_code none = with_later ? PQ_NOT_DUE : PQ_EMPTY;
-    pq_queue *queue = opened(2);
-    if (with_later) {
-        CHECK(pq_push(pq_own(queue), item_of(9, 9), PQ_FOREVER, NULL) == PQ_OK);
-    }
-    pthread_t thread = started(push_pairs, queue);
-    for (size_t taken = 0, done = 0; taken < due; taken += done) {
-        pq_code code = pq_pop_due_many(pq_own(queue), 1, out, ROOM, PQ_FOREVER, &done, NULL);
-        CHECK(code == (done > 0 ? PQ_OK : none) && done % 2 == 0 && (code != PQ_NOT_DUE || is_item(out[0], 9, 9)));
-    }
-    ended(thread);
-    close_and_free(queue);
-}
-
 /* A part that was taken is all that is due. The room for the rest stays as it was. */
 static void what_is_left_after_a_part_stays(void) {
     enum { AT_ONCE = 64 };
@@ -324,8 +245,5 @@ int main(void) {
     memory_would_forget_in_the_midst();
     numbers_are_those_of_the_first_entries();
     a_batch_without_an_entry_has_no_number();
-    batches_of_threads_have_consecutive_entries();
-    a_batch_takes_all_that_is_due(0);
-    a_batch_takes_all_that_is_due(1);
     return 0;
 }

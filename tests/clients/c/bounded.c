@@ -1,8 +1,6 @@
-/* Queues with a bound: a push to a full queue is refused at once or at its deadline, and no item is lost of many that go through few places.
-   Who is woken for room tests/explore tries. Where there is an argument, the journal of the last queue is written out. */
+/* Queues with a bound: a push to a full queue is refused at once or at its deadline. Who is woken for room tests/explore tries; size.c has threads
+   that push and take at a bound. */
 #include "../check.h"
-
-#include <string.h>
 
 static void is_full(pq_queue *queue, pq_member *member, uint64_t until) {
     uint64_t number = 9;
@@ -99,109 +97,10 @@ static void bounds_may_be_any(void) {
     close_and_free(queue);
 }
 
-/*
- * Many items through few places.
- */
-
-enum { SIDES = 4, BOUND = 4 };
-static pq_queue *shared;
-static uint32_t each;
-static int has_deadlines;
-
-struct side {
-    pthread_t thread;
-    uint64_t first, count, sum;
-};
-
-/* Some pushes and takes have deadlines so near that many are late, and are made again. */
-static uint64_t until_of(uint64_t i) {
-    return !has_deadlines ? PQ_FOREVER : i % 3 == 0 ? PQ_NOW : pq_after(i % 50 * 1000);
-}
-
-static void *push_each(void *own) {
-    struct side *it = (struct side *)own;
-    uint64_t tries = 0;
-    while (it->count < each) {
-        const pq_item item = item_of((it->first + it->count) % 7, it->first + it->count);
-        const pq_code code = pq_push(pq_own(shared), item, until_of(tries++), NULL);
-        CHECK(code == PQ_OK || (has_deadlines && (code == PQ_FULL || code == PQ_TIMED_OUT)));
-        it->count += code == PQ_OK;
-        it->sum += code == PQ_OK ? item.value : 0;
-    }
-    return NULL;
-}
-
-/* Until the queue is shut and empty. By turns it takes, pops a batch, and posts a pop. */
-static void *take_each(void *own) {
-    struct side *it = (struct side *)own;
-    pq_code code = PQ_OK;
-    for (uint64_t tries = it->first; code != PQ_SHUT; tries++) {
-        pq_item items[3];
-        size_t done = 0;
-        if (tries % 8 == 0) {
-            code = pq_pop_due_many(pq_own(shared), UINT64_MAX, items, 3, until_of(tries), &done, NULL);
-        } else {
-            code = pq_take(pq_own(shared), items, until_of(tries), NULL);
-            done = code == PQ_OK;
-        }
-        CHECK(code == PQ_OK || code == PQ_SHUT || code == PQ_EMPTY || (has_deadlines && code == PQ_TIMED_OUT));
-        it->count += done;
-        for (size_t i = 0; i < done; i++) {
-            it->sum += items[i].value;
-        }
-    }
-    return NULL;
-}
-
-/* The entries are pushes and pops, and there were never more items than the bound. */
-static void is_audited(const pq_journal *journal) {
-    uint64_t count = 0, pushes = 0;
-    for (size_t i = 0; i < pq_count(journal, NULL); i++) {
-        pq_entry entry;
-        CHECK(pq_read(journal, i, &entry) == PQ_OK && entry.reply == PQ_OK && entry.request != PQ_PEEK);
-        count += entry.request == PQ_PUSH;
-        count -= entry.request == PQ_POP;
-        pushes += entry.request == PQ_PUSH;
-        CHECK(count <= BOUND);
-    }
-    CHECK(count == 0 && pushes == (uint64_t)SIDES * each);
-}
-
-static pq_journal *nothing_is_lost(uint32_t items) {
-    struct side sides[2 * SIDES];
-    uint64_t sum = 0;
-    each = items;
-    /* A journal that is full would refuse takes at the end. */
-    shared = opened_within(BOUND, 2 * SIDES * each + 1);
-    memset(sides, 0, sizeof sides);
-    for (uint64_t i = 0; i < 2 * SIDES; i++) {
-        sides[i].first = i % SIDES * each;
-        sides[i].thread = started(i < SIDES ? push_each : take_each, &sides[i]);
-    }
-    for (int i = 0; i < 2 * SIDES; i++) {
-        if (i == SIDES) {
-            CHECK(pq_shut(shared) == PQ_OK);
-        }
-        ended(sides[i].thread);
-        sum += i < SIDES ? sides[i].sum : 0 - sides[i].sum;
-    }
-    CHECK(sum == 0);
-    pq_journal *journal = closed(shared);
-    is_audited(journal);
-    return journal;
-}
-
-int main(int count, char **words) {
-    (void)words;
+int main(void) {
     is_refused_at_its_deadline();
     no_push_is_posted();
     a_member_listens_for_room();
     bounds_may_be_any();
-    has_deadlines = 1;
-    pq_journal_free(nothing_is_lost(requests(5000)));
-    has_deadlines = 0;
-    pq_journal *journal = nothing_is_lost(requests(25000));
-    CHECK(count < 2 || pq_write(journal, STDOUT_FILENO) == PQ_OK);
-    pq_journal_free(journal);
     return 0;
 }

@@ -1,6 +1,6 @@
 /* Waits, spins and naps to the nanosecond: over a clock and sleeps of the test's own, each of which takes exactly as long as it was asked for. No
    wait ends before its deadline or goes on after it; a nap is as long as it should be; and calls spin at first, where time passes with each look
-   at the clock. The linker puts the functions __wrap_.. in place of the system's. Another thread has the lock where one is to have it. */
+   at the clock, but on one processor. The linker puts the functions __wrap_.. in place of the system's. Another thread has the lock where one is to have it. */
 #include "../wrapped.h"
 #include "system_calls.h"
 
@@ -38,10 +38,13 @@ int __wrap_clock_gettime(clockid_t clock, struct timespec *time) {
     return 0;
 }
 
-/* It isn't known how many processors there are. */
+/* It isn't known how many processors there are, or there is one. */
+static int has_one_processor;
+
 int __wrap_sched_getaffinity(pid_t process, size_t size, cpu_set_t *set) {
-    (void)process, (void)size, (void)set;
-    return -1;
+    (void)process, (void)size;
+    CPU_SET(0, set);
+    return has_one_processor ? 0 : -1;
 }
 
 static void nap(uint64_t longest) {
@@ -143,6 +146,16 @@ static void what_is_due_comes_at_its_time(void) {
     CHECK(pq_take_due(member, &item, PQ_FOREVER, NULL) == PQ_OK && now == due && slept == 2);
 }
 
+/* What is there is taken without a look at the clock, and what is due by one. */
+static void what_is_there_is_taken_at_once(void) {
+    const uint64_t begun = now;
+    ticks = 1;
+    CHECK(pq_push(other, item_of(0, 1), PQ_FOREVER, NULL) == PQ_OK && pq_push(other, item_of(0, 2), PQ_FOREVER, NULL) == PQ_OK);
+    CHECK(pq_take(member, &item, PQ_FOREVER, NULL) == PQ_OK && now == begun);
+    CHECK(pq_take_due(member, &item, PQ_FOREVER, NULL) == PQ_OK && now == begun + 1);
+    ticks = 0;
+}
+
 /* Each call that finds the lock held until its deadline naps until exactly then. The clock stands still, so it doesn't spin longer. */
 static void a_call_times_out_at_its_deadline(void) {
     const uint64_t longest[] = { 1, 50 * US - 1, 50 * US, 50 * US + 1, 1000 * US };
@@ -187,6 +200,22 @@ static void a_nap_is_as_long_as_there_are_members(void) {
         }
         end_held();
     }
+}
+
+/* A thread that waits for the first time naps at once. */
+static void *nap_at_once(void *unused) {
+    is_here = 1;
+    ticks = 100;
+    CHECK(pq_pop(member, &item, now + 9 * US, NULL) == PQ_TIMED_OUT && napped == 1);
+    return unused;
+}
+
+static void calls_do_not_spin_on_one_processor(void) {
+    has_one_processor = 1;
+    begin_held(0);
+    ended(started(nap_at_once, NULL));
+    ticks = 0;
+    end_held();
 }
 
 /* In a thread of its own, which has not waited before: how long it spins before its first nap, and whether it spins the next times. */
@@ -241,6 +270,7 @@ static void calls_spin_at_first(void) {
 }
 
 int main(void) {
+    in_child(calls_do_not_spin_on_one_processor);
     is_here = 1;
     queue = opened(2);
     member = joined(queue);
@@ -248,6 +278,7 @@ int main(void) {
     a_wait_ends_at_its_deadline();
     what_comes_in_a_sleep_is_taken_at_once();
     what_is_due_comes_at_its_time();
+    what_is_there_is_taken_at_once();
     pq_give_back(member);
     pq_give_back(other);
     close_and_free(queue);

@@ -21,7 +21,7 @@ static void notify(void *context) {
 static void all_time_out(pq_member *member, uint64_t until) {
     pq_item item = item_of(9, 9), items[2] = { { 9, 9 }, { 9, 9 } };
     pq_journal *journal;
-    uint64_t number = 9;
+    uint64_t number = 9, size = 9;
     size_t done = 9;
     int notified = 0;
     TIMES_OUT(pq_push(member, item, until, &number));
@@ -34,6 +34,8 @@ static void all_time_out(pq_member *member, uint64_t until) {
     CHECK(done == 0);
     TIMES_OUT(pq_pop_due_many(member, 9, items, 2, until, &done, NULL));
     CHECK(done == 0);
+    TIMES_OUT(pq_size(member, until, &size, NULL));
+    CHECK(size == 9);
     TIMES_OUT(pq_archive(member, 0, until, &journal));
     CHECK(journal == NULL && pq_combine(member) == PQ_TIMED_OUT);
     CHECK(pq_poll(member, &item, &number) == PQ_NOT_PENDING);
@@ -53,18 +55,12 @@ static void by_all_deadlines(pq_member *member) {
     all_time_out(member, in_ms(30));
 }
 
-static void *push_for_ever(void *member) {
-    CHECK(pq_push((pq_member *)member, item_of(0, 7), PQ_FOREVER, NULL) == PQ_OK);
-    return NULL;
-}
-
 static void calls_return_where_a_thread_stops(void) {
     pq_queue *queue = opened(5);
-    pq_member *member = joined(queue), *posting = joined(queue), *waiting = joined(queue);
+    pq_member *member = joined(queue), *posting = joined(queue);
     pq_journal *journal;
     pq_entry entry;
     pq_item item = item_of(9, 9);
-    pthread_t thread;
     holder own;
     CHECK(pq_take(pq_own(queue), &item, PQ_NOW, NULL) == PQ_EMPTY);
     hold(&own, queue, HOLDS_AND_STOPS);
@@ -78,23 +74,9 @@ static void calls_return_where_a_thread_stops(void) {
     CHECK(pq_take(member, &item, PQ_FOREVER, NULL) == PQ_OK && pq_take(member, &item, PQ_FOREVER, NULL) == PQ_SHUT);
     pq_give_back(member);
     pq_give_back(posting);
-    pq_give_back(waiting);
     journal = closed(queue);
     CHECK(pq_count(journal, NULL) == 3 && pq_read(journal, 2, &entry) == PQ_OK && entry.request == PQ_POP && is_item(entry.item, 1, 100));
     pq_journal_free(journal);
-    /* Without the end. */
-    queue = opened(2);
-    member = joined(queue);
-    hold(&own, queue, HOLDS_AND_STOPS);
-    thread = started(push_for_ever, member);
-    sleep_ms(20);
-    let_go(&own);
-    ended(thread);
-    CHECK(pq_pop(member, &item, PQ_NOW, NULL) == PQ_OK && is_item(item, 0, 7));
-    CHECK(pq_pop(member, &item, in_ms(60000), NULL) == PQ_OK && is_item(item, 1, 100));
-    CHECK(pq_take(member, &item, PQ_NOW, NULL) == PQ_EMPTY);
-    pq_give_back(member);
-    close_and_free(queue);
 }
 
 /* In a process of its own, which ends with the lock held: by SIGKILL, as no tool is to look for memory that the dead thread held. */

@@ -1,24 +1,8 @@
-/* pq_take_due: an item comes out once it is due and not before, items of one time in the order of their pushes; one thread of many watches. The
-   queue's time_zero and time_unit say when a priority is due, to both ends of 64 bits. Who is woken for what tests/explore tries. The linker
-   counts the sleeps, by __wrap_syscall. */
+/* pq_take_due: an item comes out once it is due and not before, items of one time in the order of their pushes. The queue's time_zero and
+   time_unit say when a priority is due, to both ends of 64 bits. Who is woken for what tests/explore tries. */
 #include "../check.h"
-#include "system_calls.h"
-
-#include <unistd.h>
 
 static const uint64_t MS = 1000000, UPPER = (uint64_t)1 << 32;
-
-static int sleeps;
-
-long __wrap_syscall(long number, ...) {
-    long words[6];
-    va_list rest;
-    va_start(rest, number);
-    read_words(rest, words);
-    va_end(rest);
-    __atomic_fetch_add(&sleeps, number == SYS_futex && (words[1] & FUTEX_CMD_MASK) == FUTEX_WAIT_BITSET, __ATOMIC_RELAXED);
-    return __real_syscall(number, words[0], words[1], words[2], words[3], words[4], words[5]);
-}
 
 static void push(pq_member *member, uint64_t priority, uint64_t value) {
     CHECK(pq_push(member, item_of(priority, value), PQ_FOREVER, NULL) == PQ_OK);
@@ -111,74 +95,13 @@ static void times_are_those_of_the_options(void) {
     is_due_at(0, 3, UINT64_MAX / 3 + 1, PQ_FOREVER);
 }
 
-struct taker {
-    pq_member *member;
-    pq_item item;
-    pthread_t thread;
-};
-
-static void *take_one(void *own) {
-    struct taker *it = (struct taker *)own;
-    CHECK(pq_take_due(it->member, &it->item, in_ms(60000), NULL) == PQ_OK && pq_now() >= it->item.priority);
-    return NULL;
-}
-
-enum { MANY = 60, JOBS = 60, AT_ONCE = 3 };
-static pq_queue *many;
-static int got;
-
-/* Takes jobs until one of the last ones, which are due at one time. */
-static void *work(void *unused) {
-    pq_item item;
-    (void)unused;
-    do {
-        CHECK(pq_take_due(pq_own(many), &item, PQ_FOREVER, NULL) == PQ_OK && pq_now() >= item.priority);
-        __atomic_fetch_add(&got, item.value != 0, __ATOMIC_RELAXED);
-    } while (item.value != 0);
-    return NULL;
-}
-
-/* A job has the entries of its push and its pop alone, and costs some sleeps, and not one of each thread that waits. */
-static void one_of_many_watches(void) {
-    const uint64_t first = in_ms(200);
-    pthread_t threads[MANY];
-    pq_journal *journal;
-    uint64_t before = 9;
-    many = opened(MANY + 1);
-    for (uint64_t i = 0; i < JOBS; i++) {
-        push(pq_own(many), first + 5 * MS * (i / AT_ONCE), 1);
-    }
-    set(&sleeps, 0);
-    for (int i = 0; i < MANY; i++) {
-        push(pq_own(many), first + 5 * MS * JOBS, 0);
-        threads[i] = started(work, NULL);
-    }
-    for (int i = 0; i < MANY; i++) {
-        ended(threads[i]);
-    }
-    CHECK(got == JOBS && is_set(&sleeps) <= 5 * (JOBS + MANY));
-    journal = closed(many);
-    CHECK(pq_count(journal, &before) == 2 * (JOBS + MANY) && before == 0);
-    pq_journal_free(journal);
-}
-
 int main(void) {
-    pq_queue *queue = opened(2), *long_queue = opened(1);
+    pq_queue *queue = opened(2);
     pq_member *member = joined(queue);
-    static struct taker long_taker;
-    /* It sleeps for more than 2^32 nanoseconds meanwhile. */
-    long_taker.member = pq_own(long_queue);
-    push(long_taker.member, pq_after(UPPER + 50 * MS), UPPER);
-    long_taker.thread = started(take_one, &long_taker);
-    pq_leave(long_queue);
     nothing_comes_before_its_time(member);
     nothing_comes_before_its_time(pq_own(queue));
     times_are_those_of_the_options();
-    one_of_many_watches();
-    ended(long_taker.thread);
-    CHECK(long_taker.item.value == UPPER);
     pq_give_back(member);
     close_and_free(queue);
-    close_and_free(long_queue);
     return 0;
 }

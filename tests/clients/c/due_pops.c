@@ -1,11 +1,10 @@
 /* Pops of what is due: each bound below, at and above the first item, also where priorities differ in one half alone; those that take
-   nothing have no entry. Threads take out what is due at each hour, while another pushes: none gets an item before its hour, each item
-   comes out once, and those of one hour in the order of their pushes. */
+   nothing have no entry, however many there are. */
 #include "../check.h"
 
 #define UPPER 4294967296u
 
-enum { HOURS = 24, EACH = 20, TAKERS = 3, ITEMS = HOURS * EACH };
+enum { POLLS = 1000000 };
 
 static void takes_up_to_its_bound(void) {
     pq_queue *queue = opened(1);
@@ -40,83 +39,21 @@ static void bounds_have_64_bits(void) {
     close_and_free(queue);
 }
 
-static void equal_priorities_come_out_in_push_order(void) {
-    pq_queue *queue = opened(2);
-    pq_member *member = joined(queue);
-    pq_item item;
-    for (uint64_t i = 0; i < 3 * EACH; i++) {
-        CHECK(pq_push(i % 2 == 0 ? member : pq_own(queue), item_of(i % 3, i), PQ_FOREVER, NULL) == PQ_OK);
+static void polls_leave_no_entry(void) {
+    pq_queue *queue = opened(1);
+    pq_item item = item_of(7, 8);
+    uint64_t number = 9;
+    for (uint32_t i = requests(POLLS); i > 0; i--) {
+        CHECK(pq_pop_due(pq_own(queue), UINT64_MAX, &item, PQ_NOW, &number) == PQ_EMPTY && number == 9 && is_item(item, 7, 8));
     }
-    for (uint64_t i = 0; i < 3 * EACH; i++) {
-        CHECK(pq_pop_due(pq_own(queue), 2, &item, PQ_FOREVER, NULL) == PQ_OK && is_item(item, i / EACH, i / EACH + 3 * (i % EACH)));
-    }
-    pq_give_back(member);
+    CHECK(pq_push(pq_own(queue), item_of(5, 6), PQ_NOW, &number) == PQ_OK && number == 1);
+    CHECK(pq_pop_due(pq_own(queue), UINT64_MAX, &item, PQ_NOW, &number) == PQ_OK && number == 2 && is_item(item, 5, 6));
     close_and_free(queue);
-}
-
-static void *pushes_each_hour(void *queue) {
-    for (uint64_t i = 0; i < ITEMS; i++) {
-        CHECK(pq_push(pq_own((pq_queue *)queue), item_of(i % HOURS, i), PQ_FOREVER, NULL) == PQ_OK);
-    }
-    return NULL;
-}
-
-/* Goes through the hours, and takes out all that is due at each. */
-static void *takes_each_hour(void *queue) {
-    pq_member *own = pq_own((pq_queue *)queue);
-    for (uint64_t hour = 0; hour < HOURS; hour++) {
-        pq_item item = item_of(0, 0);
-        pq_code code = pq_pop_due(own, hour, &item, PQ_FOREVER, NULL);
-        for (; code == PQ_OK; code = pq_pop_due(own, hour, &item, PQ_FOREVER, NULL)) {
-            CHECK(item.priority <= hour);
-        }
-        CHECK(code == PQ_EMPTY || (code == PQ_NOT_DUE && item.priority > hour));
-    }
-    return NULL;
-}
-
-/* Each item comes out once, or is left, and those of one hour in the order of their pushes. */
-static void each_comes_out_once(pq_journal *journal) {
-    uint64_t next[HOURS], popped = 0;
-    pq_entry entry;
-    pq_item item;
-    for (uint64_t hour = 0; hour < HOURS; hour++) {
-        next[hour] = hour;
-    }
-    for (size_t i = 0; pq_read(journal, i, &entry) == PQ_OK; i++) {
-        CHECK(entry.reply == PQ_OK && entry.request != PQ_PEEK);
-        if (entry.request == PQ_POP) {
-            CHECK(entry.item.value == next[entry.item.priority]);
-            next[entry.item.priority] += HOURS;
-            popped++;
-        }
-    }
-    CHECK(pq_count(journal, NULL) == ITEMS + popped);
-    for (; pq_take_left(journal, &item) == PQ_OK; popped++) {
-        CHECK(item.value == next[item.priority]);
-        next[item.priority] += HOURS;
-    }
-    CHECK(popped == ITEMS);
-}
-
-static void threads_take_what_is_due(void) {
-    pq_queue *queue = opened(TAKERS + 1);
-    pthread_t threads[TAKERS + 1];
-    for (size_t i = 0; i <= TAKERS; i++) {
-        threads[i] = started(i < TAKERS ? takes_each_hour : pushes_each_hour, queue);
-    }
-    for (size_t i = 0; i <= TAKERS; i++) {
-        ended(threads[i]);
-    }
-    pq_journal *journal = closed(queue);
-    each_comes_out_once(journal);
-    pq_journal_free(journal);
 }
 
 int main(void) {
     takes_up_to_its_bound();
     bounds_have_64_bits();
-    equal_priorities_come_out_in_push_order();
-    threads_take_what_is_due();
+    polls_leave_no_entry();
     return 0;
 }

@@ -140,9 +140,8 @@ static const struct {
     const char *kinds;
     int inside;
 } cases[] = {
-    { "tt", 0 }, { "tp", 0 }, { "dp", 0 }, { "tdp", 0 }, { "ddp", 0 }, { "tpo", 0 }, { "dos", 0 }, { "tto", 0 }, { "too", 0 }, { "ttps", 0 },
-    { "tdps", 0 }, { "ddps", 0 }, { "ttpp", 0 }, { "tpos", 0 }, { "ts", 2 }, { "ds", 2 }, { "tp", 2 }, { "dp", 2 }, { "to", 2 }, { "tps", 2 },
-    { "tos", 2 }
+    { "tp", 0 }, { "dp", 0 }, { "tdp", 0 }, { "dos", 0 }, { "tto", 0 }, { "too", 0 }, { "tpos", 0 }, { "ts", 2 }, { "ds", 2 }, { "tp", 2 },
+    { "dp", 2 }, { "to", 2 }, { "tps", 2 }, { "tos", 2 }
 };
 
 int main(void) {
@@ -150,7 +149,7 @@ int main(void) {
     for (int which = DESIGN; which < DRIVERS; which++) {
         long faults = 0;
         driver = (enum driver)which;
-        for (size_t i = 0; i < sizeof cases / sizeof *cases && (driver == DESIGN || faults == 0); i++) {
+        for (size_t i = 0; i < sizeof cases / sizeof *cases && faults == 0; i++) {
             most_inside = cases[i].inside;
             faults += schedules(cases[i].kinds);
         }

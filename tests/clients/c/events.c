@@ -1,5 +1,5 @@
-/* pq_take_or_listen and pq_unlisten: a member that finds nothing listens, and is notified once, by the thread that pushes; one that listens no more is
-   not notified; PQ_NOT_DUE has the first item; and pq_notify_fd writes to an eventfd. Schedules of threads tests/explore tries. */
+/* pq_take_or_listen and pq_unlisten: a member that finds nothing listens, and is notified once, by the thread that pushes, also after more events
+   than 16 bits count; PQ_NOT_DUE has the first item; and pq_notify_fd writes to an eventfd. Schedules of threads tests/explore tries. */
 #include "../check.h"
 
 #include <sys/eventfd.h>
@@ -64,17 +64,12 @@ static void it_is_notified_once(void) {
     CHECK(take(&it) == PQ_OK && take(&it) == PQ_EMPTY && notified(&it) == 0);
     push(other, 3);
     CHECK(notified(&it) == 1);
-    /* Another takes that item. Then a push is carried out that was posted. */
-    CHECK(pq_pop(other, &item, PQ_FOREVER, NULL) == PQ_OK && take(&it) == PQ_EMPTY);
-    CHECK(pq_post(other, PQ_PUSH, item) == PQ_OK && notified(&it) == 0 && pq_combine(it.member) == PQ_OK && notified(&it) == 1);
-    CHECK(pq_poll(other, &item, NULL) == PQ_OK && take(&it) == PQ_OK && notified(&it) == 0);
-    /* Its own push notifies it too, and its own pop doesn't. */
-    CHECK(take(&it) == PQ_EMPTY);
+    /* Its own push notifies it too, and a take by it ends the listening. */
+    CHECK(take(&it) == PQ_OK && take(&it) == PQ_EMPTY);
     push(it.member, 3);
-    CHECK(notified(&it) == 1 && pq_pop(it.member, &item, PQ_FOREVER, NULL) == PQ_OK && notified(&it) == 0);
-    /* A take by the member ends the listening. */
-    CHECK(take(&it) == PQ_EMPTY && pq_take(it.member, &item, in_ms(1), NULL) == PQ_EMPTY && pq_unlisten(it.member) == 0);
-    CHECK(take(&it) == PQ_EMPTY && pq_take_due(it.member, &item, in_ms(1), NULL) == PQ_EMPTY && pq_unlisten(it.member) == 0);
+    CHECK(notified(&it) == 1 && pq_pop(it.member, &item, PQ_FOREVER, NULL) == PQ_OK && take(&it) == PQ_EMPTY);
+    CHECK(pq_take(it.member, &item, in_ms(1), NULL) == PQ_EMPTY && pq_unlisten(it.member) == 0);
+    CHECK(take(&it) == PQ_EMPTY && pq_unlisten(it.member) == 1 && pq_unlisten(it.member) == 0);
     push(other, 3);
     CHECK(notified(&it) == 0);
     pq_give_back(it.member);
@@ -100,19 +95,21 @@ static void what_is_not_due_stays(void) {
     close_and_free(queue);
 }
 
-static void who_listens_no_more_is_not_notified(void) {
-    pq_queue *queue = opened(3);
+/* They come while it listens, and was notified of the first. */
+static void it_is_notified_after_many(void) {
+    pq_queue *queue = opened(2);
     loop it = loop_of(queue);
     pq_member *other = joined(queue);
-    CHECK(pq_unlisten(it.member) == 0 && take(&it) == PQ_EMPTY && pq_unlisten(it.member) == 1 && pq_unlisten(it.member) == 0);
-    push(other, 3);
-    CHECK(notified(&it) == 0 && take(&it) == PQ_OK && take(&it) == PQ_EMPTY);
-    push(other, 3);
-    CHECK(notified(&it) == 1 && pq_unlisten(it.member) == 0 && take(&it) == PQ_OK && take(&it) == PQ_EMPTY);
-    /* Nor is one that is given back. */
+    pq_item item;
+    CHECK(take(&it) == PQ_EMPTY);
+    for (uint32_t i = requests(70000); i > 0; i--) {
+        push(other, 1);
+        CHECK(pq_pop(other, &item, PQ_FOREVER, NULL) == PQ_OK);
+    }
+    CHECK(notified(&it) == 1 && take(&it) == PQ_EMPTY && notified(&it) == 0);
+    push(other, 1);
+    CHECK(notified(&it) == 1);
     pq_give_back(it.member);
-    push(other, 3);
-    CHECK(notified(&it) == 0);
     pq_give_back(other);
     close_and_free(queue);
 }
@@ -162,7 +159,7 @@ int main(void) {
     alarm(200);
     it_is_notified_once();
     what_is_not_due_stays();
-    who_listens_no_more_is_not_notified();
+    it_is_notified_after_many();
     it_is_refused();
     a_descriptor_is_written_to();
     return 0;

@@ -1,34 +1,10 @@
 /* Own members: more threads than members call by pq_own. A thread's member goes to others while the thread doesn't use it, when the thread
-   ends or leaves; not while it has posted a request, or listens. Calls at any moment, and closing, tests/explore tries. */
+   ends or leaves; not while it listens. Calls at any moment, posts, closing and freeing tests/explore tries. */
 #include "refused.h"
-#include "system_calls.h"
 
 enum { THREADS = 200, COMING = 10000 };
 
 static pq_queue *queue;
-
-static int sleeps;
-
-/* The library's sleeps come here. */
-long __wrap_syscall(long number, ...) {
-    va_list words;
-    long of[6];
-    va_start(words, number);
-    read_words(words, of);
-    va_end(words);
-    set(&sleeps, is_set(&sleeps) || (number == SYS_futex && (of[1] & FUTEX_CMD_MASK) == FUTEX_WAIT_BITSET));
-    return __real_syscall(number, of[0], of[1], of[2], of[3], of[4], of[5]);
-}
-
-/* Starts a thread, and waits until it sleeps in a call. */
-static pthread_t sleeping(void *(*work)(void *), void *own) {
-    set(&sleeps, 0);
-    pthread_t thread = started(work, own);
-    while (!is_set(&sleeps)) {
-        sleep_ms(1);
-    }
-    return thread;
-}
 
 /* Another thread, which does one thing at a time, until it is to end. */
 typedef struct helper {
@@ -78,16 +54,6 @@ static void pushes_one(void) {
 
 static void has_none(void) {
     CHECK(pq_place(pq_own(queue)) == UINT32_MAX);
-}
-
-static void posts_one(void) {
-    CHECK(pq_post(pq_own(queue), PQ_PUSH, item_of(1, 2)) == PQ_OK);
-}
-
-static void polls_one(void) {
-    pq_item item;
-    CHECK(pq_poll(pq_own(queue), &item, NULL) == PQ_PENDING && pq_combine(pq_own(queue)) == PQ_OK);
-    CHECK(pq_poll(pq_own(queue), &item, NULL) == PQ_OK && pq_poll(pq_own(queue), &item, NULL) == PQ_NOT_PENDING);
 }
 
 static void listens(void) {
@@ -161,40 +127,19 @@ static void idle_members_are_taken_over(void) {
     pq_journal_free(journal);
 }
 
-/* What no call may take over, until the thread has ended it. */
-static void is_kept(helper *other, void (*begin)(void), void (*end)(void)) {
-    pq_member *own = pq_own(queue);
-    pq_item item;
-    does(other, begin);
-    has_none();
-    refuses_requests(own, PQ_TIMED_OUT, PQ_NOW);
-    CHECK(pq_pop(own, &item, in_ms(10), NULL) == PQ_TIMED_OUT && pq_post(own, PQ_POP, item_of(0, 0)) == PQ_TIMED_OUT);
-    CHECK(pq_combine(own) == PQ_TIMED_OUT && pq_poll(own, &item, NULL) == PQ_NOT_PENDING);
-    CHECK(pq_close(queue, NULL) == PQ_MEMBERS_LEFT);
-    does(other, end);
-    CHECK(pq_combine(own) == PQ_OK);
-    does(other, has_none);
-}
-
-static void members_that_are_in_use_are_kept(void) {
+/* A member that listens is taken over once that has ended. */
+static void members_that_listen_are_kept(void) {
     helper other;
     queue = opened(1);
     begins(&other);
-    is_kept(&other, listens, unlistens);
-    is_kept(&other, posts_one, polls_one);
-    is_kept(&other, posts_one, leaves);
-    /* A thread that ends has a request posted, or listens. */
-    does(&other, posts_one);
-    ends(&other);
-    pq_give_back(joined(queue));
-    begins(&other);
-    pq_item item;
-    for (int i = 0; i < 3; i++) {
-        CHECK(pq_pop(pq_own(queue), &item, PQ_NOW, NULL) == PQ_OK);
-    }
     does(&other, listens);
-    ends(&other);
+    has_none();
+    refuses_requests(pq_own(queue), PQ_TIMED_OUT, PQ_NOW);
+    CHECK(pq_combine(pq_own(queue)) == PQ_TIMED_OUT && pq_close(queue, NULL) == PQ_MEMBERS_LEFT);
+    does(&other, unlistens);
     pushes_one();
+    does(&other, has_none);
+    ends(&other);
     close_and_free(queue);
 }
 
@@ -214,50 +159,6 @@ static void a_new_queue_is_not_taken_for_a_freed_one(void) {
         pq_free(i % 2 == 0 ? NULL : queue, NULL, NULL);
     }
     ends(&other);
-}
-
-static int count_of_left;
-
-/* It may call the library, by another queue. */
-static void is_left(void *context, pq_item item) {
-    pq_queue *another = opened(1);
-    CHECK(is_item(item, 1, 2) && context == &count_of_left && pq_push(pq_own(another), item, PQ_FOREVER, NULL) == PQ_OK);
-    set(&count_of_left, count_of_left + 1);
-    close_and_free(another);
-}
-
-static void *shut_and_ended(void *shut) {
-    pq_item item;
-    CHECK(pq_take_due(pq_own(queue), &item, PQ_FOREVER, NULL) == PQ_SHUT);
-    return shut;
-}
-
-static void *closed_and_ended(void *unused) {
-    CHECK(pq_pop(pq_own(queue), (pq_item *)unused, PQ_FOREVER, NULL) == PQ_CLOSED);
-    return NULL;
-}
-
-/* A queue is freed while threads are in calls: these end by themselves, and the last of them frees the memory. */
-static void a_queue_is_freed_while_it_is_called(void) {
-    pq_item item;
-    pthread_t thread;
-    queue = opened(2);
-    thread = sleeping(shut_and_ended, NULL);
-    CHECK(pq_shut(queue) == PQ_OK);
-    pq_free(queue, is_left, &count_of_left);
-    ended(thread);
-    queue = opened(1);
-    pq_member *member = joined(queue);
-    thread = sleeping(closed_and_ended, &item);
-    CHECK(pq_push(member, item_of(1, 2), PQ_FOREVER, NULL) == PQ_OK);
-    pq_free(queue, is_left, &count_of_left);
-    ended(thread);
-    CHECK(count_of_left == 0);
-    pq_give_back(member);
-    queue = opened(1);
-    pushes_one();
-    pq_free(queue, is_left, &count_of_left);
-    CHECK(count_of_left == 2);
 }
 
 static pthread_key_t at_end;
@@ -291,9 +192,8 @@ static void threads_call_while_they_end(void) {
 int main(void) {
     thousands_come_and_go();
     idle_members_are_taken_over();
-    members_that_are_in_use_are_kept();
+    members_that_listen_are_kept();
     a_new_queue_is_not_taken_for_a_freed_one();
-    a_queue_is_freed_while_it_is_called();
     threads_call_while_they_end();
     return 0;
 }

@@ -32,12 +32,6 @@ static void *pushes_by_plug_in(void *unused) {
     return unused;
 }
 
-static int is_readable(int fd, int milliseconds) {
-    struct pollfd one = { 0, POLLIN, 0 };
-    one.fd = fd;
-    return poll(&one, 1, milliseconds) == 1 && (one.revents & POLLIN) != 0;
-}
-
 /* Threads and eventfds of the one are woken by a push of the other. */
 static void each_wakes_the_other(void) {
     int fd = eventfd(0, 0);

@@ -1,6 +1,5 @@
-/* Each refusal comes where the header says, and changes nothing. Others are in fills.c, archived.c, lasting.c, journal.c, no_memory.c,
-   forked.c and old_processor.c. */
-#include "../wrapped.h"
+/* Each refusal comes where the header says, and changes nothing. Others are in fills.c, archived.c, deadlines.c, journal.c,
+   no_memory.c, forked.c and old_processor.c. */
 #include "refused.h"
 
 #include <string.h>
@@ -200,32 +199,6 @@ static void refuses_calls_while_it_ends(void) {
     CHECK(count == 3);
 }
 
-/* While another thread has the lock: what is posted stays so, and nothing else has been done. */
-static void refuses_to_wait_for_the_lock(void) {
-    pq_queue *queue = opened(2);
-    pq_member *member = joined(queue);
-    pq_journal *journal = (pq_journal *)queue;
-    pq_item item = item_of(7, 8);
-    uint64_t number = 0, size = 9, peak = 9;
-    holder other;
-    hold(&other, queue, HOLDS_AND_STOPS);
-    refuses_requests(member, PQ_TIMED_OUT, PQ_NOW);
-    refuses_requests(member, PQ_TIMED_OUT, in_ms(5));
-    CHECK(pq_size(member, PQ_NOW, &size, &peak) == PQ_TIMED_OUT && pq_size(member, in_ms(5), &size, &peak) == PQ_TIMED_OUT);
-    CHECK(size == 9 && peak == 9);
-    CHECK(pq_archive(member, 0, PQ_NOW, &journal) == PQ_TIMED_OUT && journal == NULL);
-    CHECK(pq_archive(member, 0, in_ms(5), &journal) == PQ_TIMED_OUT && pq_combine(member) == PQ_TIMED_OUT);
-    CHECK(pq_post(member, PQ_PUSH, item_of(0, 5)) == PQ_OK && pq_combine(member) == PQ_TIMED_OUT);
-    CHECK(pq_poll(member, &item, &number) == PQ_PENDING);
-    let_go(&other);
-    CHECK(pq_combine(member) == PQ_OK && pq_poll(member, &item, &number) == PQ_OK);
-    CHECK(pq_pop(member, &item, PQ_NOW, NULL) == PQ_OK && is_item(item, 0, 5));
-    pq_give_back(member);
-    pq_journal *last = closed(queue);
-    CHECK(pq_count(last, NULL) == other.pushed + 2);
-    pq_journal_free(last);
-}
-
 int main(void) {
     refuses_openings();
     refuses_no_member();
@@ -234,6 +207,5 @@ int main(void) {
     refuses_pushes_once_shut();
     refuses_calls_once_closed();
     refuses_calls_while_it_ends();
-    refuses_to_wait_for_the_lock();
     return 0;
 }

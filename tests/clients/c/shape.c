@@ -1,12 +1,10 @@
-/* Each call, constant and field of the header has its type, in C99 and with no header before it; many threads read one closed journal at
-   once; each code has a text; and the version of the library is the header's. */
+/* Each call, constant and field of the header has its type, in C99 and with no header before it; each code has a text; and the version of the
+   library is the header's. */
 #include "flatpq.h"
 
 #include "../check.h"
 
 #include <string.h>
-
-enum { THREADS = 4, ENTRIES = 500, TIMES = 100 };
 
 /* Counts the calls of the header, each of which has this type. */
 static int calls;
@@ -98,34 +96,6 @@ static void has_codes(void) {
     }
 }
 
-static void *read_all(void *own) {
-    const pq_journal *journal = (const pq_journal *)own;
-    uint64_t before = 9;
-    CHECK(pq_count(journal, &before) == ENTRIES && before == 0 && pq_count(journal, NULL) == ENTRIES);
-    for (size_t i = 0; i < TIMES * ENTRIES; i++) {
-        const size_t index = i % ENTRIES;
-        pq_entry entry;
-        CHECK(pq_read(journal, index, &entry) == PQ_OK && entry.serial == index + 1 && is_item(entry.item, index, 7));
-    }
-    return NULL;
-}
-
-static void many_threads_read_a_journal(void) {
-    pq_queue *queue = opened(1);
-    pthread_t threads[THREADS];
-    for (uint32_t i = 0; i < ENTRIES; i++) {
-        CHECK(pq_push(pq_own(queue), item_of(i, 7), PQ_FOREVER, NULL) == PQ_OK);
-    }
-    pq_journal *journal = closed(queue);
-    for (size_t i = 0; i < THREADS; i++) {
-        threads[i] = started(read_all, journal);
-    }
-    for (size_t i = 0; i < THREADS; i++) {
-        ended(threads[i]);
-    }
-    pq_journal_free(journal);
-}
-
 static void has_times(void) {
     uint64_t now = pq_now(), soon = pq_after(1000000000);
     CHECK(now > 0 && soon >= now + 1000000000 && soon <= pq_now() + 1000000000);
@@ -139,7 +109,6 @@ int main(void) {
     has_constants();
     has_codes();
     has_times();
-    many_threads_read_a_journal();
     pq_journal_free(NULL);
     pq_give_back(NULL);
     pq_free(NULL, NULL, NULL);

@@ -1,5 +1,5 @@
 /* pq_size: how many items there are after each call that puts some in or takes some out, and were at most, without an entry; a count carries
-   out what others have posted, and wakes a thread that waits for its item; and beside other threads it is a number that the queue had. */
+   out what others have posted; and beside other threads, which push and take at a bound, it is a number that the queue had. */
 #include "../check.h"
 
 static void is_of(pq_queue *queue, pq_member *member, uint64_t wanted) {
@@ -65,28 +65,6 @@ static void has_a_peak(void) {
     close_and_free(queue);
 }
 
-static void *take_one(void *own) {
-    pq_item item;
-    CHECK(pq_take(pq_own((pq_queue *)own), &item, PQ_FOREVER, NULL) == PQ_OK && is_item(item, 5, 6));
-    return NULL;
-}
-
-static void wakes_those_that_wait(void) {
-    pq_queue *queue = opened(3);
-    pq_member *poster = joined(queue);
-    pthread_t taker = started(take_one, queue);
-    pq_item item;
-    uint64_t size;
-    sleep_ms(20);
-    CHECK(pq_post(poster, PQ_PUSH, item_of(5, 6)) == PQ_OK);
-    /* The taker may already have the item. */
-    CHECK(pq_size(pq_own(queue), PQ_FOREVER, &size, NULL) == PQ_OK && size <= 1);
-    ended(taker);
-    CHECK(pq_poll(poster, &item, NULL) == PQ_OK && size_of(queue) == 0);
-    pq_give_back(poster);
-    close_and_free(queue);
-}
-
 enum { SIDES = 4, MOST = 8 };
 static pq_queue *shared;
 static int is_over;
@@ -132,7 +110,6 @@ static void is_never_above_the_bound(void) {
 int main(void) {
     follows_each_call();
     has_a_peak();
-    wakes_those_that_wait();
     is_never_above_the_bound();
     return 0;
 }

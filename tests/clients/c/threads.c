@@ -1,11 +1,8 @@
-/* 64 threads make requests at random: by calls that wait, by calls with deadlines, and by posts; half of them by members that they joined,
-   the others by pq_own. Each answer then stands in the journal at its number, the journal is one that a queue of one thread could have,
-   and what is left is what it leaves. Where there is an argument, the journal is written out. */
+/* 64 threads make requests at random: by calls that wait, by calls with deadlines, and by posts; half of them by members that they joined, the
+   others by pq_own. Each answer then stands in the journal at its number. With an argument the journal is written out, to be audited. */
 #include "../check.h"
 
 #include <sched.h>
-#include <string.h>
-#include <unistd.h>
 
 enum { THREADS = 64, MOST = 200 };
 
@@ -26,9 +23,6 @@ typedef struct asker {
 } asker;
 
 static asker askers[THREADS];
-/* The queue of one thread: the items in the order in which they come out. */
-static pq_item items[THREADS * MOST];
-static size_t item_count;
 
 static uint32_t draw(uint32_t *seed, uint32_t below) {
     *seed = *seed * 1664525u + 1013904223u;
@@ -98,44 +92,6 @@ static void stands(const pq_journal *journal, const asker *own) {
     }
 }
 
-/* Puts an item after all of its priority. */
-static void put(pq_item item) {
-    size_t at = item_count++;
-    for (; at > 0 && items[at - 1].priority > item.priority; at--) {
-        items[at] = items[at - 1];
-    }
-    items[at] = item;
-}
-
-/* What the queue of one thread replies is what the entry says. */
-static void replay(const pq_entry *entry) {
-    if (entry->request == PQ_PUSH) {
-        CHECK(entry->reply == PQ_OK);
-        put(entry->item);
-    } else if (item_count == 0) {
-        CHECK(entry->reply == PQ_EMPTY);
-    } else {
-        CHECK(entry->reply == PQ_OK && is_item(entry->item, items[0].priority, items[0].value));
-        if (entry->request == PQ_POP) {
-            memmove(items, items + 1, --item_count * sizeof *items);
-        }
-    }
-}
-
-static void is_audited(pq_journal *journal, size_t entries) {
-    pq_entry entry;
-    pq_item left;
-    CHECK(pq_count(journal, NULL) == entries);
-    for (size_t i = 0; i < entries; i++) {
-        CHECK(pq_read(journal, i, &entry) == PQ_OK);
-        replay(&entry);
-    }
-    for (size_t i = 0; i < item_count; i++) {
-        CHECK(pq_take_left(journal, &left) == PQ_OK && is_item(left, items[i].priority, items[i].value));
-    }
-    CHECK(pq_take_left(journal, &left) == PQ_EMPTY);
-}
-
 int main(int count, char **words) {
     const uint32_t each = requests(MOST);
     pq_queue *queue = opened_as(THREADS, PQ_FILLS, THREADS * each);
@@ -157,7 +113,6 @@ int main(int count, char **words) {
     for (uint32_t i = 0; i < THREADS; i++) {
         stands(journal, &askers[i]);
     }
-    is_audited(journal, THREADS * each);
     CHECK(count < 2 || pq_write(journal, STDOUT_FILENO) == PQ_OK);
     pq_journal_free(journal);
     return 0;

@@ -1,16 +1,13 @@
 /* Removals and moves by ticket: the first item, one in the middle and the last one go out, or elsewhere; a ticket that is gone, was never there or
    is that of another entry returns PQ_GONE and has an entry; a queue without tickets refuses; moves, removals and pops in threads take each item
-   out once; a removal makes room in a queue with a bound, and a move does not; a move to now wakes who waits for what is due, also where the queue
-   is shut; and a journal with both is read back. Where there is an argument, a journal is written out. */
+   out once; a removal makes room in a queue with a bound, and a move does not; and a journal with both is read back. Where there is an argument,
+   a journal is written out. Whom a move wakes tests/explore tries. */
 #include "../wrapped.h"
 
-#include <fcntl.h>
 #include <malloc.h>
 #include <sched.h>
 #include <string.h>
-#include <sys/eventfd.h>
 #include <sys/mman.h>
-#include <sys/timerfd.h>
 
 static pq_queue *opened_with_tickets(uint32_t keeping, uint32_t entries, uint64_t most_items) {
     const pq_options options = { 0, keeping, entries, 1, 0, 0, most_items };
@@ -226,135 +223,21 @@ static void each_goes_out_once(void) {
     close_and_free(queue);
 }
 
-static int has_pushed;
-
-static void *push_one(void *queue) {
-    CHECK(pq_push(pq_own((pq_queue *)queue), item_of(7, 8), PQ_FOREVER, NULL) == PQ_OK);
-    set(&has_pushed, 1);
-    return NULL;
-}
-
-/* In a full queue, where a push waits. */
+/* A move makes no room, and a queue that is shut lets both through. */
 static void only_a_removal_makes_room(void) {
     pq_queue *queue = opened_with_tickets(PQ_FORGETS, 0, 1);
-    uint64_t ticket = pushed(queue, 5, 6);
-    pthread_t thread = started(push_one, queue);
-    pq_item item;
-    for (int i = 0; i < 30; i++) {
-        sleep_ms(1);
-        ticket = moved(queue, ticket, 4);
-    }
-    CHECK(!is_set(&has_pushed) && pq_remove(pq_own(queue), ticket, &item, PQ_FOREVER, NULL) == PQ_OK && is_item(item, 4, 6));
-    ended(thread);
-    pops(queue, 7, 8);
+    uint64_t ticket = moved(queue, pushed(queue, 5, 6), 4);
+    CHECK(pq_push(pq_own(queue), item_of(7, 8), PQ_NOW, NULL) == PQ_FULL);
+    removes(queue, ticket, 4, 6);
+    ticket = pushed(queue, 7, 8);
+    CHECK(pq_shut(queue) == PQ_OK && pq_push(pq_own(queue), item_of(1, 1), PQ_FOREVER, NULL) == PQ_SHUT);
+    removes(queue, moved(queue, ticket, 9), 9, 8);
     close_and_free(queue);
-}
-
-/*
- * Moves of what is due later.
- */
-
-enum { HOUR = 3600000 };
-
-static void *takes_due(void *queue) {
-    static __thread pq_item item;
-    CHECK(pq_take_due(pq_own((pq_queue *)queue), &item, PQ_FOREVER, NULL) == PQ_OK && item.priority <= pq_now());
-    return (void *)(uintptr_t)item.value;
 }
 
 static uint64_t moved_to(pq_queue *queue, uint64_t ticket, uint64_t time) {
     CHECK(pq_reschedule(pq_own(queue), ticket, time, PQ_FOREVER, &ticket) == PQ_OK);
     return ticket;
-}
-
-/* Two threads sleep; one wakes by each move. A shut queue lets moves and removals through. */
-static void a_sleeper_gets_what_is_moved_to_now(int is_shut) {
-    pq_queue *queue = opened_with_tickets(PQ_FORGETS, 0, 0);
-    uint64_t first = pushed(queue, in_ms(HOUR), 1), second = pushed(queue, in_ms(HOUR), 2), third = pushed(queue, in_ms(HOUR), 3), sum;
-    pthread_t threads[2] = { started(takes_due, queue), started(takes_due, queue) };
-    pq_item item;
-    sleep_ms(20);
-    CHECK(!is_shut || (pq_shut(queue) == PQ_OK && pq_push(pq_own(queue), item_of(1, 1), PQ_FOREVER, NULL) == PQ_SHUT));
-    sleep_ms(20);
-    moved_to(queue, second, pq_now());
-    while (size_of(queue) == 3) {
-        sleep_ms(1);
-    }
-    first = moved_to(queue, moved_to(queue, first, in_ms(2 * HOUR)), in_ms(5));
-    sum = (uintptr_t)ended(threads[0]) + (uintptr_t)ended(threads[1]);
-    CHECK(sum == 1 + 2 && size_of(queue) == 1);
-    third = moved_to(queue, third, in_ms(HOUR));
-    CHECK(pq_take_due(pq_own(queue), &item, in_ms(5), NULL) == PQ_NOT_DUE && item.value == 3);
-    CHECK(pq_remove(pq_own(queue), third, &item, PQ_NOW, NULL) == PQ_OK && item.value == 3);
-    CHECK(!is_shut || pq_take_due(pq_own(queue), &item, PQ_FOREVER, NULL) == PQ_SHUT);
-    close_and_free(queue);
-}
-
-static uint32_t taken;
-
-static void *take_all_due(void *queue) {
-    pq_item item;
-    pq_code code;
-    while ((code = pq_take_due(pq_own((pq_queue *)queue), &item, PQ_FOREVER, NULL)) == PQ_OK) {
-        __atomic_fetch_add(&taken, 1, __ATOMIC_RELAXED);
-    }
-    CHECK(code == PQ_SHUT);
-    return NULL;
-}
-
-/* Items are moved to now at each moment of the waits of two threads, and each is taken before the next is moved. */
-static void no_move_is_missed(int is_shut) {
-    enum { MOVES = 3000 };
-    pq_queue *queue = opened_with_tickets(PQ_FORGETS, 0, 0);
-    pthread_t threads[2];
-    taken = 0;
-    for (uint32_t i = 0; i < requests(MOVES); i++) {
-        tickets[i] = pushed(queue, in_ms(HOUR), i);
-    }
-    CHECK(!is_shut || pq_shut(queue) == PQ_OK);
-    threads[0] = started(take_all_due, queue);
-    threads[1] = started(take_all_due, queue);
-    for (uint32_t i = 0; i < requests(MOVES); i++) {
-        for (volatile uint32_t pause = i * 7919 % 4000; pause > 0; pause--) {
-        }
-        moved_to(queue, tickets[i], pq_now());
-        while (__atomic_load_n(&taken, __ATOMIC_RELAXED) <= i) {
-            sched_yield();
-        }
-    }
-    CHECK(pq_shut(queue) == PQ_OK);
-    ended(threads[0]);
-    ended(threads[1]);
-    close_and_free(queue);
-}
-
-static int is_readable(int fd, int milliseconds) {
-    struct pollfd one = { 0, POLLIN, 0 };
-    one.fd = fd;
-    return poll(&one, 1, milliseconds) == 1;
-}
-
-/* One that listens by a timer, and one by an eventfd, for what has at most priority 5. */
-static void a_listener_is_woken_by_an_earlier_time(int is_shut) {
-    pq_queue *queue = opened_with_tickets(PQ_FORGETS, 0, 0);
-    const int timer = timerfd_create(CLOCK_MONOTONIC, TFD_NONBLOCK), ready = eventfd(0, EFD_NONBLOCK);
-    pq_member *alarm = joined(queue), *listener = joined(queue);
-    uint64_t ticket = pushed(queue, in_ms(HOUR), 1);
-    pq_item item;
-    CHECK(!is_shut || pq_shut(queue) == PQ_OK);
-    CHECK(pq_take_due_or_listen(alarm, timer, &item, NULL) == PQ_NOT_DUE && !is_readable(timer, 5));
-    ticket = moved_to(queue, ticket, in_ms(HOUR / 2));
-    CHECK(is_readable(timer, 60000) && pq_take_due_or_listen(alarm, timer, &item, NULL) == PQ_NOT_DUE && !is_readable(timer, 5));
-    CHECK(pq_take_or_listen(listener, 5, &item, NULL, pq_notify_fd, (void *)(intptr_t)ready) == PQ_NOT_DUE && !is_readable(ready, 5));
-    ticket = moved_to(queue, ticket, 5);
-    CHECK(is_readable(timer, 60000) && is_readable(ready, 60000));
-    CHECK(pq_take_or_listen(listener, 5, &item, NULL, pq_notify_fd, (void *)(intptr_t)ready) == PQ_OK && is_item(item, 5, 1));
-    is_gone(queue, ticket);
-    CHECK(pq_take_due_or_listen(alarm, timer, &item, NULL) == (is_shut ? PQ_SHUT : PQ_EMPTY));
-    pq_give_back(alarm);
-    pq_give_back(listener);
-    CHECK(close(timer) == 0 && close(ready) == 0);
-    close_and_free(queue);
 }
 
 static void takes_no_more_memory(void) {
@@ -393,9 +276,9 @@ static void has_entries(const pq_journal *journal) {
     CHECK(pq_count(journal, NULL) == 6);
 }
 
-static void is_read_back(const char *name) {
+static void is_read_back(int is_written) {
     pq_queue *queue = opened_with_tickets(PQ_FILLS, 100, 0);
-    const int file = name != NULL ? open(name, O_RDWR | O_CREAT | O_TRUNC, 0600) : memfd_create("journal", 0);
+    const int file = memfd_create("journal", 0);
     pq_journal *archive, *journal, *read;
     pq_item item;
     uint64_t line, ticket = pushed(queue, 5, 1), other = pushed(queue, 6, 2);
@@ -405,6 +288,7 @@ static void is_read_back(const char *name) {
     journal = closed(queue);
     has_entries(archive);
     has_entries(journal);
+    CHECK(!is_written || pq_write(journal, STDOUT_FILENO) == PQ_OK);
     CHECK(pq_write(journal, file) == PQ_OK && lseek(file, 0, SEEK_SET) == 0);
     CHECK(pq_journal_read(file, &read, &line, NULL) == PQ_OK && line == 6 && close(file) == 0);
     has_entries(read);
@@ -424,6 +308,7 @@ static void is_not_lawful(const char *text) {
 }
 
 int main(int count, char **words) {
+    (void)words;
     any_item_goes_out(PQ_FORGETS, 0);
     any_item_goes_out(PQ_FILLS, 100);
     an_item_goes_after_its_equals(PQ_FORGETS, 0);
@@ -432,13 +317,8 @@ int main(int count, char **words) {
     refuses_for_now();
     each_goes_out_once();
     only_a_removal_makes_room();
-    for (int is_shut = 0; is_shut < 2; is_shut++) {
-        a_sleeper_gets_what_is_moved_to_now(is_shut);
-        a_listener_is_woken_by_an_earlier_time(is_shut);
-        no_move_is_missed(is_shut);
-    }
     takes_no_more_memory();
-    is_read_back(count > 1 ? words[1] : NULL);
+    is_read_back(count > 1);
     is_not_lawful("1 0 1 push 5 1 pushed\n2 0 2 move 1 3 empty\n");
     is_not_lawful("1 0 1 push 5 1 pushed\n2 0 2 move 1 3 got 3 1\n");
     is_not_lawful("1 0 1 push 5 1 pushed\n2 0 2 move 2 3 got 5 1\n");

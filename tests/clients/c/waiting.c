@@ -1,11 +1,9 @@
 /* pq_take: it ends at its deadline and not before, or with the first item, for which a sleeping thread is woken; a take without an item
-   has no entry; signals and a cancellation don't end it. By joined members and by pq_own. */
-#define _GNU_SOURCE
+   has no entry; signals don't end it. By joined members and by pq_own. Who is woken when tests/explore tries. */
 #include "../check.h"
 
 #include <signal.h>
 #include <string.h>
-#include <unistd.h>
 
 static const uint64_t UPPER = (uint64_t)1 << 32;
 static uint64_t entries; /* how many requests there were that have one */
@@ -64,54 +62,6 @@ static void gets_what_comes_later(pq_member *member, pq_member *other) {
     CHECK(pq_now() < until[0]);
 }
 
-/* Pushes one item, whose value is the time, once the other thread sleeps; or writes the time into a pipe. */
-static int ends[2];
-
-static void *push_the_time(void *member) {
-    sleep_ms(5);
-    CHECK(pq_push((pq_member *)member, item_of(1, pq_now()), PQ_FOREVER, NULL) == PQ_OK);
-    return NULL;
-}
-
-static void *write_the_time(void *unused) {
-    uint64_t now;
-    (void)unused;
-    sleep_ms(5);
-    now = pq_now();
-    CHECK(write(ends[1], &now, sizeof now) == sizeof now);
-    return NULL;
-}
-
-/* How many nanoseconds pass from the push, or the write, until the other thread goes on, of 20 together. */
-static uint64_t till_woken(pq_member *member, pq_member *other) {
-    uint64_t sum = 0;
-    for (int i = 0; i < 20; i++) {
-        pthread_t thread = started(other != NULL ? push_the_time : write_the_time, other);
-        pq_item item = item_of(0, 0);
-        if (other != NULL) {
-            CHECK(pq_take(member, &item, PQ_FOREVER, NULL) == PQ_OK);
-            entries += 2;
-        } else {
-            CHECK(read(ends[0], &item.value, sizeof item.value) == sizeof item.value);
-        }
-        sum += pq_now() - item.value;
-        ended(thread);
-    }
-    return sum;
-}
-
-/* It takes little longer than a read from a pipe, once of some times: where the machine is slow both take long. A thread that looked again
-   every few milliseconds would take some of them each time. */
-static void is_woken_soon(pq_member *member, pq_member *other) {
-    int is_soon = 0;
-    CHECK(pipe(ends) == 0);
-    for (int i = 0; i < 5 && !is_soon; i++) {
-        uint64_t plain = till_woken(NULL, NULL);
-        is_soon = till_woken(member, other) <= 2 * plain + 10000000;
-    }
-    CHECK(is_soon && close(ends[0]) == 0 && close(ends[1]) == 0);
-}
-
 static void catch_signal(int number) {
     CHECK(number == SIGUSR1);
 }
@@ -140,25 +90,6 @@ static void signals_do_not_end_it(pq_member *member, pq_member *other) {
     ended(thread);
 }
 
-/* A function of its own: AddressSanitizer doesn't see that a cancelled thread leaves the frames that it is in. */
-__attribute__((noinline)) static void wait_cancelled(pq_member *member) {
-    nothing_comes(member, in_ms(20));
-}
-
-static int has_waited;
-
-static void *cancel_and_wait(void *member) {
-    CHECK(pthread_cancel(pthread_self()) == 0);
-    wait_cancelled((pq_member *)member);
-    has_waited = 1;
-    pthread_testcancel();
-    return NULL;
-}
-
-static void is_no_cancellation_point(pq_member *member) {
-    CHECK(ended(started(cancel_and_wait, member)) == PTHREAD_CANCELED && has_waited);
-}
-
 int main(void) {
     pq_member *member, *other, *own;
     pq_journal *journal;
@@ -173,10 +104,7 @@ int main(void) {
     a_deadline_may_be_past(own);
     gets_what_comes_later(member, other);
     gets_what_comes_later(own, own);
-    is_woken_soon(member, other);
-    is_woken_soon(own, own);
     signals_do_not_end_it(own, other);
-    is_no_cancellation_point(member);
     pq_leave(queue);
     pq_give_back(member);
     pq_give_back(other);

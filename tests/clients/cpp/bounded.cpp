@@ -5,7 +5,6 @@
 
 #include <atomic>
 #include <memory>
-#include <poll.h>
 #include <string>
 #include <thread>
 #include <utility>
@@ -82,28 +81,23 @@ static void a_push_waits_for_room() {
     CHECK(queue.take()->value == 2 && queue.take().error() == code::shut && *queue.size() == 0);
 }
 
-static bool is_readable(int fd) {
-    pollfd one = {fd, POLLIN, 0};
-    return poll(&one, 1, 0) == 1;
-}
-
 static void an_event_loop_waits_for_room() {
     flatpq::task_queue<std::unique_ptr<int>> queue(flatpq::options().with_most_items(1));
     auto listener = queue.listen_room().value();
     auto other = queue.listen_room().value();
     auto refused = std::make_unique<int>(2);
-    CHECK(is_readable(listener.fd()) && *listener.push_or_listen(5u, std::make_unique<int>(1)) == 1);
-    CHECK(listener.push_or_listen(6u, std::move(refused)).error() == code::full && *refused == 2 && !is_readable(listener.fd()));
-    CHECK(other.push_or_listen(7u, std::make_unique<int>(3)).error() == code::full && !is_readable(other.fd()));
+    CHECK(is_readable(listener.fd(), 0) && *listener.push_or_listen(5u, std::make_unique<int>(1)) == 1);
+    CHECK(listener.push_or_listen(6u, std::move(refused)).error() == code::full && *refused == 2 && !is_readable(listener.fd(), 0));
+    CHECK(other.push_or_listen(7u, std::make_unique<int>(3)).error() == code::full && !is_readable(other.fd(), 0));
     // One is notified of each place. It pushes, or hands that on.
-    CHECK(*queue.pop()->payload == 1 && is_readable(listener.fd()) && !is_readable(other.fd()));
-    CHECK(listener.push_or_listen(6u, std::move(refused)) && refused == nullptr && !is_readable(listener.fd()));
-    CHECK(listener.push_or_listen(6u, nullptr).error() == code::full && queue.pop() && is_readable(other.fd()));
+    CHECK(*queue.pop()->payload == 1 && is_readable(listener.fd(), 0) && !is_readable(other.fd(), 0));
+    CHECK(listener.push_or_listen(6u, std::move(refused)) && refused == nullptr && !is_readable(listener.fd(), 0));
+    CHECK(listener.push_or_listen(6u, nullptr).error() == code::full && queue.pop() && is_readable(other.fd(), 0));
     other.unlisten();
-    CHECK(is_readable(listener.fd()));
+    CHECK(is_readable(listener.fd(), 0));
     { const auto gone = std::move(listener); }
     CHECK(other.push_or_listen(7u, nullptr) && other.push_or_listen(7u, nullptr).error() == code::full && queue.shut() == code::ok);
-    CHECK(is_readable(other.fd()) && other.push_or_listen(7u, nullptr).error() == code::shut);
+    CHECK(is_readable(other.fd(), 0) && other.push_or_listen(7u, nullptr).error() == code::shut);
 }
 
 static void a_callback_waits_for_room() {

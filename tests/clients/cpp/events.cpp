@@ -18,30 +18,25 @@ using clock_of = std::chrono::steady_clock;
 using flatpq::code;
 using flatpq::item;
 
-static bool is_readable(int fd, int milliseconds = 0) {
-    pollfd one = {fd, POLLIN, 0};
-    return poll(&one, 1, milliseconds) == 1 && (one.revents & POLLIN) != 0;
-}
-
 static void a_descriptor_is_readable_where_an_item_may_be() {
     auto queue = *flatpq::queue<>::open();
     auto listener = *queue.listen();
     const int fd = listener.fd();
-    CHECK(is_readable(fd) && listener.take_or_listen().error() == code::empty && !is_readable(fd) && fcntl(fd, F_GETFD) == FD_CLOEXEC);
-    CHECK(queue.push(3u, 4) && is_readable(fd));
+    CHECK(is_readable(fd, 0) && listener.take_or_listen().error() == code::empty && !is_readable(fd, 0) && fcntl(fd, F_GETFD) == FD_CLOEXEC);
+    CHECK(queue.push(3u, 4) && is_readable(fd, 0));
     // It goes with the listener.
     auto moved = std::move(listener);
     CHECK(listener.fd() == -1 && listener.take_or_listen().error() == code::no_member);
-    CHECK(moved.fd() == fd && *moved.take_or_listen() == (item<>{3, 4}) && is_readable(fd));
-    CHECK(moved.take_or_listen().error() == code::empty && !is_readable(fd));
+    CHECK(moved.fd() == fd && *moved.take_or_listen() == (item<>{3, 4}) && is_readable(fd, 0));
+    CHECK(moved.take_or_listen().error() == code::empty && !is_readable(fd, 0));
     // Above its bound an item stays, and is shown.
-    CHECK(queue.push(9u, 1) && is_readable(fd));
+    CHECK(queue.push(9u, 1) && is_readable(fd, 0));
     const auto later = moved.take_or_listen(8u);
-    CHECK(later.error() == code::not_due && *later.first() == (item<>{9, 1}) && !is_readable(fd));
-    CHECK(moved.take_or_listen(9u)->value == 1 && moved.take_or_listen(9u).error() == code::empty && !is_readable(fd));
-    CHECK(queue.shut() == code::ok && is_readable(fd) && moved.take_or_listen().error() == code::shut && is_readable(fd));
+    CHECK(later.error() == code::not_due && *later.first() == (item<>{9, 1}) && !is_readable(fd, 0));
+    CHECK(moved.take_or_listen(9u)->value == 1 && moved.take_or_listen(9u).error() == code::empty && !is_readable(fd, 0));
+    CHECK(queue.shut() == code::ok && is_readable(fd, 0) && moved.take_or_listen().error() == code::shut && is_readable(fd, 0));
     { const auto gone = std::move(moved); }
-    CHECK(!is_readable(fd) && queue.close());
+    CHECK(!is_readable(fd, 0) && queue.close());
 }
 
 // One that is assigned has the other's descriptor, and none of its own from before.
@@ -51,7 +46,7 @@ static void one_is_assigned() {
     const int fd = other.fd();
     CHECK(second.take_or_listen().error() == code::empty && other.take_or_listen().error() == code::empty);
     second = std::move(other);
-    CHECK(second.fd() == fd && !is_readable(fd) && queue.push(5u, 6) && is_readable(fd) && second.take_or_listen()->value == 6);
+    CHECK(second.fd() == fd && !is_readable(fd, 0) && queue.push(5u, 6) && is_readable(fd, 0) && second.take_or_listen()->value == 6);
 }
 
 static void payloads_come_so() {
@@ -84,7 +79,7 @@ static void a_timer_is_readable_when_the_first_is_due() {
     flatpq::task_due_listener<std::string, clock_of::time_point> listener = *queue.listen_due();
     const auto first = clock_of::now() + (requests(2) == 1 ? 1500ms : 200ms), last = first + 1h;
     CHECK(fcntl(listener.fd(), F_GETFD) == FD_CLOEXEC);
-    CHECK(is_readable(listener.fd(), 60000) && listener.take_or_listen().error() == code::empty && !is_readable(listener.fd()));
+    CHECK(is_readable(listener.fd(), 60000) && listener.take_or_listen().error() == code::empty && !is_readable(listener.fd(), 0));
     CHECK(queue.push(last, "last") && is_readable(listener.fd(), 60000));
     CHECK(*listener.take_or_listen().first() == last && queue.push(last, "same") && !is_readable(listener.fd(), 10));
     CHECK(queue.push(first, "first") && is_readable(listener.fd(), 60000) && *listener.take_or_listen().first() == first);
@@ -92,12 +87,12 @@ static void a_timer_is_readable_when_the_first_is_due() {
     auto moved = std::move(listener);
     CHECK(listener.fd() == -1 && listener.take_or_listen().error() == code::no_member);
     CHECK(is_readable(moved.fd(), 60000) && clock_of::now() >= first && moved.take_or_listen()->payload == "first");
-    CHECK(moved.take_or_listen().error() == code::not_due && !is_readable(moved.fd()));
+    CHECK(moved.take_or_listen().error() == code::not_due && !is_readable(moved.fd(), 0));
     // A member with a timer of the program.
     auto member = *queue.join();
     CHECK(member.take_due_or_listen(-1).error() == code::no_timer && !member.unlisten());
     const int timer = timerfd_create(CLOCK_MONOTONIC, 0);
-    CHECK(*member.take_due_or_listen(timer).first() == last && !is_readable(timer) && queue.shut() == code::ok);
+    CHECK(*member.take_due_or_listen(timer).first() == last && !is_readable(timer, 0) && queue.shut() == code::ok);
     CHECK(is_readable(timer, 60000) && is_readable(moved.fd(), 60000) && queue.pop()->payload == "last" && queue.pop()->payload == "same");
     CHECK(member.take_due_or_listen(timer).error() == code::shut && moved.take_or_listen().error() == code::shut);
     moved = *flatpq::task_queue<std::string, clock_of::time_point>::open()->listen_due();

@@ -48,7 +48,7 @@ static void a_shut_queue_ends_all_waits(std::chrono::milliseconds a_while) {
     std::atomic<long> pushed{0}, taken{0};
     std::thread shuts([&] {
         std::this_thread::sleep_for(a_while);
-        CHECK(queue.shut() == code::ok);
+        CHECK(!queue.is_shut() && queue.shut() == code::ok && queue.is_shut());
     });
     run(7, [&](std::uint32_t side) {
         if (side % 2 == 0) {

@@ -1,89 +1,14 @@
-// Removals and moves by ticket: a random run beside a std::map of keys and tickets; and payloads, each of which stays where it is while it is
-// moved, comes back once and is dropped once.
+// Removals and moves by ticket: each payload stays where it is while it is moved, comes back once and is dropped once.
 #include "../check.h"
 #include "flatpq_tasks.hpp"
 
 #include <chrono>
-#include <map>
 #include <memory>
-#include <random>
 #include <utility>
-#include <vector>
 
 using flatpq::code;
 
 constexpr auto with_tickets = flatpq::options().with_tickets();
-
-// A queue, and what it has: the values by priority and ticket.
-class beside_a_map {
-public:
-    void push(std::uint64_t priority, std::uint64_t value) {
-        known.emplace_back(priority, queue.push(priority, value).value());
-        model[known.back()] = value;
-    }
-    void pop() {
-        const auto popped = queue.pop();
-        CHECK(popped.has_value() == !model.empty());
-        if (popped) {
-            CHECK(popped->priority == model.begin()->first.first && popped->value == model.begin()->second);
-            model.erase(model.begin());
-        }
-    }
-    void remove(std::uint64_t any) {
-        const auto found = model.find(one(any));
-        const auto removed = queue.remove(one(any).second);
-        CHECK(removed.has_value() == (found != model.end()) && (removed || removed.error() == code::gone));
-        if (removed) {
-            CHECK(removed->priority == found->first.first && removed->value == found->second);
-            model.erase(found);
-        }
-    }
-    void reschedule(std::uint64_t any, std::uint64_t priority) {
-        const auto found = model.find(one(any));
-        const auto moved = queue.reschedule(one(any).second, priority);
-        CHECK(moved.has_value() == (found != model.end()) && (moved || moved.error() == code::gone));
-        if (moved) {
-            one(any) = {priority, *moved};
-            model[one(any)] = found->second;
-            model.erase(found);
-        }
-    }
-    [[nodiscard]] std::size_t size() {
-        CHECK(*queue.size() == model.size());
-        return model.size();
-    }
-
-private:
-    using at = std::pair<std::uint64_t, std::uint64_t>;
-
-    at &one(std::uint64_t any) { return known[any % known.size()]; }
-
-    flatpq::queue<> queue{with_tickets};
-    std::map<at, std::uint64_t> model;
-    std::vector<at> known; // some of them gone
-};
-
-static void a_random_run_is_that_of_a_map() {
-    beside_a_map both;
-    std::mt19937_64 any(7);
-    both.push(1, 2);
-    for (std::uint32_t i = 0; i < requests(300000); ++i) {
-        const auto choice = any() % 10;
-        if (choice < 4) {
-            both.push(any() % 500, i);
-        } else if (choice == 4) {
-            both.pop();
-        } else if (choice < 7) {
-            both.remove(any());
-        } else {
-            both.reschedule(any(), any() % 500);
-        }
-    }
-    for (auto left = both.size(); left > 0; --left) {
-        both.pop();
-    }
-    CHECK(both.size() == 0);
-}
 
 static void payloads_come_back_once() {
     const auto counted = std::make_shared<int>(5);
@@ -134,7 +59,6 @@ static void journals_show_both() {
 }
 
 int main() {
-    a_random_run_is_that_of_a_map();
     payloads_come_back_once();
     a_timer_is_set_anew();
     journals_show_both();

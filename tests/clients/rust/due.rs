@@ -1,5 +1,5 @@
-//! A delay queue: a payload comes out once it is due and not before. What an earlier push, a deadline and a shut do to a thread that waits is
-//! in `expected.rs`.
+//! A delay queue: a payload comes out once it is due and not before. What an earlier push, a deadline and a shut do to a thread that waits
+//! tests/explore tries.
 use flatpq::{Due, Error, Key, Options, TaskQueue, TickKey, TimeKey};
 use std::cell::Cell;
 use std::future::{poll_fn, Future};

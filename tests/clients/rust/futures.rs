@@ -520,39 +520,3 @@ fn a_push_that_waits_sees_the_end() {
     assert_eq!(polled(&mut push, &counted), Poll::Ready(Err(refused)));
     assert_eq!(run(queue.push_async(3, 3)).unwrap_err().error, Error::Shut);
 }
-
-/// Futures push into little room, threads push beside them, and threads take.
-#[test]
-fn no_push_is_lost() {
-    const FUTURES: u32 = 40;
-    const EACH: u32 = 200;
-    const THREADS: u32 = 2;
-    let queue = with_room_for(3);
-    let sum = AtomicUsize::new(0);
-    thread::scope(|threads| {
-        for _ in 0..THREADS {
-            threads.spawn(|| {
-                while let Ok((_, number)) = queue.take() {
-                    sum.fetch_add(number as usize, Ordering::SeqCst);
-                }
-            });
-        }
-        let pushing = (0..THREADS).map(|_| {
-            threads.spawn(|| (0..EACH).for_each(|number| assert!(queue.push(1, number).is_ok())))
-        });
-        let pushing: Vec<_> = pushing.collect();
-        let all = (0..FUTURES).map(|at| -> Pin<Box<dyn Future<Output = ()> + '_>> {
-            let queue = &queue;
-            Box::pin(async move {
-                for number in 0..EACH {
-                    queue.push_async(u64::from(at), number).await.unwrap();
-                }
-            })
-        });
-        run_all(all.collect());
-        pushing.into_iter().for_each(|it| it.join().unwrap());
-        queue.shut().unwrap();
-    });
-    let pushed = (FUTURES + THREADS) * (0..EACH).sum::<u32>();
-    assert_eq!(sum.into_inner(), pushed as usize);
-}

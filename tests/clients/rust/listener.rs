@@ -2,7 +2,6 @@
 use flatpq::{Due, Error, TaskQueue};
 use std::os::raw::{c_int, c_short, c_ulong};
 use std::os::unix::io::{AsFd, AsRawFd};
-use std::thread;
 use std::time::{Duration, Instant};
 
 #[repr(C)]
@@ -84,38 +83,4 @@ fn a_timer_is_readable_once_the_first_is_due() {
     assert_eq!(queue.clear(), Ok(2));
     assert!(is_readable(&listener, 60_000));
     assert_eq!(listener.try_take_due(), Err(Error::Shut));
-}
-
-#[test]
-fn loops_and_threads_get_all() {
-    const EACH: u64 = 2000;
-    let queue = TaskQueue::new().unwrap();
-    let listens = || {
-        let mut listener = queue.listener().unwrap();
-        let mut sum = 0;
-        loop {
-            match listener.try_take() {
-                Ok(Some((_, number))) => sum += number,
-                Ok(None) => assert!(is_readable(&listener, 60_000)),
-                Err(error) => {
-                    assert_eq!(error, Error::Shut);
-                    return sum;
-                }
-            }
-        }
-    };
-    let sum: u64 = thread::scope(|scope| {
-        let loops = [(); 2].map(|()| scope.spawn(listens));
-        let taking = scope.spawn(|| std::iter::from_fn(|| queue.take().ok().map(|it| it.1)).sum());
-        for number in 0..EACH {
-            queue.push(number % 7, number).unwrap();
-            if number % 100 == 0 {
-                thread::sleep(Duration::from_micros(200));
-            }
-        }
-        queue.shut().unwrap();
-        let taken: u64 = taking.join().unwrap();
-        loops.map(|it| it.join().unwrap()).iter().sum::<u64>() + taken
-    });
-    assert_eq!(sum, EACH * (EACH - 1) / 2);
 }

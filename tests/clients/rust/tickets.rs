@@ -1,9 +1,8 @@
-//! Removals and moves by ticket: what they return, and that each payload comes out once and is dropped once, whichever of moves, removals, pops,
-//! clears and a close gets to it first.
-use flatpq::{Error, Item, Keeping, NotClosed, Options, Request, TaskMember, TaskQueue, Until};
+//! Removals and moves by ticket: what they return, and that each payload comes out once and is dropped once, whichever of moves, removals, pops
+//! and clears gets to it first.
+use flatpq::{Error, Item, Keeping, Options, Request, TaskQueue, Until};
 use std::sync::atomic::{AtomicU32, AtomicU64, Ordering};
 use std::thread;
-use std::time::Duration;
 
 fn with_tickets<T: Send>() -> TaskQueue<i32, T> {
     Options::new().tickets(true).open().unwrap()
@@ -184,44 +183,5 @@ fn each_comes_out_once_beside_pops_and_clears() {
         });
         records.are_dropped_once();
         assert_eq!(queue.len(), Ok(0));
-    }
-}
-
-/// Members that move and remove, and a close that is refused until the last of them is given back.
-#[test]
-fn each_comes_out_once_beside_a_close() {
-    for _ in 0..ROUNDS {
-        let records = Records::new();
-        let mut queue = with_tickets();
-        records.fill(&queue);
-        let [mut moves, mut removes]: [TaskMember<_, _>; 2] =
-            [queue.join().unwrap(), queue.join().unwrap()];
-        let records = &records;
-        thread::scope(|threads| {
-            threads.spawn(move || records.moves(|ticket, key| moves.reschedule(ticket, key)));
-            threads.spawn(move || {
-                records.removes(|ticket| match ticket % 2 {
-                    0 => removes.remove(ticket),
-                    _ => Ok(None),
-                });
-            });
-            let journal = loop {
-                match queue.close() {
-                    Ok(journal) => break journal,
-                    Err(NotClosed { queue: open, error }) => {
-                        assert_eq!(error, Error::MembersLeft);
-                        queue = open;
-                    }
-                }
-                thread::sleep(Duration::from_micros(10));
-            };
-            let dropped = records
-                .drops
-                .iter()
-                .filter(|it| it.load(Ordering::Relaxed) > 0);
-            assert!(dropped.count() < PAYLOADS);
-            drop(journal);
-        });
-        records.are_dropped_once();
     }
 }

@@ -1,20 +1,35 @@
 -- What the calls for C that ask something of a member answer, and what they make of what its handle holds.
-use Rattle.std.specs.Prelude.{◌≡◌, ◌≢◌, ℕ, ◌≤◌, ◌↔◌, false, [], ◌∷◌, Option, None, IfSome}
+use Rattle.std.specs.Prelude.{◌≡◌, ◌≢◌, ℕ, ◌≤◌, ◌↔◌, false, true, [], ◌∷◌, Option, None, IfSome, IsSome}
 use Rattle.std.specs.Option.{MatchOption}
 use Rattle.pq_types.specs.Item.{Item}
+use Rattle.pq_types.specs.Asked.{Request}
+use Rattle.pq_types.specs.Queue.{IsPush}
 use Rattle.announce_board.specs.Tokens.{is_idle}
 use Rattle.flat_queue.specs.Limits.{most_posts}
 use Rattle.flat_queue.specs.declared.counting.Counts.{Counts}
 use Rattle.flat_queue.specs.declared.looking.Wanted.{Wanted}
 use Rattle.flat_queue.specs.declared.counting.Unpushed.TheVariants as unpushed
 use Rattle.queue_c.specs.Handles.{member_in, owner_in}
-use Rattle.queue_c.specs.Calls.{IsOneOf, Missing}
+use Rattle.queue_c.specs.Calls.{IsOneOf, Posting, Looking, Waiting, Rounding, Missing}
 use Rattle.queue_c.specs.Looking.{PoppingOrLooking}
 use Rattle.queue_c.specs.Counting.{Counting, PushingWithin, NotPushing}
-use Rattle.queue_c.specs.declared.codes.TheConstants.{FULL, LOCK_HELD, NO_HANDLE, OK, POSTS_SPENT}
-use Rattle.queue_c.specs.declared.codes.TheConstants.{SHUT, UNARCHIVED, WAITS}
+use Rattle.queue_c.specs.declared.codes.TheConstants.{FULL, IDLE, LOCK_HELD, NO_HANDLE, OK, POSTS_SPENT}
+use Rattle.queue_c.specs.declared.codes.TheConstants.{SHUT, UNARCHIVED, UNKNOWN, WAITS}
 use Rattle.queue_c.specs.declared.contents.Contents.{Contents}
 use Rattle.queue_c.specs.declared.plain.PlainAnswer.{PlainAnswer}
+
+-- a post of this request, if there is one of its number
+pub record PostAnswers (before : Option Contents) (request : Option Request) (code : ℕ)
+    (after : Option Contents) : Type 0 where
+  pub posted : code ≡ OK → Posting (member_in before) request (member_in after)
+  pub refused : code ≢ OK → after ≡ before
+  pub codes : IsOneOf code (OK ∷ POSTS_SPENT ∷ NO_HANDLE ∷ WAITS ∷ UNKNOWN ∷ SHUT ∷ UNARCHIVED ∷ [])
+  pub no_member : (code ≡ NO_HANDLE) ↔ (member_in before ≡ None)
+  pub unknown : (code ≡ UNKNOWN) ↔ (IsSome (member_in before) × (request ≡ None))
+  pub waits : (code ≡ WAITS) ↔ MatchOption (member_in before) ⊥ (λ m. IsSome request × (is_idle m.pen.standing ≡ false))
+  pub spent : code ≡ POSTS_SPENT → IfSome (member_in before) (λ m. most_posts m.queue.room ≤ m.pen.posts)
+  pub shut : code ≡ SHUT → IfSome request IsPush
+  pub owner : owner_in after ≡ owner_in before
 
 -- a pop or a look that takes what it wants, with the answer that is told
 pub record LooksAnswers (before : Option Contents) (wants : Wanted) (code : ℕ) (told : PlainAnswer)
@@ -50,4 +65,24 @@ pub record PushWithinAnswers (before : Option Contents) (most : ℕ) (x : Item) 
   pub no_member : (code ≡ NO_HANDLE) ↔ (member_in before ≡ None)
   pub waits : (code ≡ WAITS) ↔ MatchOption (member_in before) ⊥ (λ m. is_idle m.pen.standing ≡ false)
   pub spent : code ≡ POSTS_SPENT → IfSome (member_in before) (λ m. most_posts m.queue.room ≤ m.pen.posts)
+  pub owner : owner_in after ≡ owner_in before
+
+-- a look for the answer to the last request
+pub record LookAnswers (before : Option Contents) (code : ℕ) (told : PlainAnswer)
+    (after : Option Contents) : Type 0 where
+  pub codes : IsOneOf code (OK ∷ NO_HANDLE ∷ WAITS ∷ IDLE ∷ [])
+  pub looked : code ≡ OK → Looking (member_in before) told (member_in after)
+  pub not_yet : code ≡ WAITS → Waiting (member_in before) (member_in after)
+  pub idle : code ≡ IDLE → (after ≡ before) × IfSome (member_in before) (λ m. is_idle m.pen.standing ≡ true)
+  pub no_member : (code ≡ NO_HANDLE) ↔ (member_in before ≡ None)
+  pub refused : code ≡ NO_HANDLE → after ≡ before
+  pub owner : owner_in after ≡ owner_in before
+
+-- a round
+pub record RoundAnswers (before : Option Contents) (code : ℕ) (after : Option Contents) : Type 0 where
+  pub codes : IsOneOf code (OK ∷ LOCK_HELD ∷ NO_HANDLE ∷ [])
+  pub round : code ≡ OK → Rounding (member_in before) (member_in after)
+  pub misses : code ≡ LOCK_HELD → Missing (member_in before) (member_in after)
+  pub no_member : (code ≡ NO_HANDLE) ↔ (member_in before ≡ None)
+  pub refused : code ≡ NO_HANDLE → after ≡ before
   pub owner : owner_in after ≡ owner_in before

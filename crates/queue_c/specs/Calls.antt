@@ -5,18 +5,20 @@ use Rattle.std.specs.Option.{MatchOption}
 use Rattle.pq_types.specs.Asked.{Request}
 use Rattle.pq_types.specs.Asked.{Answer}
 use Rattle.pq_types.specs.Asked.{Line}
+use Rattle.pq_types.specs.Control.{is_answer}
 use Rattle.pq_book.specs.declared.lines.LinesError.{LinesError}
 use Rattle.pq_book.specs.declared.lines.LinesError.TheVariants.{Forgotten, NoMemory}
 use Rattle.split_core.specs.Ids.{OpenGrid}
 use Rattle.desk_core.specs.Pen.{after_miss}
 use Rattle.desk_core.specs.Words.{word_number}
 use Rattle.announce_board.specs.Tokens.{is_idle}
-use Rattle.announce_board.specs.Asking.{LooksBy}
+use Rattle.announce_board.specs.Asking.{asked_by, LooksBy}
 use Rattle.flat_queue.specs.Limits.{most_posts}
 use Rattle.flat_queue.specs.OwnRequest.{CarriesOutBy}
 use Rattle.flat_queue.specs.Members.{Joined, StaysAtPlace}
 use Rattle.queue_pool.specs.Pool.{Pooled, TakesOutBy, StaysPool, NoneComesBy, inside, lists_of, with_member}
 use Rattle.flat_queue.specs.Settling.{Archives, Settles}
+use Rattle.flat_queue.specs.TrailSweeping.{MakesTrailRoundBy}
 use Rattle.leftist_heap.specs.Store.{first_of, rest_of}
 use Rattle.queue_c.specs.Values.{Told, IsOpened, IsClosed}
 use Rattle.queue_c.specs.Plain.{told_item, told_answer, told_line, Tells}
@@ -55,6 +57,13 @@ Returning (Some before) (Some member) (Some after) =
     (after ≡ with_member before member) × (inside before < before.most)
 Returning before member after = ⊥
 
+-- the idle member has posted this request
+abbrev pub Posting : Option Joined → Option Request → Option Joined → Type 0
+Posting (Some before) (Some request) (Some after) =
+    (is_idle before.pen.standing ≡ true) × (before.pen.posts < most_posts before.queue.room)
+    × ((now : ℕ) × (after ≡ record before { pen = asked_by words_of_item before.pen request now }))
+Posting before request after = ⊥
+
 -- the idle member has found the lock free, and carried this request out itself, with the answer that is told
 abbrev pub CarryingOut : Option Joined → Option Request → PlainAnswer → Option Joined → Type 0
 CarryingOut (Some before) (Some request) told (Some after) =
@@ -68,6 +77,17 @@ Looking (Some before) told (Some after) =
     StaysAtPlace before after
     × ((answer : Answer) × LooksBy words_of_item before.pen (Some answer) after.pen × (told ≡ told_answer 0 answer))
 Looking before told after = ⊥
+
+-- the waiting member has looked at its record, and waits on; it knew of no answer
+abbrev pub Waiting : Option Joined → Option Joined → Type 0
+Waiting (Some before) (Some after) =
+    (is_answer before.pen.own ≡ false) × StaysAtPlace before after × LooksBy words_of_item before.pen None after.pen
+Waiting before after = ⊥
+
+-- the member has made a round by a trail scan
+abbrev pub Rounding : Option Joined → Option Joined → Type 0
+Rounding (Some before) (Some after) = (served : ℕ) × (doors : ℕ) × MakesTrailRoundBy words_of_item before served doors after
+Rounding before after = ⊥
 
 -- the member found the lock held
 abbrev pub Missing : Option Joined → Option Joined → Type 0

@@ -60,9 +60,8 @@ fn step_call(
 /// The first step of a call, and each that tries again. It carries the request out where no other member leads, without a post:
 /// 0, and the answer is told, and whether a wake is owed behind it. Where another member led it posts the request, unless `posts`
 /// is 0: 14, and `pq_core_step_answer` makes the next steps; else nothing was done: 8. 51 where it is a push and the queue is shut:
-/// the member led, and released without it, or it did not post. Else nothing was done: 42 where the handle holds no member, 45
-/// where there is no such request, 43 where the last one is not answered yet, 52 where it might have memory forget a line that is
-/// not archived, 11 where all posts are spent. Takes memory for pushes alone.
+/// the member led, and released without it, or it did not post. Else it is refused as `pq_core_post`. Takes memory for pushes
+/// alone.
 #[unsafe(no_mangle)]
 pub extern "C" fn pq_core_step_call(
     alloc: Global,

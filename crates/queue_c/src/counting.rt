@@ -89,7 +89,7 @@ fn push_within(held: &mut Contents, most: u64, item: Item<u64>, answer: &mut Pla
 /// Pushes the item at once where no other member leads, without a post, and only while the queue has fewer than `most` items: 0,
 /// and the answer is told, and whether a wake is owed behind it; 53 where the queue has as many or more: the member led, and
 /// made no request, and `owes_wake` alone is told; 8 where another member led, and then nothing was done; 51 where the queue is
-/// shut. Else it is refused as a push by `pq_core_step_call`. Takes memory for pushes alone.
+/// shut. Else it is refused as `pq_core_post` of a push. Takes memory for pushes alone.
 #[unsafe(no_mangle)]
 pub extern "C" fn pq_core_try_push_within(
     alloc: Global,

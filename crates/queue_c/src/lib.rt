@@ -4,6 +4,7 @@
 #![tactic(auto)]
 
 mod archiving;
+mod asking;
 mod batches;
 mod buffers;
 mod calling;
@@ -19,7 +20,6 @@ mod length;
 mod looking;
 mod opening;
 mod place;
-mod placing;
 mod plain;
 mod plain_batch;
 mod raw_box;

@@ -29,7 +29,8 @@ type Tasks = TaskQueue<u64, String>;
 
 /// Runs this while the thread is stopped with the lock in its hand. It tries to stop it there until it has.
 fn stopped(caller: &JoinHandle<()>, looking: &mut TaskMember<u64, String>, run: impl FnOnce()) {
-    let is_held = |it: &mut TaskMember<u64, String>| it.combine() == Err(Error::TimedOut);
+    let is_held =
+        |it: &mut TaskMember<u64, String>| it.until(Until::NOW).len() == Err(Error::TimedOut);
     loop {
         STOPS.store(true, SeqCst);
         // SAFETY: the thread runs until it is joined, and the handler is there.

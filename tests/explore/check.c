@@ -63,23 +63,37 @@ void check_call_ends(uint32_t request, pq_code code, pq_item item, uint64_t numb
 /* What the proved queue has. */
 typedef struct content {
     uint64_t count, due; /* when the first item is due */
-    core_answer first;
+    core_answer first;   /* KIND_EMPTY too where looks are refused for the archive */
     int is_shut;
 } content;
 
+/* The member that sees it: where none is joined for that, that of a thread in no call. */
+static pq_member *seer(void) {
+    for (int i = 0; i < fiber_count && observer == NULL; i++) {
+        if (fibers[i].state == SLEEPS && fibers[i].call == NO_CALL && used[i] != pq_own(queue)) {
+            return used[i];
+        }
+    }
+    return observer;
+}
+
 /* 0: that can't be seen. */
 static int observe(content *it) {
+    const core_answer none = { KIND_EMPTY, 0, 0, { 0, 0 } };
     uint64_t peak;
     uint32_t owes;
-    if (observer == NULL || ending != STANDS || proved_has_posts()) {
+    pq_member *by = ending == STANDS && !proved_has_posts() ? seer() : NULL;
+    pq_code code;
+    it->first = none;
+    if (by == NULL || pq_core_try_count(&by->proved, &it->count, &peak, &owes) != PQ_OK) {
         return 0;
     }
-    if (pq_core_try_count(&observer->proved, &it->count, &peak, &owes) != PQ_OK
-        || pq_core_try_pop_or_look(&observer->proved, 0, 0, &it->first) != PQ_OK) {
+    code = pq_core_try_pop_or_look(&by->proved, 0, 0, &it->first);
+    if (code != PQ_OK && code != PQ_UNARCHIVED) {
         return 0;
     }
     it->is_shut = (int)queue->is_shut;
-    it->due = it->count > 0 ? flatpq_due_time(queue, it->first.item.priority) : PQ_FOREVER;
+    it->due = code == PQ_OK && it->count > 0 ? flatpq_due_time(queue, it->first.item.priority) : PQ_FOREVER;
     return 1;
 }
 
@@ -88,8 +102,26 @@ int is_journal_full(void) {
     return observe(&it) && it.first.kind == KIND_JOURNAL_FULL;
 }
 
+/* One member stays awake, if there are several. */
+static void check_listeners(void) {
+    uint32_t count = 0;
+    for (own *it = queue->owns; it != NULL; it = it->next_of_queue) {
+        count += (it->member->keeps & LISTENS) != 0;
+    }
+    for (int i = 0; i < fiber_count; i++) {
+        count += used[i] != pq_own(queue) && (used[i]->keeps & LISTENS) != 0;
+    }
+    if (count == queue->members && count > 1) {
+        fail("all %u members listen", count);
+    }
+}
+
 static void check_members(void) {
-    if (ending == FREED || queue->first == NULL) {
+    if (ending == FREED) {
+        return;
+    }
+    check_listeners();
+    if (queue->first == NULL) {
         return;
     }
     if (queue->is_closed) {
@@ -108,7 +140,7 @@ static void check_sleeper(int which, const content *it) {
     const int has_item = it->first.kind == KIND_FIRST, is_full = it->first.kind == KIND_JOURNAL_FULL, ends = it->is_shut && it->count == 0;
     const char *shut = it->is_shut ? ", and the queue is shut" : "";
     const unsigned long long count = it->count, first = it->first.item.priority;
-    if (thread->call == TAKES && (has_item || is_full || ends)) {
+    if (thread->call == TAKES && (it->count > 0 || is_full || ends)) {
         fail("thread %d sleeps in a take, and there are %llu items%s", which, count, shut);
     }
     if ((thread->call == TAKES_DUE || thread->call == LISTENS_FOR_DUE) && ends) {

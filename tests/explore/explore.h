@@ -86,6 +86,7 @@ typedef struct scenario {
     const char *name;
     char *opening, *threads[MOST_FIBERS];
     int count, holds;     /* the lock is held around each proved call */
+    int splits;           /* a push is counted, and posted later */
     const wrapper *wraps; /* by which its queue is opened */
 } scenario;
 extern scenario played;
@@ -102,8 +103,10 @@ void listeners_begin(void);
 void members_begin(void);
 pq_item new_item(uint64_t priority);
 void put(uint64_t priority);
+void use_entries(uint64_t count);
 void use_members(int joined);
 void give_back(int which);
+void while_refused(pq_code (*does)(int which, const uint64_t *numbers), int which, const uint64_t *numbers); /* for the archive */
 
 /* check.c, journal.c: what holds whenever nobody can run, and at the end of each execution. */
 typedef struct done {
@@ -122,6 +125,9 @@ void check_end(void);
 void check_shut_at_end(void);
 int is_journal_full(void);
 void end_observing(void);
+void journal_begin(void);
+uint64_t journal_kept(void); /* how many entries archives had */
+void check_archive(const pq_journal *journal);
 void check_journal(const pq_journal *journal, const done *all, int count, int heard_end);
 
 #endif

@@ -1,17 +1,43 @@
 /*
- * The journal of an execution against a queue of sorted items, and against what the calls returned.
+ * The journal of an execution, from its archives and its end, against a queue of sorted items, and against what the calls returned.
  */
 #include "explore.h"
 
 #include <string.h>
 
-enum { MOST_ITEMS = 64 };
+enum { MOST_ITEMS = 64, MOST_ENTRIES = 128 };
 
+static pq_entry entries[MOST_ENTRIES];
+static size_t entry_count;
 static struct {
     pq_item item;
     uint64_t ticket;
 } model[MOST_ITEMS];
 static size_t size;
+
+void journal_begin(void) {
+    entry_count = 0;
+}
+
+uint64_t journal_kept(void) {
+    return entry_count;
+}
+
+/* Keeps the entries that no archive had. Those that one had are the same again, and none is missing between. */
+void check_archive(const pq_journal *journal) {
+    const size_t lines = pq_count(journal, NULL);
+    for (size_t i = 0; i < lines; i++) {
+        pq_entry entry;
+        if (pq_read(journal, i, &entry) != PQ_OK || entry.number > entry_count + 1 || entry.number > MOST_ENTRIES) {
+            fail("entry %zu of a journal is not read, or does not follow entry %zu", i + 1, entry_count);
+        }
+        if (entry.number == entry_count + 1) {
+            entries[entry_count++] = entry;
+        } else if (memcmp(&entries[entry.number - 1], &entry, sizeof entry) != 0) {
+            fail("entry %llu is not as an archive had it", (unsigned long long)entry.number);
+        }
+    }
+}
 
 static int comes_before(size_t one, size_t other) {
     const uint64_t key = model[one].item.priority, than = model[other].item.priority;
@@ -60,23 +86,21 @@ static int is_of(const done *it, const pq_entry *entry) {
     return it->code == PQ_OK && is_same;
 }
 
-/* The index of the entry that took this call's item out. */
-static size_t place_of_done(const pq_journal *journal, const done *it) {
-    const size_t count = pq_count(journal, NULL);
-    size_t i = 0;
-    for (pq_entry entry; i < count; i++) {
-        if (pq_read(journal, i, &entry) == PQ_OK && entry.request == it->request && is_of(it, &entry)) {
-            break;
+/* Whether an entry took this call's item out. */
+static int has_entry(const done *it) {
+    for (size_t i = 0; i < entry_count; i++) {
+        if (entries[i].request == it->request && is_of(it, &entries[i])) {
+            return 1;
         }
     }
-    return i;
+    return 0;
 }
 
 /* A call returned this entry, and no other did. */
-static void check_done(const pq_journal *journal, const done *all, int which) {
+static void check_done(const done *all, int which) {
     const done *it = &all[which];
-    pq_entry entry;
-    if (it->number == UNNUMBERED && place_of_done(journal, it) == pq_count(journal, NULL)) {
+    const pq_entry *entry;
+    if (it->number == UNNUMBERED && !has_entry(it)) {
         fail("a call returned the item %llu, and no entry took it out", (unsigned long long)it->item.value);
     }
     if (it->number == 0 || it->number == UNNUMBERED || it->request > PQ_RESCHEDULE) {
@@ -87,8 +111,9 @@ static void check_done(const pq_journal *journal, const done *all, int which) {
             fail("two calls have entry %llu", (unsigned long long)it->number);
         }
     }
-    if (it->number > pq_count(journal, NULL) || pq_read(journal, it->number - 1, &entry) != PQ_OK || entry.request != it->request
-        || (it->code == PQ_OK && it->request != PQ_RESCHEDULE && memcmp(&entry.item, &it->item, sizeof entry.item) != 0)) {
+    entry = it->number <= entry_count ? &entries[it->number - 1] : NULL;
+    if (entry == NULL || entry->request != it->request
+        || (it->code == PQ_OK && it->request != PQ_RESCHEDULE && memcmp(&entry->item, &it->item, sizeof entry->item) != 0)) {
         fail("a call returned entry %llu, which is not of it", (unsigned long long)it->number);
     }
 }
@@ -108,22 +133,18 @@ static void check_returned(const pq_entry *entry, const done *all, int count) {
 }
 
 void check_journal(const pq_journal *journal, const done *all, int count, int heard_end) {
-    const size_t lines = pq_count(journal, NULL);
     size = 0;
-    for (size_t i = 0; i < lines; i++) {
-        pq_entry entry;
-        if (pq_read(journal, i, &entry) != PQ_OK) {
-            fail("entry %zu is not read", i + 1);
-        }
-        follow(i + 1, &entry);
+    check_archive(journal);
+    for (size_t i = 0; i < entry_count; i++) {
+        follow(i + 1, &entries[i]);
         if (count < MOST_DONE && loses == 0) {
-            check_returned(&entry, all, count);
+            check_returned(&entries[i], all, count);
         }
     }
     if (heard_end && size > 0) {
         fail("a thread heard that nothing is left, and %zu items are", size);
     }
     for (int i = 0; i < count; i++) {
-        check_done(journal, all, i);
+        check_done(all, i);
     }
 }

@@ -109,6 +109,15 @@ static void listen_once(int which, const uint64_t *numbers) {
     check_call_begins(NO_CALL, PQ_FOREVER, 0);
 }
 
+/* No other member sleeps or listens meanwhile. */
+static void listen_alone(int which, const uint64_t *numbers) {
+    pq_item first = { 0, 0 };
+    if (begin_listening(which, numbers[0], &first) == PQ_ALL_JOINED) {
+        fail("all other members are awake, and one may not listen");
+    }
+    check_call_begins(NO_CALL, PQ_FOREVER, 0);
+}
+
 /* Listens no more, unless the call found the lock held for long, and so notified the member itself. */
 static void listen_held(int which, const uint64_t *numbers) {
     listen_once(which, numbers);
@@ -196,6 +205,7 @@ const word listener_words[] = {
     { "listen-all", listen_all },
     { "listen-due", listen_due },
     { "listen-once", listen_once },
+    { "listen-alone", listen_alone },
     { "listen-held", listen_held },
     { "listen-refused", listen_refused },
     { "listen-room", push_until },

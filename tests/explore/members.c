@@ -3,10 +3,10 @@
  */
 #include "explore.h"
 
-static uint32_t told;
+static uint32_t told, asked;
 
 void members_begin(void) {
-    told = 0;
+    told = asked = 0;
 }
 
 /* So many threads use a member that is joined for them, and the others their own. */
@@ -46,19 +46,57 @@ static void leave(int which, const uint64_t *numbers) {
 
 static void archive(int which, const uint64_t *numbers) {
     pq_journal *journal;
-    if (pq_archive(used[which], numbers[0], PQ_FOREVER, &journal) == PQ_OK) {
+    pq_code code = pq_archive(used[which], numbers[0], PQ_FOREVER, &journal);
+    if (code == PQ_OK) {
+        check_archive(journal);
         pq_journal_free(journal);
+    } else if (code != PQ_CLOSED) {
+        fail("an archive returns %s", pq_code_text(code));
+    }
+}
+
+/* Reads what came after the last archive, and archives that: at first, and whenever others ask for it. */
+static void archive_on(int which, const uint64_t *numbers) {
+    while (!is_over) {
+        const uint32_t seen = asked;
+        for (int i = 0; i < 2; i++) {
+            const uint64_t kept = journal_kept();
+            archive(which, &kept);
+        }
+        check_call_begins(SERVES, PQ_FOREVER, 0);
+        sleep_at(&asked, seen, PQ_FOREVER);
+        check_call_begins(NO_CALL, PQ_FOREVER, 0);
+    }
+}
+
+static pq_code await_entry(uint64_t number, uint64_t until) {
+    pq_code code;
+    check_call_begins(AWAITS, until, number);
+    code = pq_wait_archived(queue, number, until);
+    check_call_begins(NO_CALL, PQ_FOREVER, 0);
+    if (code == PQ_CLOSED && ending != FREED && queue->archived >= number) {
+        fail("a wait until an entry is archived returns %s", pq_code_text(code));
+    }
+    return code;
+}
+
+/* Asks the thread that archives, and waits for this entry. */
+static pq_code ask_for(uint64_t number) {
+    scheduler_point("ask for an archive", &asked, WRITES, __FILE__, __LINE__);
+    asked++;
+    wake_word(&asked);
+    return await_entry(number, PQ_FOREVER);
+}
+
+void while_refused(pq_code (*does)(int which, const uint64_t *numbers), int which, const uint64_t *numbers) {
+    uint64_t number = queue->archived + 1;
+    while (does(which, numbers) == PQ_UNARCHIVED && ask_for(number) == PQ_OK) {
+        number = queue->archived + 1;
     }
 }
 
 static void await_archived(int which, const uint64_t *numbers) {
-    pq_code code;
-    check_call_begins(AWAITS, numbers[1], numbers[0]);
-    code = pq_wait_archived(queue, numbers[0], numbers[1]);
-    check_call_begins(NO_CALL, PQ_FOREVER, 0);
-    if (code == PQ_CLOSED && ending != FREED && queue->archived >= numbers[0]) {
-        fail("a wait until an entry is archived returns %s", pq_code_text(code));
-    }
+    (void)await_entry(numbers[0], numbers[1]);
 }
 
 /*
@@ -165,6 +203,7 @@ const word member_words[] = {
     { "give-back", give_member_back },
     { "leave", leave },
     { "archive", archive },
+    { "archive-on", archive_on },
     { "await-archived", await_archived },
     { "shut", shut },
     { "push-unless-shut", push_unless_shut },

@@ -1,6 +1,8 @@
 /*
  * Around each proved call: which member it is of, and whether another thread holds the queue's lock. The calls run over the real core, each as
- * one step, as they are proved. What happens inside a step is not explored.
+ * one step, as they are proved. What happens inside a step is not explored, but for this, where a scenario splits it: a thread that posts a push
+ * first counts it, looks whether the queue is shut, and then posts. A shut between comes to no end before that. The core has no call for one
+ * half. So the shut is kept back until all that was counted is posted, and other pushes are refused meanwhile, as by a queue that is shut.
  */
 #include "explore.h"
 
@@ -10,6 +12,10 @@ enum { MOST_HANDLES = 16 };
 
 const char proved_core = 0;
 int is_held;
+static const uint64_t stall = 3000000; /* as where a thread has no processor */
+/* How many pushes are counted, and not posted; the queue whose shut is kept back. */
+static uint32_t counted;
+static core *kept_back;
 /* The members of requests that are posted, and not carried out yet. */
 static const void *posts[MOST_HANDLES];
 static int post_count;
@@ -22,6 +28,8 @@ static struct {
 
 void proved_begin(void) {
     is_held = post_count = 0;
+    counted = 0;
+    kept_back = NULL;
     memset(uses, 0, sizeof uses);
 }
 
@@ -51,7 +59,6 @@ static void check_own(const void *handle) {
 }
 
 int proved_begins(const void *handle, int may_hold) {
-    const uint64_t stall = 3000000; /* as where the thread that has the lock has no processor */
     system_drain();
     if (me == NULL) {
         return 1;
@@ -89,9 +96,44 @@ pq_code proved_ends(pq_code code) {
     return code;
 }
 
-pq_code proved_posted(const void *handle, pq_code code, pq_code as) {
+int proved_refuses(void) {
+    return kept_back != NULL;
+}
+
+pq_code proved_shut(core *shut) {
+    if (counted == 0) {
+        return pq_core_shut(shut);
+    }
+    kept_back = shut;
+    return PQ_OK;
+}
+
+/* Others go on before the push that is counted is posted. */
+static void split(void) {
+    counted++;
+    scheduler_point("(it is counted)", &proved_core, WRITES, "core", 0);
+    if (choose_costly()) {
+        block(NAPS, NULL, now + stall);
+    }
+    scheduler_point("(it is posted)", &proved_core, WRITES, "core", 0);
+    counted--;
+}
+
+pq_code proved_post(core *member, uint32_t request, uint64_t priority, uint64_t value, pq_code as) {
+    const int is_split = played.splits && request == PQ_PUSH && me != NULL && !proved_refuses();
+    pq_code code;
+    if (is_split) {
+        split();
+    } else if (request == PQ_PUSH && proved_refuses()) {
+        return PQ_SHUT;
+    }
+    code = pq_core_post(member, request, priority, value);
     if (code == PQ_OK && post_count < MOST_HANDLES) {
-        posts[post_count++] = handle;
+        posts[post_count++] = member;
+    }
+    if (is_split && counted == 0 && kept_back != NULL) {
+        (void)!pq_core_shut(kept_back);
+        kept_back = NULL;
     }
     return code == PQ_OK ? as : code;
 }

@@ -30,7 +30,15 @@ void put(uint64_t priority) {
     ticket = code == PQ_OK && ticket == 0 ? entry : ticket;
 }
 
-static void push(int which, const uint64_t *numbers) {
+/* Makes so many entries before the threads begin. */
+void use_entries(uint64_t count) {
+    pq_item item;
+    while (count-- > 0) {
+        (void)!pq_peek(used[0], &item, PQ_NOW, NULL);
+    }
+}
+
+static pq_code push_item(int which, const uint64_t *numbers) {
     const pq_item item = new_item(numbers[0]);
     const int was_full = is_journal_full();
     uint64_t entry = 0;
@@ -45,6 +53,15 @@ static void push(int which, const uint64_t *numbers) {
         fail("a thread whose end nobody sees to has a member");
     }
     ticket = code == PQ_OK && ticket == 0 ? entry : ticket;
+    return code;
+}
+
+static void push(int which, const uint64_t *numbers) {
+    (void)push_item(which, numbers);
+}
+
+static void push_archived(int which, const uint64_t *numbers) {
+    while_refused(push_item, which, numbers);
 }
 
 /* So many items of one priority. */
@@ -81,12 +98,20 @@ static void pop(int which, const uint64_t *numbers) {
     (void)take_by(pq_pop, CALLS, which, numbers[0]);
 }
 
+static pq_code take_item(int which, const uint64_t *numbers) {
+    return take_by(pq_take, TAKES, which, numbers[0]);
+}
+
 static void take(int which, const uint64_t *numbers) {
-    (void)take_by(pq_take, TAKES, which, numbers[0]);
+    (void)take_item(which, numbers);
+}
+
+static void take_archived(int which, const uint64_t *numbers) {
+    while_refused(take_item, which, numbers);
 }
 
 static void take_all(int which, const uint64_t *numbers) {
-    while (take_by(pq_take, TAKES, which, numbers[0]) == PQ_OK) {
+    while (take_item(which, numbers) == PQ_OK) {
     }
 }
 
@@ -214,9 +239,11 @@ static void combine(int which, const uint64_t *numbers) {
 
 const word request_words[] = {
     { "push", push },
+    { "push-archived", push_archived },
     { "push-many", push_many },
     { "pop", pop },
     { "take", take },
+    { "take-archived", take_archived },
     { "take-all", take_all },
     { "poll-all", poll_all },
     { "poll-due-all", poll_due_all },

@@ -4,8 +4,9 @@
  *     tickets bound=1 item=3 | push 5 1ms | take, size
  *
  * Of the queue: members=N (joined ones, one a thread where it is left out), own=N (threads use their own members, of so many), tickets, bound=N,
- * entries=N (its journal fills; else it has 48), forgets, item=PRIORITY (it is there, and `remove` and `move` mean the first), held (the lock
- * is held around each proved call), unobserved (the scenario ends the queue), no-barriers, no-keys (the system refuses them), fences; cpp or rust
+ * entries=N (of its journal, which fills, with 48 where it is left out), forgets or refuses (older entries, of 16), item=PRIORITY (it is there, and
+ * `remove` and `move` mean the first), used=N (so many entries are there too), held (the lock is held around each proved call), splits (a push is
+ * counted first, and posted later), unobserved (the scenario ends the queue), no-barriers, no-keys (the system refuses them), fences; cpp or rust
  * (that wrapper opens it, its words come before those here, and calls in C are by threads' own members).
  * The tables of requests.c, listeners.c and members.c have the words of threads. A time is in us or ms from the beginning. A deadline may be
  * `now`; one that is left out is for ever.
@@ -15,7 +16,7 @@
 #include <stdlib.h>
 #include <string.h>
 
-enum { MOST_TEXT = 200, FORGOTTEN = 65536 }; /* entries that a journal has at least which forgets */
+enum { MOST_TEXT = 200 };
 
 scenario played;
 
@@ -49,6 +50,7 @@ void scenario_read(const char *name, const char *text) {
     played.name = name;
     played.opening = part;
     played.holds = strstr(part, "held") != NULL;
+    played.splits = strstr(part, "splits") != NULL;
     played.wraps = wrapper_of(part);
     while ((part = strsep(&left, "|")) != NULL) {
         if (played.count == MOST_FIBERS) {
@@ -61,7 +63,7 @@ void scenario_read(const char *name, const char *text) {
 typedef struct opening {
     pq_options options;
     uint32_t own;
-    uint64_t items[4];
+    uint64_t items[4], used;
     int item_count, is_unobserved;
 } opening;
 
@@ -72,6 +74,8 @@ static void read_number(opening *it, const char *name, uint64_t number) {
         it->own = (uint32_t)number;
     } else if (strcmp(name, "entries") == 0) {
         it->options.entries = (uint32_t)number;
+    } else if (strcmp(name, "used") == 0) {
+        it->used = number;
     } else if (strcmp(name, "bound") == 0) {
         it->options.most_items = number;
     } else if (strcmp(name, "item") == 0 && it->item_count < 4) {
@@ -81,6 +85,11 @@ static void read_number(opening *it, const char *name, uint64_t number) {
     }
 }
 
+/* Words that stand elsewhere too, and were read there. */
+static int is_read(const char *name) {
+    return strcmp(name, "held") == 0 || strcmp(name, "splits") == 0 || (played.wraps != NULL && strcmp(name, played.wraps->name) == 0);
+}
+
 static void read_option(opening *it, char *text) {
     const char *name = strsep(&text, "=");
     if (text != NULL) {
@@ -88,8 +97,9 @@ static void read_option(opening *it, char *text) {
     } else if (strcmp(name, "tickets") == 0) {
         it->options.tickets = 1;
     } else if (strcmp(name, "forgets") == 0) {
-        it->options.entries = FORGOTTEN;
         it->options.keeping = PQ_FORGETS;
+    } else if (strcmp(name, "refuses") == 0) {
+        it->options.keeping = PQ_REFUSES;
     } else if (strcmp(name, "no-barriers") == 0) {
         refuses_barriers = 1;
     } else if (strcmp(name, "no-keys") == 0) {
@@ -98,7 +108,7 @@ static void read_option(opening *it, char *text) {
         it->is_unobserved = 1;
     } else if (strcmp(name, "fences") == 0) {
         flatpq_special = FENCES;
-    } else if (strcmp(name, "held") != 0 && (played.wraps == NULL || strcmp(name, played.wraps->name) != 0)) {
+    } else if (!is_read(name)) {
         fail("no queue is '%s'", name);
     }
 }
@@ -111,26 +121,37 @@ static char *copied(char *to, const char *text) {
     return strcpy(to, text);
 }
 
-/* Opens the queue, joins members, and puts items in. */
-void scenario_begin(void) {
+static opening read_opening(void) {
+    const uint32_t fills = 48, fewest = 16;
     char text[MOST_TEXT], *part, *left = copied(text, played.opening);
-    opening it = { .options = { .keeping = PQ_FILLS, .entries = 48 } };
-    uint32_t joined;
-    (void)flatpq_may_open(); /* it sets these two at first */
-    flatpq_special = 0;
-    flatpq_may_spin = 1;
+    opening it = { .options = { .keeping = PQ_FILLS } };
     while ((part = strsep(&left, " ")) != NULL) {
         if (*part != 0) {
             read_option(&it, part);
         }
     }
+    if (it.options.entries == 0) {
+        it.options.entries = it.options.keeping == PQ_FILLS ? fills : fewest;
+    }
+    return it;
+}
+
+/* Opens the queue, joins members, and puts items and other entries in. */
+void scenario_begin(void) {
+    opening it;
+    uint32_t joined;
+    (void)flatpq_may_open(); /* it sets these two at first */
+    flatpq_special = 0;
+    flatpq_may_spin = 1;
+    it = read_opening();
     joined = it.own > 0 ? 0 : it.options.members != 0 ? it.options.members : (uint32_t)played.count;
     it.options.members = it.own + joined;
     check_begin(it.options, !it.is_unobserved);
-    use_members(it.item_count > 0 && joined == 0 ? 1 : (int)joined);
+    use_members(joined == 0 ? it.item_count > 0 || it.used > 0 : (int)joined);
     for (int i = 0; i < it.item_count; i++) {
         put(it.items[i]);
     }
+    use_entries(it.used);
     for (int i = 0; i < MOST_FIBERS && (joined == 0 || played.wraps != NULL); i++) {
         give_back(i);
     }

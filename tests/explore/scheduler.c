@@ -304,6 +304,7 @@ static void begin(void) {
     requests_begin();
     listeners_begin();
     members_begin();
+    journal_begin();
 }
 
 /* Those that serve others end. */

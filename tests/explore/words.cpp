@@ -55,6 +55,7 @@ private:
 struct thread {
     std::optional<queue::listener> listener;
     std::optional<queue::due_listener> due_listener;
+    std::optional<queue::room_listener> room_listener;
     std::unique_ptr<notifying> notify;
     std::optional<queue::member> member;
     std::uint32_t is_notified = 0;
@@ -120,24 +121,65 @@ void listen_due(int which, const std::uint64_t *numbers) {
     } while (goes_on);
 }
 
+// What a push came to: whether it found no room, and listens.
+bool ends(const flatpq::result<std::uint64_t> &it, pq_item item) {
+    if (it && *it == 0) {
+        fail("a push has no entry");
+    }
+    check_call_ends(PQ_PUSH, static_cast<pq_code>(it.error()), item, it ? *it : 0);
+    return it.error() == flatpq::code::full;
+}
+
+pq_item new_item(std::uint64_t priority) {
+    return {priority, next_value()};
+}
+
+bool pushes_or_listens(queue::room_listener &listener, std::uint64_t priority) {
+    const auto item = new_item(priority);
+    check_call_begins(CALLS, PQ_NOW, 0);
+    return ends(listener.push_or_listen(moment{priority}, std::uint64_t(item.value)), item);
+}
+
+// Pushes, or waits by the descriptor until there is room, or this time. That of a new listener is readable.
+void listen_room(int which, const std::uint64_t *numbers) {
+    bool listens = !threads[which].room_listener;
+    auto &listener = made(threads[which].room_listener, [] { return opened->listen_room(flatpq::now); });
+    do {
+        check_call_begins(PUSHES, PQ_FOREVER, 0);
+        const bool may_have_room = !listens || await_readable(listener.fd(), numbers[1]) != 0;
+        listens = may_have_room && pushes_or_listens(listener, numbers[0]);
+        check_call_begins(NO_CALL, PQ_FOREVER, 0);
+    } while (listens);
+}
+
+void listen_room_once(int which, const std::uint64_t *numbers) {
+    pushes_or_listens(made(threads[which].room_listener, [] { return opened->listen_room(flatpq::now); }), numbers[0]);
+    check_call_begins(NO_CALL, PQ_FOREVER, 0);
+}
+
+void unlisten_room(int which, const std::uint64_t *) {
+    threads[which].room_listener->unlisten();
+}
+
 void drop_listeners(int which, const std::uint64_t *) {
     threads[which].listener.reset();
     threads[which].due_listener.reset();
+    threads[which].room_listener.reset();
+}
+
+template <class Listener> void move_there_and_back(std::optional<Listener> &it) {
+    if (it) {
+        auto moved = std::make_unique<Listener>(*std::move(it));
+        it.reset();
+        it.emplace(std::move(*moved));
+    }
 }
 
 // The listeners go to other places in memory, and back.
 void move_listeners(int which, const std::uint64_t *) {
-    auto &mine = threads[which];
-    if (mine.listener) {
-        auto moved = std::make_unique<queue::listener>(*std::move(mine.listener));
-        mine.listener.reset();
-        mine.listener.emplace(std::move(*moved));
-    }
-    if (mine.due_listener) {
-        auto moved = std::make_unique<queue::due_listener>(*std::move(mine.due_listener));
-        mine.due_listener.reset();
-        mine.due_listener.emplace(std::move(*moved));
-    }
+    move_there_and_back(threads[which].listener);
+    move_there_and_back(threads[which].due_listener);
+    move_there_and_back(threads[which].room_listener);
 }
 
 // Another listener takes the place of this one, which ends.
@@ -149,25 +191,39 @@ void replace_listener(int which, const std::uint64_t *) {
     *threads[which].listener = *std::move(other);
 }
 
-// Takes by a member that listens, until it is notified.
-void listen_by_member(int which, const std::uint64_t *numbers) {
+// Calls by a member that listens, and again whenever it is notified, up to this time.
+template <class Call> void call_while_notified(int which, enum call as, std::uint64_t until, Call listens_after) {
     auto &mine = threads[which];
     auto &member = made(mine.member, [] { return opened->join(flatpq::now); });
     if (!mine.notify) {
         mine.notify = std::make_unique<notifying>(&mine.is_notified);
     }
-    for (bool listens = true; listens && (mine.is_notified != 0 || now < numbers[0]);) {
+    for (bool listens = true; listens && (mine.is_notified != 0 || now < until);) {
         mine.is_notified = 0;
         mine.notify->may_notify++;
-        check_call_begins(LISTENS_FOR, PQ_NOW, UINT64_MAX);
-        listens = ends(member.take_or_listen(*mine.notify));
+        listens = listens_after(member, *mine.notify);
         mine.notify->may_notify = listens;
-        check_call_begins(LISTENS_FOR, PQ_FOREVER, UINT64_MAX);
+        check_call_begins(as, PQ_FOREVER, UINT64_MAX);
         if (listens) {
-            sleep_at(&mine.is_notified, 0, numbers[0]);
+            sleep_at(&mine.is_notified, 0, until);
         }
         check_call_begins(NO_CALL, PQ_FOREVER, 0);
     }
+}
+
+void listen_by_member(int which, const std::uint64_t *numbers) {
+    call_while_notified(which, LISTENS_FOR, numbers[0], [](auto &member, auto &notify) {
+        check_call_begins(LISTENS_FOR, PQ_NOW, UINT64_MAX);
+        return ends(member.take_or_listen(notify));
+    });
+}
+
+void push_by_member(int which, const std::uint64_t *numbers) {
+    call_while_notified(which, PUSHES, numbers[1], [=](auto &member, auto &notify) {
+        const auto item = new_item(numbers[0]);
+        check_call_begins(CALLS, PQ_NOW, 0);
+        return ends(member.push_or_listen(moment{item.priority}, std::uint64_t(item.value), notify), item);
+    });
 }
 
 void move_member(int which, const std::uint64_t *) {
@@ -190,10 +246,9 @@ void give_back(int which, const std::uint64_t *) {
 }
 
 void push(int, const std::uint64_t *numbers) {
-    const std::uint64_t value = next_value();
+    const auto item = new_item(numbers[0]);
     check_call_begins(PUSHES, PQ_FOREVER, 0);
-    const auto number = opened->push(moment{numbers[0]}, std::uint64_t(value));
-    check_call_ends(PQ_PUSH, static_cast<pq_code>(number.error()), {numbers[0], value}, number ? *number : 0);
+    ends(opened->push(moment{item.priority}, std::uint64_t(item.value)), item);
 }
 
 pq_code shuts() {
@@ -218,7 +273,11 @@ const word words[] = {
     {"drop-listener", drop_listeners},
     {"move-listener", move_listeners},
     {"replace-listener", replace_listener},
+    {"listen-room", listen_room},
+    {"listen-room-once", listen_room_once},
+    {"unlisten-room", unlisten_room},
     {"listen-by-member", listen_by_member},
+    {"push-by-member", push_by_member},
     {"move-member", move_member},
     {"unlisten", unlisten},
     {"give-back", give_back},

@@ -39,7 +39,7 @@ int __wrap_clock_gettime(clockid_t clock, struct timespec *time) {
 }
 
 /* It isn't known how many processors there are, or there is one. */
-static int has_one_processor;
+static int has_one_processor, barriers;
 
 int __wrap_sched_getaffinity(pid_t process, size_t size, cpu_set_t *set) {
     (void)process, (void)size;
@@ -75,6 +75,10 @@ long __wrap_syscall(long number, ...) {
     read_words(rest, words);
     va_end(rest);
     operation = words[1] & FUTEX_CMD_MASK;
+    barriers += number == SYS_membarrier;
+    if (number == SYS_membarrier && has_one_processor) {
+        return -1;
+    }
     if (is_here && number == SYS_futex && operation != FUTEX_WAKE) {
         const struct timespec *time = (const struct timespec *)words[3];
         uint64_t nanoseconds = (uint64_t)time->tv_sec * SECOND + (uint64_t)time->tv_nsec;
@@ -210,12 +214,19 @@ static void *nap_at_once(void *unused) {
     return unused;
 }
 
+/* Nor does the system have barriers there, for which the library asks once. */
 static void calls_do_not_spin_on_one_processor(void) {
     has_one_processor = 1;
     begin_held(0);
     ended(started(nap_at_once, NULL));
     ticks = 0;
     end_held();
+    queue = opened(1);
+    CHECK(pq_push(pq_own(queue), item_of(1, 2), PQ_NOW, NULL) == PQ_OK);
+    pq_leave(queue);
+    pq_give_back(joined(queue));
+    close_and_free(queue);
+    CHECK(barriers == 1);
 }
 
 /* In a thread of its own, which has not waited before: how long it spins before its first nap, and whether it spins the next times. */

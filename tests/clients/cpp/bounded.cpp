@@ -1,12 +1,9 @@
-// How many items a queue has, and queues with a bound: a push is refused at once or at its deadline, and its payload stays where it was; or it
-// waits until an item is taken out, or the queue is shut.
+// How many items a queue has, and queues with a bound: a push is refused at once or at its deadline, and its payload stays where it was.
 #include "../check.h"
 #include "flatpq_tasks.hpp"
 
-#include <atomic>
 #include <memory>
 #include <string>
-#include <thread>
 #include <utility>
 #include <vector>
 
@@ -54,25 +51,6 @@ static void a_full_queue_refuses() {
     CHECK(many[1].payload == "eight" && *queue.size() == 1);
 }
 
-static void a_push_waits_for_room() {
-    flatpq::queue<> queue(flatpq::options().with_most_items(1));
-    std::atomic<bool> is_in{false};
-    CHECK(queue.push(5u, 1));
-    std::thread waits([&] {
-        CHECK(queue.push(6u, 2));
-        is_in = true;
-    });
-    std::this_thread::sleep_for(20ms);
-    CHECK(!is_in && queue.take()->value == 1);
-    waits.join();
-    CHECK(is_in);
-    std::thread refused([&] { CHECK(queue.push(7u, 3).error() == code::shut); });
-    std::this_thread::sleep_for(20ms);
-    CHECK(queue.shut() == code::ok);
-    refused.join();
-    CHECK(queue.take()->value == 2 && queue.take().error() == code::shut && *queue.size() == 0);
-}
-
 static void an_event_loop_waits_for_room() {
     flatpq::task_queue<std::unique_ptr<int>> queue(flatpq::options().with_most_items(1));
     auto listener = queue.listen_room().value();
@@ -106,7 +84,6 @@ int main() {
     items_are_counted();
     the_peak_stays();
     a_full_queue_refuses();
-    a_push_waits_for_room();
     an_event_loop_waits_for_room();
     a_callback_waits_for_room();
     return 0;

@@ -71,29 +71,10 @@ static void a_shut_queue_ends_all_waits(std::chrono::milliseconds a_while) {
     CHECK(pushed == taken && queue.close()->take().error() == code::empty);
 }
 
-static flatpq::queue<> *late_queue = nullptr;
-
-/// Pushes as its thread ends, after the thread gave its member back.
-struct late {
-    ~late() { CHECK(late_queue->push(5u, 5)); }
-};
-
-static void a_thread_that_ends_calls_still() {
-    flatpq::queue<> queue({1});
-    late_queue = &queue;
-    std::thread([&queue] {
-        thread_local late last;
-        static_cast<void>(last);
-        CHECK(queue.push(6u, 6));
-    }).join();
-    CHECK(queue.pop()->value == 5 && queue.pop()->value == 6);
-}
-
 int main() {
     each_item_comes_out_once();
     for (int i = 0; i < 5; ++i) {
         a_shut_queue_ends_all_waits(std::chrono::milliseconds(i));
     }
-    a_thread_that_ends_calls_still();
     return 0;
 }

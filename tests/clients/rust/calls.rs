@@ -1,18 +1,11 @@
 //! Each call once, by the queue and by a member; and what threads do to each other through them: waiting, shutting, coming and going.
 use flatpq::{Due, Error, Keeping, Options, Queue, TaskQueue, Until};
-use std::cell::Cell;
-use std::collections::BTreeSet;
-use std::sync::{mpsc, Arc, Barrier};
+use std::sync::mpsc;
 use std::thread;
 use std::time::{Duration, Instant};
 
 const LONG: Duration = Duration::from_secs(60);
 const WHILE: Duration = Duration::from_millis(15);
-
-/// Runs this in a thread of its own, to the end of that.
-fn elsewhere<T: Send>(run: impl FnOnce() -> T + Send) -> T {
-    thread::scope(|scope| scope.spawn(run).join().unwrap())
-}
 
 macro_rules! calls {
     ($caller:expr) => {
@@ -144,39 +137,6 @@ fn no_payload_is_lost_where_a_queue_is_shut() {
 }
 
 #[test]
-fn each_thread_has_a_member_of_its_own() {
-    const THREADS: u64 = 8;
-    let queue: Queue = Queue::new().unwrap();
-    let barrier = Barrier::new(THREADS as usize);
-    let works = |key| {
-        let mut numbers = vec![queue.push(key, 0).unwrap()];
-        barrier.wait();
-        for value in 1..50 {
-            numbers.push(queue.push(key, value).unwrap());
-        }
-        barrier.wait();
-        numbers
-    };
-    let works = &works;
-    let numbers: Vec<Vec<u64>> = thread::scope(|scope| {
-        let threads: Vec<_> = (0..THREADS)
-            .map(|key| scope.spawn(move || works(key)))
-            .collect();
-        threads.into_iter().map(|it| it.join().unwrap()).collect()
-    });
-    let journal = queue.close().unwrap();
-    let mut places = BTreeSet::new();
-    for own in numbers {
-        let entry = |number: &u64| journal.get(*number as usize - 1).unwrap();
-        let place = entry(&own[0]).place;
-        assert!(places.insert(place));
-        for (serial, number) in (1..).zip(&own) {
-            assert_eq!((entry(number).place, entry(number).serial), (place, serial));
-        }
-    }
-}
-
-#[test]
 fn more_threads_than_members_call() {
     let queue: TaskQueue<u64, u64> = Options::new().members(2).open().unwrap();
     let queue = &queue;
@@ -248,32 +208,6 @@ fn a_close_after_a_scope_succeeds() {
         });
         assert_eq!(queue.close().unwrap().len(), 3);
     }
-}
-
-thread_local! {
-    static LATE: Cell<Option<Late>> = const { Cell::new(None) };
-}
-
-/// Pushes as its thread ends.
-struct Late(Arc<TaskQueue<u64, u32>>);
-
-impl Drop for Late {
-    fn drop(&mut self) {
-        self.0.push(5, 5).unwrap();
-    }
-}
-
-#[test]
-fn a_thread_that_ends_calls_still() {
-    let queue = Arc::new(Options::new().members(1).open().unwrap());
-    let late = Late(Arc::clone(&queue));
-    elsewhere(|| {
-        let queue = Arc::clone(&late.0);
-        LATE.with(|it| it.set(Some(late)));
-        queue.push(6, 6).unwrap();
-    });
-    assert_eq!(queue.pop(), Ok(Some((5, 5))));
-    assert_eq!(queue.pop(), Ok(Some((6, 6))));
 }
 
 /// One that polls gets what is left in a shut queue, and then learns that nothing comes.

@@ -87,6 +87,45 @@ fn a_batch_has_the_number_of_its_first_entry() {
     );
 }
 
+/// A call with a deadline returns this error once that has come.
+fn times_out<T: Debug>(call: impl FnOnce(Instant) -> Result<T, Error>) {
+    let deadline = Instant::now() + Duration::from_millis(20);
+    assert_eq!(call(deadline).unwrap_err(), Error::TimedOut);
+    assert!(Instant::now() >= deadline);
+}
+
+/// Of a queue whose only member is joined. They have done nothing, and payloads come back.
+#[test]
+fn calls_end_by_their_deadlines() {
+    let queue: TaskQueue<u64, String> = Options::new().members(1).open().unwrap();
+    let mut member = queue.join().unwrap();
+    let pair = || (1, "text".to_string());
+    times_out(|at| {
+        let refused = queue.until(at).push(1, "text".to_string()).unwrap_err();
+        assert_eq!(refused.payload, "text");
+        Err::<(), _>(refused.error)
+    });
+    times_out(|at| {
+        let refused = queue.until(at).push_many([pair(), pair()]).unwrap_err();
+        assert_eq!(refused.payloads, [pair(), pair()]);
+        Err::<(), _>(refused.error)
+    });
+    times_out(|at| queue.until(at).pop());
+    times_out(|at| queue.until(at).peek());
+    times_out(|at| queue.until(at).pop_due(9));
+    times_out(|at| queue.until(at).pop_due_many(9, 9));
+    times_out(|at| queue.until(at).take_due());
+    times_out(|at| queue.until(at).archive(0));
+    times_out(|at| queue.until(at).len());
+    let deadline = Instant::now() + Duration::from_millis(20);
+    assert_eq!(queue.until(deadline).take(), Ok(None));
+    assert!(Instant::now() >= deadline);
+    for past in [Until::NOW, deadline.into(), Until::from(Duration::ZERO)] {
+        assert_eq!(queue.until(past).pop(), Err(Error::TimedOut));
+    }
+    assert_eq!((member.pop(), member.number()), (Ok(None), 1));
+}
+
 /// An iterator that begins anew after its end is not asked again.
 #[test]
 fn a_refused_batch_ends_with_its_iterator() {

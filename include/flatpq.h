@@ -125,12 +125,12 @@ pq_code pq_shut(pq_queue *queue);
 int pq_is_shut(pq_queue *queue);
 
 /* Closes the queue. *journal gets its journal and the items that are left in it; journal may be NULL. The call takes back the own members
-   of threads that are in no call, do not listen, and have no request posted.
+   of threads that are in no call, and do not listen.
    PQ_OK; PQ_MEMBERS_LEFT, PQ_NO_MEMORY: the queue stays open; PQ_CLOSED, PQ_FORKED. */
 PQ_CHECKED pq_code pq_close(pq_queue *queue, pq_journal **journal);
 
 /* Frees the queue, closed or not, or NULL. The program must not use it any more. Memory is freed once joined members are given back, calls have
-   returned, and threads that listen or have posted by pq_own have ended. Then `left`, unless it is NULL, is called with each item that was left, in
+   returned, and threads that listen by pq_own have ended. Then `left`, unless it is NULL, is called with each item that was left, in
    the thread that frees the memory; calls that `left` makes by `queue` return PQ_CLOSED. No thread that waits is woken: shut the queue first. */
 void pq_free(pq_queue *queue, void (*left)(void *context, pq_item item), void *context);
 

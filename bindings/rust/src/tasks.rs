@@ -109,7 +109,7 @@ pub struct TaskQueue<K, T> {
     keys: PhantomData<fn(K) -> K>,
 }
 
-/// A queue of integers by keys: as any [`TaskQueue`], and with calls that return or post numbers. Its journal has the values as they were
+/// A queue of integers by keys: as any [`TaskQueue`], and with calls that return numbers. Its journal has the values as they were
 /// pushed, where they are unsigned.
 pub type Queue<K = u64, V = u64> = TaskQueue<K, V>;
 

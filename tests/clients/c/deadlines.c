@@ -73,7 +73,7 @@ static void calls_return_where_a_thread_stops(void) {
     thread = started(peeks, waiting);
     by_all_deadlines(member);
     by_all_deadlines(pq_own(queue));
-    CHECK(pq_shut(queue) == PQ_OK && pq_push(member, item, PQ_NOW, NULL) == PQ_SHUT);
+    CHECK(pq_shut(queue) == PQ_OK && pq_push(member, item, PQ_FOREVER, NULL) == PQ_SHUT);
     let_go(&own);
     ended(thread);
     CHECK(own.pushed == 1 && pq_take(member, &item, PQ_FOREVER, NULL) == PQ_OK && pq_take(member, &item, PQ_FOREVER, NULL) == PQ_SHUT);

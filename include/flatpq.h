@@ -40,7 +40,7 @@ extern "C" {
 
 /* The version of this header: 10000 * major + 100 * minor + patch. */
 #define PQ_VERSION_MAJOR 0
-#define PQ_VERSION_MINOR 8
+#define PQ_VERSION_MINOR 9
 #define PQ_VERSION_PATCH 0
 #define PQ_VERSION (10000u * PQ_VERSION_MAJOR + 100u * PQ_VERSION_MINOR + PQ_VERSION_PATCH)
 
@@ -59,9 +59,6 @@ typedef enum pq_code {
     PQ_MEMBERS_LEFT = 40, /* a member was not given back, or is in a call */
     PQ_ALL_JOINED = 41,   /* as many members are in use as the queue was opened for, or this one is the last awake */
     PQ_NO_MEMBER = 42,    /* the member is NULL, or another copy of the library has opened the queue */
-    PQ_PENDING = 43,      /* the request that the member posted has no answer yet */
-    PQ_NOT_PENDING = 44,  /* the member has posted no request */
-    PQ_BAD_REQUEST = 45,  /* there is no such request */
     PQ_NO_ENTRY = 46,     /* the journal has no such entry */
     PQ_EMPTY = 48,        /* the queue has no item */
     PQ_FORGOTTEN = 49,    /* some of these entries are no longer in memory */
@@ -128,12 +125,12 @@ pq_code pq_shut(pq_queue *queue);
 int pq_is_shut(pq_queue *queue);
 
 /* Closes the queue. *journal gets its journal and the items that are left in it; journal may be NULL. The call takes back the own members
-   of threads that are in no call, do not listen, and have no request posted.
+   of threads that are in no call, and do not listen.
    PQ_OK; PQ_MEMBERS_LEFT, PQ_NO_MEMORY: the queue stays open; PQ_CLOSED, PQ_FORKED. */
 PQ_CHECKED pq_code pq_close(pq_queue *queue, pq_journal **journal);
 
 /* Frees the queue, closed or not, or NULL. The program must not use it any more. Memory is freed once joined members are given back, calls have
-   returned, and threads that listen or have posted by pq_own have ended. Then `left`, unless it is NULL, is called with each item that was left, in
+   returned, and threads that listen by pq_own have ended. Then `left`, unless it is NULL, is called with each item that was left, in
    the thread that frees the memory; calls that `left` makes by `queue` return PQ_CLOSED. No thread that waits is woken: shut the queue first. */
 void pq_free(pq_queue *queue, void (*left)(void *context, pq_item item), void *context);
 
@@ -150,14 +147,14 @@ void pq_leave(pq_queue *queue);
    given back. The member may move between threads. PQ_OK; PQ_ALL_JOINED, PQ_NO_MEMORY, PQ_CLOSED, PQ_FORKED: *member is NULL. */
 PQ_CHECKED pq_code pq_join(pq_queue *queue, uint64_t until, pq_member **member);
 
-/* Gives a joined member back, in any thread. A pop that it has posted may still take an item out, which nobody gets. member may be NULL. */
+/* Gives a joined member back, in any thread. member may be NULL. */
 void pq_give_back(pq_member *member);
 
 /* The place of the member, by which journal entries name it: 0 to 2079, and no two members have the same at once. Of pq_own it is that of
    the thread's member, or UINT32_MAX where the thread has none at the moment. */
 uint32_t pq_place(pq_member *member);
 
-/* Requests. Each of these calls may also return PQ_NO_MEMBER, PQ_FORKED, PQ_PENDING, PQ_EXHAUSTED, PQ_JOURNAL_FULL or PQ_UNARCHIVED, and
+/* Requests. Each of these calls may also return PQ_NO_MEMBER, PQ_FORKED, PQ_EXHAUSTED, PQ_JOURNAL_FULL or PQ_UNARCHIVED, and
    PQ_TIMED_OUT unless `until` is PQ_FOREVER; a call by pq_own also PQ_CLOSED or PQ_NO_MEMORY. A call without `until` doesn't wait. number
    may be NULL; else *number is the number of the journal entry, if there is one. Where the journal has no room, a call that takes is
    refused even if there is nothing to take. */
@@ -203,18 +200,6 @@ PQ_CHECKED pq_code pq_remove(pq_member *member, uint64_t ticket, pq_item *item, 
    queue too. PQ_OK; PQ_GONE, which has an entry too; PQ_NO_TICKETS; PQ_NO_MEMORY: the item stays as it was. */
 PQ_CHECKED pq_code pq_reschedule(pq_member *member, uint64_t ticket, uint64_t priority, uint64_t until, uint64_t *number);
 
-/* For programs that never wait: post a request, and poll for its answer. Until then a thread that posts by pq_own keeps its member. */
-enum pq_request { PQ_PUSH = 0, PQ_POP = 1, PQ_PEEK = 2, PQ_REMOVE = 3, PQ_RESCHEDULE = 4 };
-
-/* Posts a push, a pop or a peek, for the next thread that combines. PQ_OK; PQ_SHUT; PQ_BAD_REQUEST, also for a push to a queue with a bound. */
-PQ_CHECKED pq_code pq_post(pq_member *member, uint32_t request, pq_item item);
-
-/* Polls for the answer to the posted request: what its call would have returned; PQ_PENDING: none yet; PQ_NOT_PENDING. */
-PQ_CHECKED pq_code pq_poll(pq_member *member, pq_item *item, uint64_t *number);
-
-/* Carries out the requests that members have posted. PQ_OK; PQ_TIMED_OUT: another thread has the lock. */
-pq_code pq_combine(pq_member *member);
-
 /* For event loops and futures. A thread that listens by pq_own keeps its member. The last that is awake (pq_take) doesn't listen: PQ_ALL_JOINED. */
 
 /* Takes the first item out if it is due (pq_take_due); else the member listens by `timer`, a timerfd of CLOCK_MONOTONIC that no other member
@@ -243,6 +228,8 @@ int pq_unlisten(pq_member *member);
 void pq_notify_fd(void *context);
 
 /* Journals: of a closed queue, copied from an open one, or read back from text. Many threads may read one. */
+
+enum pq_request { PQ_PUSH = 0, PQ_POP = 1, PQ_PEEK = 2, PQ_REMOVE = 3, PQ_RESCHEDULE = 4 };
 
 /* An entry: its number, from 1; its member's count of requests so far, this one included; the member's place; the request; the reply, PQ_OK or
    PQ_EMPTY; and the item pushed or found, as it was then. */

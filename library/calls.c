@@ -67,41 +67,17 @@ static pq_code try_call(uint32_t request, call *it) {
     return step_call(request, POSTS_NOTHING, it);
 }
 
-/* What follows a look for the answer to what the member posted, which returned this code. */
-static pq_code looked(pq_member *it, pq_code code, const core_answer *answer) {
+/* Looks for the answer, and else makes a round, which returns NOT_ANSWERED, or finds the lock held. */
+static pq_code step_answer(pq_member *it, core_answer *answer) {
+    pq_code code = LEAVE_OUT(pq_core_step_answer(&it->proved, answer));
     flatpq_pace.calls++;
     if (code == PQ_OK) {
         watch_answer(answer);
         flatpq_carried_out(it, answer);
-    }
-    return code;
-}
-
-static pq_code poll(pq_member *it, core_answer *answer) {
-    pq_code code = LEAVE_OUT(pq_core_look(&it->proved, answer));
-    return looked(it, code, answer);
-}
-
-/* Looks for the answer, and else makes a round, which returns PQ_PENDING, or finds the lock held. */
-static pq_code step_answer(pq_member *it, core_answer *answer) {
-    pq_code code = LEAVE_OUT(pq_core_step_answer(&it->proved, answer));
-    if (code == PQ_PENDING) {
-        flatpq_wake_after(it, NULL);
-    }
-    return looked(it, code, answer);
-}
-
-static pq_code try_round(pq_member *it) {
-    pq_code code = LEAVE_OUT(pq_core_try_round(&it->proved));
-    if (code == PQ_OK) {
+    } else if (code == NOT_ANSWERED) {
         flatpq_wake_after(it, NULL);
     }
     return code;
-}
-
-static pq_code post(pq_member *it, uint32_t request, pq_item item) {
-    watch_push(request, item);
-    return LEAVE_OUT(pq_core_post(&it->proved, request, item.priority, item.value));
 }
 
 INLINE pq_code try_take(pq_member *it, uint64_t priority, core_answer *answer) {
@@ -126,7 +102,7 @@ static pq_code wait_for_answer(pq_member *it, rest *resting, core_answer *answer
         pq_code code = step_answer(it, answer);
         if (code == LOCK_HELD) {
             flatpq_rests(resting);
-        } else if (code != PQ_PENDING) {
+        } else if (code != NOT_ANSWERED) {
             return code;
         }
     }
@@ -437,53 +413,4 @@ pq_code pq_size(pq_member *it, uint64_t until, uint64_t *size, uint64_t *peak) {
         flatpq_end(mine);
     }
     return code;
-}
-
-/*
- * Posts and rounds.
- */
-
-pq_code pq_post(pq_member *it, uint32_t request, pq_item item) {
-    own *mine;
-    pq_code code = flatpq_begin(&it, PQ_NOW, &mine);
-    if (code == PQ_OK) {
-        code = request == PQ_PUSH && it->queue->most_items != 0 ? PQ_BAD_REQUEST : post(it, request, item);
-        it->keeps |= code == PQ_OK ? POSTED : 0;
-        flatpq_end_keeping(mine, it);
-    }
-    return code;
-}
-
-/* What a poll comes to by pq_own where the thread has no member: it has posted nothing. */
-static pq_code poll_without(const pq_member *shared) {
-    return __atomic_load_n(&shared->queue->is_closed, SEQ) ? PQ_CLOSED : PQ_NOT_PENDING;
-}
-
-pq_code pq_poll(pq_member *it, pq_item *item, uint64_t *number) {
-    core_answer answer;
-    own *mine;
-    pq_code code;
-    if (it != NULL && (flatpq_special & FORKED) == 0 && it->is_shared && !flatpq_has_own(it)) {
-        return poll_without(it);
-    }
-    code = flatpq_begin(&it, PQ_NOW, &mine);
-    if (code != PQ_OK) {
-        return code == PQ_TIMED_OUT ? PQ_NOT_PENDING : code;
-    }
-    code = poll(it, &answer);
-    if (code != PQ_PENDING) {
-        it->keeps &= ~(uint32_t)POSTED;
-    }
-    flatpq_end_keeping(mine, it);
-    return code == PQ_OK ? result(&answer, item, number) : code;
-}
-
-pq_code pq_combine(pq_member *it) {
-    own *mine;
-    pq_code code = flatpq_begin(&it, PQ_NOW, &mine);
-    if (code == PQ_OK) {
-        code = try_round(it);
-        flatpq_end(mine);
-    }
-    return code == LOCK_HELD ? PQ_TIMED_OUT : code;
 }

@@ -10,9 +10,11 @@
 
 typedef struct core_inside *core;
 
-/* A step found that another thread carries out requests: it did nothing, or it posted its request. No public call returns these codes. */
+/* A step found that another thread carries out requests: it did nothing, or it posted its request; or that what it posted has no answer yet. No
+   public call returns these codes. */
 #define LOCK_HELD ((pq_code)8)
 #define HAS_POSTED ((pq_code)14)
+#define NOT_ANSWERED ((pq_code)43)
 
 enum { KIND_PUSHED, KIND_POPPED, KIND_FIRST, KIND_EMPTY, KIND_JOURNAL_FULL, KIND_NO_MEMORY };
 
@@ -67,7 +69,6 @@ pq_code pq_core_close(core *queue, core *journal);
 pq_code pq_core_place(core *member, uint32_t *place);
 pq_code pq_core_step_call(core *member, uint32_t request, uint64_t priority, uint64_t value, uint32_t posts, core_answer *answer);
 pq_code pq_core_step_answer(core *member, core_answer *answer);
-pq_code pq_core_post(core *member, uint32_t request, uint64_t priority, uint64_t value);
 pq_code pq_core_try_pop_or_look(core *member, uint32_t takes, uint64_t priority, core_answer *answer);
 pq_code pq_core_try_remove(core *member, uint64_t ticket, core_answer *answer);
 pq_code pq_core_try_reschedule(core *member, uint64_t ticket, uint64_t priority, core_answer *answer);
@@ -75,8 +76,6 @@ pq_code pq_core_try_count(core *member, uint64_t *count, uint64_t *peak, uint32_
 pq_code pq_core_try_push_within(core *member, uint64_t most, uint64_t priority, uint64_t value, core_answer *answer);
 pq_code pq_core_try_push_many(core *member, const pq_item *items, size_t count, core_batch *batch);
 pq_code pq_core_try_pop_many(core *member, uint64_t bound, pq_item *items, size_t room, core_popped *popped);
-pq_code pq_core_look(core *member, core_answer *answer);
-pq_code pq_core_try_round(core *member);
 pq_code pq_core_archive(core *member, uint64_t archived, core *journal);
 pq_code pq_core_step_take(core *member, uint64_t priority, core_answer *answer);
 pq_code pq_core_end_take(core *member);

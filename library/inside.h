@@ -40,7 +40,7 @@ struct pq_member {
     uint32_t is_shared : 1;  /* it is the one inside a queue */
     uint32_t is_bounded : 1; /* it is another, and the queue has a bound: one test finds either */
     uint32_t has_tickets : 1;
-    uint32_t keeps;        /* POSTED, LISTENS: its thread keeps it between calls */
+    uint32_t listens;      /* its thread keeps it between calls */
     uint32_t place;
     uint32_t has_left;     /* its last take_or_listen that looked found an item */
     uint32_t concern;      /* it listens, and is counted so in `concerned`: for what is left in a shut queue, or for room */
@@ -50,14 +50,12 @@ struct pq_member {
     waiter waits;
 } __attribute__((aligned(128)));
 
-enum { POSTED = 1, LISTENS = 2 };
-
 /* A thread's record of its own member of a queue (own.c). */
 typedef struct own {
     pq_member *shared; /* what pq_own returns */
     pq_member *member;
     uint32_t busy;  /* the thread is in a call by the member */
-    uint32_t kept;  /* it keeps the member between calls. Only this thread writes these two. */
+    uint32_t kept;  /* the member listens, between calls too. Only this thread writes these two. */
     uint32_t taken; /* WANTED or TAKEN. It is written under the lock of members. */
     uint32_t place;
     pq_queue *queue;
@@ -186,7 +184,6 @@ static inline pq_code flatpq_left_out(pq_code code) {
 extern pthread_mutex_t flatpq_members HIDDEN; /* the lock of all queues' members, and of all threads' records */
 HIDDEN void flatpq_unlock(pq_queue *queue);   /* unlocks that; the queue may be gone after this */
 HIDDEN pq_code flatpq_get_member(pq_queue *queue, uint64_t until, own *record, pq_member **member); /* without the lock */
-HIDDEN void flatpq_give_back(pq_queue *queue, pq_member *member);
 HIDDEN void flatpq_release(pq_queue *queue, pq_member *member);
 
 /*
@@ -258,10 +255,10 @@ static inline void flatpq_end(own *mine) {
     }
 }
 
-/* Ends a call that may have changed whether the thread keeps the member. */
+/* Ends a call that may have changed whether the member listens. */
 static inline void flatpq_end_keeping(own *mine, const pq_member *member) {
     if (mine != NULL) {
-        __atomic_store_n(&mine->kept, member->keeps, __ATOMIC_RELAXED);
+        __atomic_store_n(&mine->kept, member->listens, __ATOMIC_RELAXED);
     }
     flatpq_end(mine);
 }

@@ -38,9 +38,9 @@ static void count_concerned(pq_member *member, uint32_t concern) {
 /* Ends the listening: whether the member was notified, and has not looked since. */
 static int end_listening(pq_member *member) {
     int was_notified = 0;
-    if (member->keeps & LISTENS) {
+    if (member->listens) {
         was_notified = flatpq_end_wait(member);
-        member->keeps &= ~(uint32_t)LISTENS;
+        member->listens = 0;
         flatpq_count_awake(member->queue, member->sleeps_as);
         if (member->concern != 0) {
             __atomic_fetch_sub(&member->queue->concerned, member->concern, SEQ);
@@ -77,7 +77,7 @@ static int begin_listening(const wait *it, waiters *list, void (*notify)(void *c
     member->waits.list = list;
     member->waits.notify = notify;
     member->waits.context = context;
-    member->keeps |= LISTENS;
+    member->listens = 1;
     return 1;
 }
 
@@ -102,7 +102,7 @@ static pq_code listen(wait *it, waiters *list, uint64_t priority, void (*notify)
 
 /* Ends the listening: whether the member was notified in this list, and has not looked since. If in another, others are notified. */
 static int end_listening_in(pq_member *member, const waiters *list) {
-    if (member->keeps & LISTENS && member->waits.list != list) {
+    if (member->listens && member->waits.list != list) {
         flatpq_unlisten(member);
         return 0;
     }
@@ -291,7 +291,7 @@ pq_code pq_take_due_or_listen(pq_member *member, int timer, pq_item *item, uint6
  */
 
 int flatpq_unlisten(pq_member *member) {
-    int listened = (member->keeps & LISTENS) != 0;
+    int listened = (int)member->listens;
     int was_notified = end_listening(member);
     if (was_notified && is_for_room(member)) {
         flatpq_say_room(member->queue);

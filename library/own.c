@@ -4,7 +4,7 @@
  * A thread has a record of each of its own members. It alone writes `busy` there, at the begin and the end of each call, and takes no lock.
  * A thread that needs a member takes an idle one over: it writes `taken` in that record, makes a barrier in all threads, and reads `busy`. The
  * owner writes `busy` first, and then reads `taken`. So one of the two sees what the other wrote. An owner that sees it goes on under the lock.
- * `kept` stands beside `busy`: the thread has posted a request, or listens. It changes only while `busy` is set.
+ * `kept` stands beside `busy`: the member listens. It changes only while `busy` is set.
  *
  * While a thread waits for a member all records of the queue are marked WANTED. The mark of a record came before a look at `busy`, which found
  * it set, or the record is new and busy. So each call that ends sees the mark, and hands its member over to the first thread that waits.
@@ -167,16 +167,12 @@ static void leave(own *it) {
     }
     queue = it->queue;
     member = take_out(it);
-    if (member->has_left || member->keeps & LISTENS) {
+    if (member->has_left || member->listens) {
         pthread_mutex_unlock(&flatpq_members);
         flatpq_unlisten(member);
         pthread_mutex_lock(&flatpq_members);
     }
-    if (member->keeps != 0) {
-        flatpq_give_back(queue, member);
-    } else {
-        flatpq_release(queue, member);
-    }
+    flatpq_release(queue, member);
     forget(it);
     flatpq_unlock(queue);
 }

@@ -9,10 +9,6 @@
 #include <stdlib.h>
 #include <string.h>
 
-/* How often the first thread that waits for a member tries to get one by itself: one that was given back with a request posted can be joined only
-   while the queue's lock is free. */
-enum { TRIES_EACH = 10000000 };
-
 pthread_mutex_t flatpq_members = PTHREAD_MUTEX_INITIALIZER;
 
 static uint32_t or_else(uint32_t number, uint32_t usual) {
@@ -177,23 +173,20 @@ static void serve(pq_queue *queue, pq_code code, pq_member *member) {
     flatpq_wake(&first->is_served);
 }
 
-void flatpq_give_back(pq_queue *queue, pq_member *member) {
+static void give_back(pq_queue *queue, pq_member *member) {
     pq_code code = LEAVE_OUT(pq_core_give_back(&queue->proved, &member->proved, (uint64_t)(uintptr_t)queue));
     (void)code;
     member->next = queue->spare;
     queue->spare = member;
     count_out(queue, queue->out - 1);
-    while (queue->first != NULL && join(queue, &member) == PQ_OK) {
-        serve(queue, PQ_OK, member);
-    }
 }
 
-/* A member that has no request posted, and does not listen, is in no call. */
+/* A member that does not listen is in no call. The first thread that waits for one gets it. */
 void flatpq_release(pq_queue *queue, pq_member *member) {
     if (queue->first != NULL) {
         serve(queue, PQ_OK, member);
     } else {
-        flatpq_give_back(queue, member);
+        give_back(queue, member);
     }
 }
 
@@ -229,9 +222,8 @@ static int wait_for_member(pq_queue *queue, uint64_t until, wanting *it) {
         flatpq_mark(queue, WANTED);
     }
     do {
-        uint64_t soon = pq_after(TRIES_EACH);
         pthread_mutex_unlock(&flatpq_members);
-        flatpq_sleep(&it->is_served, 0, until < soon ? until : soon);
+        flatpq_sleep(&it->is_served, 0, until);
         if (__atomic_load_n(&it->is_served, SEQ)) {
             return 1;
         }
@@ -240,8 +232,7 @@ static int wait_for_member(pq_queue *queue, uint64_t until, wanting *it) {
             pthread_mutex_unlock(&flatpq_members);
             return 1;
         }
-        it->code = queue->first == it ? find_member(queue, &it->got) : PQ_ALL_JOINED;
-    } while (it->code == PQ_ALL_JOINED && !flatpq_is_late(until));
+    } while (!flatpq_is_late(until));
     end_wait(queue, it);
     return 0;
 }
@@ -311,7 +302,7 @@ void pq_give_back(pq_member *member) {
     flatpq_unlisten(member);
     flatpq_count_awake(queue, IS_JOINED);
     pthread_mutex_lock(&flatpq_members);
-    flatpq_give_back(queue, member);
+    flatpq_release(queue, member);
     flatpq_unlock(queue);
 }
 

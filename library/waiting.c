@@ -327,7 +327,7 @@ INLINE pq_code wait_by(int is_due, pq_member *member, pq_item *item, uint64_t un
     if (code != PQ_OK) {
         return code;
     }
-    if (it.member->keeps & LISTENS) {
+    if (it.member->listens) {
         flatpq_unlisten(it.member);
     }
     code = see_end(&it, is_due ? take_due(&it) : take(&it));

@@ -242,23 +242,6 @@ public:
         return all.error() == code::empty ? result<std::size_t>(count) : all.error();
     }
 
-    /// For programs that never wait: post a request, poll for what its call would have returned, and carry out what members have posted. Only
-    /// items of values are posted, and no push at a queue with a bound. Of a push that was carried out poll() has an item without a meaning.
-    [[nodiscard]] code post(request asked, const item &pushed) noexcept {
-        return posted(asked, {key_order<key>::number(pushed.priority), pushed.value});
-    }
-    [[nodiscard]] code post(request asked) noexcept {
-        if constexpr (std::is_default_constructible_v<key>) {
-            return posted(asked, {key_order<key>::number(key()), 0});
-        } else {
-            return asked == request::push ? code::bad_request : posted(asked, {0, 0});
-        }
-    }
-    found poll() noexcept {
-        return got([](pq_member *by, pq_item *out, std::uint64_t, std::uint64_t *number) { return pq_poll(by, out, number); }, {});
-    }
-    [[nodiscard]] code combine() noexcept { return static_cast<code>(pq_combine(member_)); }
-
     /// Takes the first item out, or the first one whose key is at most this one; else the member listens: code::empty, or code::not_due with
     /// found::first(), which stays. It never waits. notify() is called at most once then, in any thread that calls the queue, or in this call. It
     /// must not throw, wait or call the library, and has to live until it was called or the member listens no more.
@@ -374,11 +357,6 @@ private:
     template <class Notify> found listened(std::uint64_t bound, Notify &notify) noexcept {
         return listened_by(bound, call_of<Notify>, context_of(notify));
     }
-
-    code posted(request asked, pq_item in) noexcept {
-        static_assert(std::is_same_v<Items, values<key>>, "payloads are not posted");
-        return static_cast<code>(pq_post(member_, static_cast<std::uint32_t>(asked), in));
-    }
 };
 
 } // namespace detail
@@ -395,7 +373,7 @@ public:
     }
     ~basic_member() { give_back(); }
 
-    /// Gives the member back now. A request that it has posted may still be carried out.
+    /// Gives the member back now.
     void give_back() noexcept { pq_give_back(std::exchange(this->member_, nullptr)); }
 };
 

@@ -29,7 +29,6 @@ enum class code : std::uint32_t {
     no_member = PQ_NO_MEMBER, // also of a queue or a member that was moved from
     bad_option = PQ_BAD_OPTION, no_memory = PQ_NO_MEMORY, forked = PQ_FORKED, processor = PQ_PROCESSOR,
     all_joined = PQ_ALL_JOINED, members_left = PQ_MEMBERS_LEFT, exhausted = PQ_EXHAUSTED,
-    pending = PQ_PENDING, not_pending = PQ_NOT_PENDING, bad_request = PQ_BAD_REQUEST,
     journal_full = PQ_JOURNAL_FULL, unarchived = PQ_UNARCHIVED, forgotten = PQ_FORGOTTEN, no_entry = PQ_NO_ENTRY, not_written = PQ_NOT_WRITTEN,
     not_lawful = PQ_NOT_LAWFUL, torn = PQ_TORN, not_read = PQ_NOT_READ,
     no_timer = PQ_NO_TIMER, gone = PQ_GONE, no_tickets = PQ_NO_TICKETS,

@@ -26,7 +26,7 @@ class _Options(ctypes.Structure):
 
 def _loaded():
     """Loads the library, and declares the result and the parameters of each call."""
-    library = ctypes.CDLL(os.environ.get("FLATPQ_LIBRARY", "libflatpq.so.0.8"))
+    library = ctypes.CDLL(os.environ.get("FLATPQ_LIBRARY", "libflatpq.so.0.9"))
     item, out, size = ctypes.POINTER(_Item), ctypes.POINTER(_WORD), ctypes.POINTER(ctypes.c_size_t)
     takes, batch = [_CODE, _POINTER, item, _WORD, out], [item, ctypes.c_size_t, _WORD, size, out]
     for name, result, *parameters in [

@@ -22,7 +22,7 @@ programs    a simulation in time steps, a scheduler most of whose timers are can
 
 Kinds of means: of queue_bench, which are the proved calls for Rattle, array, a queue whose journal is all in memory; array-lasting, one
 that forgets; array-posts, where each call posts; mutex-book, a lock round a Book. Of the archive: c-queue, by members that have joined;
-c-own, by pq_own; c-posts, by requests that are posted. Peers: cpp-book and cpp-heap, a std::mutex round std::priority_queue with a
+c-own, by pq_own. Peers: cpp-book and cpp-heap, a std::mutex round std::priority_queue with a
 journal and without; rust-book and rust-heap, a Mutex round BinaryHeap likewise; tbb, oneTBB's concurrent_priority_queue (libtbb-dev);
 java, PriorityBlockingQueue. Of queues of functions, each of which is called once it is popped: cpp-tasks and rust-tasks, those of the
 library; cpp-functions, a std::mutex round std::priority_queue, and rust-closures, a Mutex round BinaryHeap. Of light: c-queue and c-own;
@@ -57,7 +57,6 @@ TALLIED = "array-rounds"
 PROGRAM_OF = {
     "c-queue": ("c_queue", ["queue"]),
     "c-own": ("c_queue", ["own"]),
-    "c-posts": ("c_queue", ["posts"]),
     "cpp-book": ("cpp_mutex", ["book"]),
     "cpp-heap": ("cpp_mutex", ["heap"]),
     "rust-book": ("rust_mutex", ["book"]),

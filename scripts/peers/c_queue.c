@@ -1,6 +1,6 @@
-/* The queue as a program in C has it. `c_queue queue|own|posts WORKERS PUSHES POPS` makes the run that `queue_bench` makes, and prints the
-   same fields: `c-KIND,WORKERS,CALLS,NANOSECONDS,audit ok`, or `audit failed` as the last field. The workers of `queue` have joined, those
-   of `own` share pq_own, and those of `posts` have joined, and post each request and poll for its answer. */
+/* The queue as a program in C has it. `c_queue queue|own WORKERS PUSHES POPS` makes the run that `queue_bench` makes, and prints the
+   same fields: `c-KIND,WORKERS,CALLS,NANOSECONDS,audit ok`, or `audit failed` as the last field. The workers of `queue` have joined, and those
+   of `own` share pq_own. */
 #define _POSIX_C_SOURCE 200809L
 
 #include "flatpq.h"
@@ -8,10 +8,10 @@
 
 struct kind {
     const char *name;
-    int is_own, posts;
+    int is_own;
 };
 
-static const struct kind kinds[] = { { "queue", 0, 0 }, { "own", 1, 0 }, { "posts", 0, 1 } };
+static const struct kind kinds[] = { { "queue", 0 }, { "own", 1 } };
 
 struct worker {
     pq_member *member;
@@ -33,27 +33,15 @@ static void need(int holds, const char *what) {
     }
 }
 
-/* Posts a request, and carries out what is posted until it has its answer. */
-static pq_code posted(pq_member *member, uint32_t request, pq_item *item, uint64_t *number) {
-    pq_code code = pq_post(member, request, *item);
-    if (code != PQ_OK) {
-        return code;
-    }
-    for (code = PQ_PENDING; code == PQ_PENDING; code = pq_poll(member, item, number)) {
-        (void)pq_combine(member);
-    }
-    return code;
-}
-
 static void push(pq_member *member, pq_item item, uint64_t *number) {
-    pq_code code = kind->posts ? posted(member, PQ_PUSH, &item, number) : pq_push(member, item, PQ_FOREVER, number);
+    pq_code code = pq_push(member, item, PQ_FOREVER, number);
     need(code == PQ_OK, "a push was refused");
 }
 
 /* Pops: the priority of the item, or 0 where there is none. */
 static uint64_t pop(pq_member *member, uint64_t *number) {
     pq_item item = { 0, 0 };
-    pq_code code = kind->posts ? posted(member, PQ_POP, &item, number) : pq_pop(member, &item, PQ_FOREVER, number);
+    pq_code code = pq_pop(member, &item, PQ_FOREVER, number);
     need(code == PQ_OK || code == PQ_EMPTY, "a pop was refused");
     return code == PQ_OK ? item.priority : 0;
 }
@@ -126,7 +114,7 @@ int main(int argc, char **argv) {
         kind = strcmp(argv[1], kinds[i].name) == 0 ? &kinds[i] : kind;
     }
     if (kind == NULL || !read_load(argv + 2, &load)) {
-        fputs("usage: c_queue queue|own|posts WORKERS PUSHES POPS\n", stderr);
+        fputs("usage: c_queue queue|own WORKERS PUSHES POPS\n", stderr);
         return 2;
     }
     need(pq_open(NULL, &queue) == PQ_OK, "no queue was opened");

@@ -7,7 +7,6 @@ static const uint64_t us = 1000;
 
 pq_queue *queue;
 enum ending ending;
-int loses;
 /* Its member asks the proved queue, and owes nothing, as no request is posted then. */
 static pq_member *observer;
 static done all[MOST_DONE];
@@ -16,7 +15,7 @@ static int count_done, heard_end;
 void check_begin(pq_options options, int is_observed) {
     options.members += options.members != 0 && is_observed;
     ending = STANDS;
-    loses = count_done = heard_end = 0;
+    count_done = heard_end = 0;
     observer = NULL;
     if (played.wraps != NULL) {
         played.wraps->opens(&options);
@@ -106,10 +105,10 @@ int is_journal_full(void) {
 static void check_listeners(void) {
     uint32_t count = 0;
     for (own *it = queue->owns; it != NULL; it = it->next_of_queue) {
-        count += (it->member->keeps & LISTENS) != 0;
+        count += it->member->listens != 0;
     }
     for (int i = 0; i < fiber_count; i++) {
-        count += used[i] != pq_own(queue) && (used[i]->keeps & LISTENS) != 0;
+        count += used[i] != pq_own(queue) && used[i]->listens != 0;
     }
     if (count == queue->members && count > 1) {
         fail("all %u members listen", count);

@@ -28,6 +28,7 @@ typedef struct fiber {
     int priority;    /* of a random schedule */
     int is_after_end; /* a take had returned the end before its call began */
     int found_held;  /* it spins */
+    uint64_t posts_until; /* its call finds the lock held, posts its request, and stays until then; 0: it does neither */
     int late_naps;   /* since the deadline of its call */
     int late_count;
     struct {
@@ -97,7 +98,6 @@ void scenario_run(int which);
 /* requests.c, listeners.c, members.c: what a thread can do. */
 extern const word request_words[], listener_words[], member_words[];
 extern pq_member *used[MOST_FIBERS]; /* the member of each thread */
-extern uint32_t posted[MOST_FIBERS]; /* what it posted; UINT32_MAX: that was refused */
 void requests_begin(void);
 void listeners_begin(void);
 void members_begin(void);
@@ -118,7 +118,6 @@ typedef struct done {
 enum { MOST_DONE = 64 };
 extern pq_queue *queue;
 extern enum ending { STANDS, CLOSED, FREED } ending; /* what the scenario has done to its queue */
-extern int loses;                                    /* a pop that was posted is given back, so no call returns its item */
 void check_begin(pq_options options, int is_observed);
 void check_settled(void);
 void check_end(void);

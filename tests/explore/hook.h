@@ -55,10 +55,8 @@
 #define pq_core_step_call(m, r, p, v, posts, a)                                                       \
     (POINT("pq_core_step_call", &proved_core, WRITES), proved_begins(m, 1)                              \
          ? proved_ends((r) == PQ_PUSH && proved_refuses() ? PQ_SHUT : pq_core_step_call(m, r, p, v, posts, a)) \
-         : (posts) ? proved_post(m, r, p, v, HAS_POSTED) : LOCK_HELD)
-#define pq_core_post(m, r, p, v) STEPS(proved_post(m, r, p, v, PQ_OK), m)
+         : (posts) ? proved_post(m, r, p, v) : LOCK_HELD)
 #define pq_core_step_answer(...) proved_answered(FIRST(__VA_ARGS__), TRIES(pq_core_step_answer(__VA_ARGS__), __VA_ARGS__))
-#define pq_core_look(...) proved_answered(FIRST(__VA_ARGS__), STEPS(pq_core_look(__VA_ARGS__), __VA_ARGS__))
 #define pq_core_step_take(...) proved_looked(TRIES(pq_core_step_take(__VA_ARGS__), __VA_ARGS__))
 #define pq_core_try_pop_or_look(...) TRIES(pq_core_try_pop_or_look(__VA_ARGS__), __VA_ARGS__)
 #define pq_core_try_remove(...) TRIES(pq_core_try_remove(__VA_ARGS__), __VA_ARGS__)
@@ -67,7 +65,6 @@
 #define pq_core_try_push_within(...) PUSHES(pq_core_try_push_within(__VA_ARGS__), __VA_ARGS__)
 #define pq_core_try_push_many(...) PUSHES(pq_core_try_push_many(__VA_ARGS__), __VA_ARGS__)
 #define pq_core_try_pop_many(...) TRIES(pq_core_try_pop_many(__VA_ARGS__), __VA_ARGS__)
-#define pq_core_try_round(...) TRIES(pq_core_try_round(__VA_ARGS__), __VA_ARGS__)
 #define pq_core_archive(...) TRIES(pq_core_archive(__VA_ARGS__), __VA_ARGS__)
 #define pq_core_end_take(...) STEPS(pq_core_end_take(__VA_ARGS__), __VA_ARGS__)
 #define pq_core_wakes_owed(...) STEPS(pq_core_wakes_owed(__VA_ARGS__), __VA_ARGS__)

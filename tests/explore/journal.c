@@ -137,7 +137,7 @@ void check_journal(const pq_journal *journal, const done *all, int count, int he
     check_archive(journal);
     for (size_t i = 0; i < entry_count; i++) {
         follow(i + 1, &entries[i]);
-        if (count < MOST_DONE && loses == 0) {
+        if (count < MOST_DONE) {
             check_returned(&entries[i], all, count);
         }
     }

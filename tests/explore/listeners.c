@@ -126,18 +126,6 @@ static void listen_held(int which, const uint64_t *numbers) {
     }
 }
 
-/* The member has a request posted: the call is refused, and ends the listening. */
-static void listen_refused(int which, const uint64_t *numbers) {
-    pq_item item;
-    if (posted[which] == UINT32_MAX) {
-        return;
-    }
-    if (pq_take_or_listen(used[which], numbers[0], &item, NULL, notify, &notified[which]) != PQ_PENDING) {
-        fail("a member that has posted takes");
-    }
-    may_notify[which] = 0;
-}
-
 /* Pushes, or begins to listen for room. */
 static pq_code begin_listening_for_room(int which, uint64_t priority) {
     const pq_item item = new_item(priority);
@@ -207,7 +195,6 @@ const word listener_words[] = {
     { "listen-once", listen_once },
     { "listen-alone", listen_alone },
     { "listen-held", listen_held },
-    { "listen-refused", listen_refused },
     { "listen-room", push_until },
     { "listen-room-once", push_once },
     { "unlisten", unlisten },

@@ -28,7 +28,7 @@ int system_set(const void *value);
 extern const char proved_core; /* stands for all that a proved call reads and writes */
 int proved_begins(const void *handle, int may_hold); /* 0: another thread holds the queue's lock */
 pq_code proved_ends(pq_code code);
-pq_code proved_post(core *member, uint32_t request, uint64_t priority, uint64_t value, pq_code as);
+pq_code proved_post(core *member, uint32_t request, uint64_t priority, uint64_t value);
 pq_code proved_shut(core *shut);
 int proved_refuses(void); /* the queue is shut, and pushes that were counted before are not posted yet */
 pq_code proved_answered(const void *handle, pq_code code);

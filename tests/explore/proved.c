@@ -68,7 +68,7 @@ int proved_begins(const void *handle, int may_hold) {
         return 1;
     }
     check_own(handle);
-    if (is_held) {
+    if (is_held || me->posts_until > 0) {
         me->found_held = 1;
         return 0;
     }
@@ -119,7 +119,19 @@ static void split(void) {
     counted--;
 }
 
-pq_code proved_post(core *member, uint32_t request, uint64_t priority, uint64_t value, pq_code as) {
+/* The thread has posted its request, and others go on until the time that its word says. */
+static void stay(void) {
+    const uint64_t until = me->posts_until;
+    me->posts_until = 0;
+    if (until > now) {
+        block(NAPS, NULL, until);
+    }
+}
+
+/* The second half of a step that finds the lock held. The library calls the step alone. */
+pq_code pq_core_post(core *member, uint32_t request, uint64_t priority, uint64_t value);
+
+pq_code proved_post(core *member, uint32_t request, uint64_t priority, uint64_t value) {
     const int is_split = played.splits && request == PQ_PUSH && me != NULL && !proved_refuses();
     pq_code code;
     if (is_split) {
@@ -135,7 +147,10 @@ pq_code proved_post(core *member, uint32_t request, uint64_t priority, uint64_t 
         (void)!pq_core_shut(kept_back);
         kept_back = NULL;
     }
-    return code == PQ_OK ? as : code;
+    if (code == PQ_OK && me != NULL && me->posts_until > 0) {
+        stay();
+    }
+    return code == PQ_OK ? HAS_POSTED : code;
 }
 
 /* A step of a take that found the end has also carried out what was posted. */

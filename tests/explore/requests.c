@@ -1,5 +1,5 @@
 /*
- * Words of scenarios: requests, takes and posts. Each says to check.c what its call came to.
+ * Words of scenarios: requests and takes. Each says to check.c what its call came to.
  */
 #include "explore.h"
 
@@ -7,7 +7,6 @@
 
 static const pq_item none = { 0, 0 };
 pq_member *used[MOST_FIBERS];
-uint32_t posted[MOST_FIBERS];
 static uint64_t ticket, value;
 
 void requests_begin(void) {
@@ -194,47 +193,28 @@ static void count_items(int which, const uint64_t *numbers) {
 }
 
 /*
- * Posts.
+ * Calls that find the lock held, and post their requests. The thread then stays until that time, while others may carry them out.
  */
 
-static void post(int which, uint32_t request, pq_item item) {
-    posted[which] = pq_post(used[which], request, item) == PQ_OK ? request : UINT32_MAX;
-    loses += posted[which] == PQ_POP;
+static void post(void (*call)(int which, const uint64_t *numbers), int which, const uint64_t *numbers, uint64_t until) {
+    me->posts_until = until == PQ_FOREVER ? 1 : until;
+    call(which, numbers);
+    me->posts_until = 0; /* where the call was refused */
 }
 
 static void post_push(int which, const uint64_t *numbers) {
-    post(which, PQ_PUSH, new_item(numbers[0]));
+    const uint64_t push_numbers[] = { numbers[0], PQ_FOREVER };
+    post(push, which, push_numbers, numbers[1]);
 }
 
 static void post_pop(int which, const uint64_t *numbers) {
-    post(which, PQ_POP, none);
+    const uint64_t until[] = { PQ_FOREVER };
+    post(pop, which, until, numbers[0]);
 }
 
 static void post_peek(int which, const uint64_t *numbers) {
-    post(which, PQ_PEEK, none);
-}
-
-/* Has the answer to what was posted: it combines until then. */
-static void answer(int which, const uint64_t *numbers) {
-    pq_item item = none;
-    uint64_t number = 0;
-    pq_code code = PQ_PENDING;
-    if (posted[which] == UINT32_MAX) {
-        return;
-    }
-    while ((code = pq_poll(used[which], &item, &number)) == PQ_PENDING) {
-        if (pq_combine(used[which]) != PQ_OK) {
-            block(NAPS, NULL, now + 1000);
-        }
-    }
-    loses -= posted[which] == PQ_POP;
-    check_call_begins(CALLS, PQ_FOREVER, 0);
-    me->is_after_end = 0; /* it was posted before */
-    check_call_ends(posted[which], code, item, posted[which] == PQ_POP ? number : 0);
-}
-
-static void combine(int which, const uint64_t *numbers) {
-    (void)pq_combine(used[which]);
+    const uint64_t until[] = { PQ_FOREVER };
+    post(peek, which, until, numbers[0]);
 }
 
 const word request_words[] = {
@@ -258,7 +238,5 @@ const word request_words[] = {
     { "post-push", post_push },
     { "post-pop", post_pop },
     { "post-peek", post_peek },
-    { "answer", answer },
-    { "combine", combine },
     { NULL, NULL },
 };

@@ -159,17 +159,15 @@ const char *audited(const pq_entry *entries, size_t count, const pq_item *left, 
     char *is_taken = (char *)calloc(count + 1, 1);
     const char *wrong = replayed(entries, count, left, left_count);
     uint64_t answered = 0;
-    uint64_t unanswered = 0;
     uint64_t full = 0;
     wrong = wrong == NULL ? answers_wrong(entries, count, all, threads, is_taken) : wrong;
     free(is_taken);
     for (uint32_t i = 0; i < threads; i++) {
         answered += all[i].count;
-        unanswered += all[i].unanswered;
         full += all[i].full;
     }
     return wrong != NULL                       ? wrong
-         : count > answered + unanswered       ? "entries of the journal are those of no call"
+         : count > answered                    ? "entries of the journal are those of no call"
          : full > 0 && count < room            ? "a call returned that the journal is full, and it is not"
                                                : NULL;
 }
@@ -229,7 +227,7 @@ int finds_faults(void) {
     for (int fault = 0; fault <= 11; fault++) {
         pq_entry entries[4];
         answer answers[4] = { of_first[0], of_first[1], of_first[2], of_second };
-        outcome all[2] = { { answers, 3, 3, 0, 0, 3, 1, NULL, 0, NULL }, { &answers[3], 1, 1, 0, 0, 1, 1, NULL, 0, NULL } };
+        outcome all[2] = { { answers, 3, 3, 0, 3, 1, NULL, 0, NULL }, { &answers[3], 1, 1, 0, 1, 1, NULL, 0, NULL } };
         memcpy(entries, lawful, sizeof entries);
         entries[1].serial = fault == 1 ? 0 : 1;
         entries[2].item.value = fault == 2 ? 1 : 2;

@@ -1,11 +1,10 @@
-/* Rounds of threads that make requests at random, by members that they joined and by pq_own, and of which some go with a request posted.
-   In one round of eight a member halts in a call that holds the queue's lock, until all others have ended. */
+/* Rounds of threads that make requests at random, by members that they joined and by pq_own. In one round of eight a member halts in a call
+   that holds the queue's lock, until all others have ended. */
 #include "stress.h"
 
-#include <sched.h>
 #include <unistd.h>
 
-enum { TRIES = 40, BETWEEN_ARCHIVES = 8, LARGE = 4000, MOST_CALLS = 60, AT_ONCE = 8 };
+enum { BETWEEN_ARCHIVES = 8, LARGE = 4000, MOST_CALLS = 60, AT_ONCE = 8 };
 
 /* A thread that halts in pq_archive does so where this asks for memory for the entries, which is its only large request. */
 static pthread_mutex_t lock = PTHREAD_MUTEX_INITIALIZER;
@@ -58,9 +57,6 @@ typedef struct caller {
     outcome outcome;
     pq_member *member;
     pthread_t thread;
-    int is_pending;
-    uint32_t posted;
-    pq_item posted_item;
 } caller;
 
 /* Of eight requests four are pushes, three pops and one a peek; every other push has one of a few priorities. */
@@ -106,42 +102,6 @@ static void by_call(caller *own) {
                  : request == PQ_POP  ? pq_pop(own->member, &item, until, &number)
                                       : pq_peek(own->member, &item, until, &number);
     answered(own, request, code, number, item);
-}
-
-/* Polls for the answer to the posted request: whether it is there. */
-static int polls(caller *own) {
-    pq_item item = own->posted_item;
-    uint64_t number = 0;
-    pq_code code = pq_poll(own->member, &item, &number);
-    own->is_pending = code == PQ_PENDING;
-    if (!own->is_pending) {
-        answered(own, own->posted, code, number, own->posted == PQ_PUSH ? own->posted_item : item);
-    }
-    return !own->is_pending;
-}
-
-static void posts(caller *own) {
-    pq_code code;
-    own->posted = drawn_request(&own->drawn);
-    own->posted_item = drawn_item(own);
-    code = pq_post(own->member, own->posted, own->posted_item);
-    own->is_pending = code == PQ_OK;
-    if (code == PQ_JOURNAL_FULL) {
-        own->outcome.full++;
-    } else if (code != PQ_OK && !is_late(own, code)) {
-        own->outcome.wrong = pq_code_text(code);
-    }
-}
-
-/* Posts a request, and polls for its answer, but not for long where a member holds the lock. */
-static void by_post(caller *own) {
-    posts(own);
-    for (uint32_t tries = 0; own->is_pending && !polls(own); tries++) {
-        if (pq_combine(own->member) == PQ_TIMED_OUT && own->round->is_kept && tries > TRIES) {
-            return;
-        }
-        sched_yield();
-    }
 }
 
 /* Pops what is due: the item is on the right side of the bound, and has an entry only where it was popped. */
@@ -234,17 +194,18 @@ static void keeps(caller *own) {
 /* Waits until a member has halted so: whether others find the lock held. */
 static int finds_lock_held(pq_member *member) {
     pq_item item = { 0, 0 };
+    uint64_t size;
     pthread_mutex_lock(&lock);
     while (!is_held) {
         pthread_cond_wait(&changed, &lock);
     }
     pthread_mutex_unlock(&lock);
-    return pq_combine(member) == PQ_TIMED_OUT && pq_push(member, item, pq_after(100000), NULL) == PQ_TIMED_OUT;
+    return pq_size(member, PQ_NOW, &size, NULL) == PQ_TIMED_OUT && pq_push(member, item, pq_after(100000), NULL) == PQ_TIMED_OUT;
 }
 
 static void *calls(void *at) {
     caller *own = (caller *)at;
-    void (*const ways[])(caller *) = { by_call, by_call, by_call, by_post, by_post, by_bound, by_batch, by_ticket };
+    void (*const ways[])(caller *) = { by_call, by_call, by_call, by_bound, by_batch, by_ticket };
     uint32_t most = below(&own->drawn, MOST_CALLS);
     if (own->round->is_kept && own->number == 0) {
         keeps(own);
@@ -253,7 +214,7 @@ static void *calls(void *at) {
     if (own->round->is_kept && !finds_lock_held(own->member)) {
         own->outcome.wrong = "the lock was free while a member held it";
     }
-    for (uint32_t made = 0; made < most && own->outcome.wrong == NULL && !own->is_pending; made++) {
+    for (uint32_t made = 0; made < most && own->outcome.wrong == NULL; made++) {
         own->outcome.calls++;
         if (own->round->archives && own->number == 1 && made % BETWEEN_ARCHIVES == 0) {
             archives(own);
@@ -262,13 +223,6 @@ static void *calls(void *at) {
             pq_leave(own->round->queue);
         }
         ways[below(&own->drawn, sizeof ways / sizeof *ways)](own);
-    }
-    /* One thread in eight goes with a request posted, which may have an entry. */
-    if (own->outcome.has_joined && !own->is_pending && below(&own->drawn, 8) == 0) {
-        posts(own);
-    } else if (!own->outcome.has_joined && own->is_pending) {
-        own->is_pending = 0;
-        own->outcome.unanswered++;
     }
     return NULL;
 }
@@ -294,21 +248,6 @@ static plan drawn_round(numbers *drawn) {
     need(pq_open(&options, &it.queue) == PQ_OK, "no queue was opened");
     is_held = is_over = 0;
     return it;
-}
-
-/* Those that have joined give their members back, and every other one of those that wait for an answer first gets it. */
-static const char *settled(caller *callers, const plan *round) {
-    const char *wrong = NULL;
-    for (uint32_t i = 0; i < round->threads; i++) {
-        caller *own = &callers[i];
-        if (own->is_pending && i % 2 == 0) {
-            pq_code code = pq_combine(own->member);
-            wrong = code != PQ_OK ? "the lock was held at the end" : !polls(own) ? "a post has no answer after its own round" : wrong;
-        }
-        own->outcome.unanswered += own->is_pending;
-        pq_give_back(own->outcome.has_joined ? own->member : NULL);
-    }
-    return wrong;
 }
 
 const char *plays_calls(uint64_t seed, uint32_t number, uint64_t *calls_made) {
@@ -340,12 +279,12 @@ const char *plays_calls(uint64_t seed, uint32_t number, uint64_t *calls_made) {
         }
         pthread_join(callers[i].thread, NULL);
     }
-    wrong = settled(callers, &round);
     for (uint32_t i = 0; i < round.threads; i++) {
+        pq_give_back(callers[i].outcome.has_joined ? callers[i].member : NULL);
         all[i] = callers[i].outcome;
         *calls_made += all[i].calls;
     }
-    wrong = wrong != NULL ? wrong : judged(round.queue, all, round.threads, round.room, 0);
+    wrong = judged(round.queue, all, round.threads, round.room, 0);
     for (uint32_t i = 0; i < round.threads; i++) {
         free(all[i].answers);
         free(all[i].archive);

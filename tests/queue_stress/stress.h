@@ -41,12 +41,12 @@ typedef struct answer {
     pq_item item;
 } answer;
 
-/* What a thread did: the answers that it got, in this order; how many of its requests may have an entry and no answer, and how many were
-   refused since the journal is full; and the entries that it archived. Those of a joined member have one place, and serials in turn. */
+/* What a thread did: the answers that it got, in this order; how many of its requests were refused since the journal is full; and
+   the entries that it archived. Those of a joined member have one place, and serials in turn. */
 typedef struct outcome {
     answer *answers;
     size_t count, room;
-    uint64_t unanswered, full, calls;
+    uint64_t full, calls;
     int has_joined;
     pq_entry *archive;
     size_t archived;

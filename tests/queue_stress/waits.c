@@ -131,18 +131,10 @@ static void *all_taken(void *at) {
     return NULL;
 }
 
-/* Pushes by a call, by a call with a deadline, or by a post. */
+/* Pushes by a call, or by a call with a deadline. */
 static pq_code pushes(waiter *own, pq_item item, uint64_t *number) {
-    uint32_t how = below(&own->drawn, 4);
-    pq_code code = how == 0 ? pq_push(own->member, item, pq_after(below(&own->drawn, 1500000)), number)
-                 : how == 1 ? pq_post(own->member, PQ_PUSH, item)
-                            : pq_push(own->member, item, PQ_FOREVER, number);
-    if (how == 1 && code == PQ_OK) {
-        for (code = PQ_PENDING; code == PQ_PENDING; code = pq_poll(own->member, &item, number)) {
-            (void)pq_combine(own->member);
-        }
-    }
-    return code;
+    const uint64_t until = below(&own->drawn, 4) == 0 ? pq_after(below(&own->drawn, 1500000)) : PQ_FOREVER;
+    return pq_push(own->member, item, until, number);
 }
 
 static void *all_pushed(void *at) {

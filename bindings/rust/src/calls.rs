@@ -341,8 +341,7 @@ macro_rules! calls {
             ///
             /// # Errors
             ///
-            /// [`Error::Pending`] where a posted request of the member has no answer yet, and [`Error::Forked`]. With a deadline
-            /// [`Error::TimedOut`], and by the queue itself [`Error::NoMemory`], for its thread's member.
+            /// [`Error::Forked`]. With a deadline [`Error::TimedOut`], and by the queue itself [`Error::NoMemory`], for its thread's member.
             ///
             /// ```
             /// let queue = flatpq::TaskQueue::new()?;

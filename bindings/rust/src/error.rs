@@ -40,12 +40,6 @@ errors! {
     MembersLeft = 40,
     /// As many members are in use as the queue was opened for.
     AllJoined = 41,
-    /// The request that the member posted has no answer yet.
-    Pending = 43,
-    /// The member has posted no request.
-    NotPending = 44,
-    /// The queue has a bound, so no push is posted.
-    BadRequest = 45,
     /// Some of these journal entries are no longer in memory.
     Forgotten = 49,
     /// The queue is shut, so it takes no push; or it is shut and empty.

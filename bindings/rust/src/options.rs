@@ -108,7 +108,7 @@ impl<S> Options<S> {
 
     /// How many items the queue may have; 0, the default, is no bound. A push to a queue that has so many waits until a payload is taken out,
     /// and keeps its member meanwhile: open the queue for more members than there are threads that wait. With a deadline it is refused by
-    /// [`Error::Full`] then. No push is posted to such a queue.
+    /// [`Error::Full`] then.
     ///
     /// ```
     /// use flatpq::{Error, Options, Until};

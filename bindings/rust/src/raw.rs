@@ -85,9 +85,6 @@ extern "C" {
     pub fn pq_remove(member: *mut MemberInside, ticket: u64, item: *mut Item, until: u64, number: *mut u64) -> u32;
     pub fn pq_reschedule(member: *mut MemberInside, ticket: u64, priority: u64, until: u64, number: *mut u64) -> u32;
     pub fn pq_size(member: *mut MemberInside, until: u64, size: *mut u64, peak: *mut u64) -> u32;
-    pub fn pq_post(member: *mut MemberInside, request: u32, item: Item) -> u32;
-    pub fn pq_poll(member: *mut MemberInside, item: *mut Item, number: *mut u64) -> u32;
-    pub fn pq_combine(member: *mut MemberInside) -> u32;
     pub fn pq_take_or_listen(
         member: *mut MemberInside, priority: u64, item: *mut Item, number: *mut u64, notify: Notify, context: *mut c_void,
     ) -> u32;

@@ -108,7 +108,6 @@ impl<T> Drop for Shared<T> {
 /// Each call may return
 ///
 /// - [`Error::JournalFull`] and [`Error::Unarchived`], where the queue was opened so ([`Options::keeping`]), and [`Error::Exhausted`];
-/// - [`Error::Pending`], by a member that has posted a request which has no answer yet;
 /// - [`Error::NoMemory`], by the queue itself, for its thread's member;
 /// - [`Error::TimedOut`], with a deadline: other threads had the lock, or all members, until then;
 /// - [`Error::Forked`], in a forked child of a process that has opened a queue.
@@ -117,7 +116,7 @@ pub struct TaskQueue<K, T> {
     keys: PhantomData<fn(K) -> K>,
 }
 
-/// A queue of integers by keys: as any [`TaskQueue`], and with calls that return or post numbers. Its journal has the values as they were
+/// A queue of integers by keys: as any [`TaskQueue`], and with calls that return numbers. Its journal has the values as they were
 /// pushed, where they are unsigned.
 pub type Queue<K = u64, V = u64> = TaskQueue<K, V>;
 
@@ -187,7 +186,6 @@ impl<K: Key, T: Send> TaskQueue<K, T> {
         Ok(TaskMember {
             raw: after::until(until, || self.shared.queue.join(until))?,
             number: Cell::new(0),
-            posted: Item::default(),
             slot: Arc::default(),
             shared: Arc::clone(&self.shared),
             keys: PhantomData,
@@ -308,8 +306,6 @@ debug_by_name!(Drain<'a, K, T>);
 pub struct TaskMember<K, T> {
     raw: RawMember,
     number: Cell<u64>,
-    // What it posted, where that was a push.
-    posted: Item,
     // It is there until the member was given back.
     pub(crate) slot: Arc<Slot>,
     pub(crate) shared: Arc<Shared<T>>,
@@ -421,96 +417,6 @@ impl<K, T> TaskMember<K, T> {
         let listened = after::calling(|| unsafe { raw::pq_unlisten(self.raw.inside()) } == 1);
         drop(self.slot.take());
         listened
-    }
-
-    /// Carries out the requests that members have posted. It never waits.
-    ///
-    /// # Errors
-    ///
-    /// [`Error::TimedOut`] where another thread has the lock, and [`Error::Forked`].
-    pub fn combine(&mut self) -> Result<(), Error> {
-        // SAFETY: as above.
-        Error::unless_ok(after::calling(|| unsafe {
-            raw::pq_combine(self.raw.inside())
-        }))
-    }
-}
-
-/// Posts of numbers, for programs that never wait. [`Member::poll`] gets the answer. Each is refused by [`Error::Pending`] until then, and
-/// by the errors of each call.
-impl<K: Key, T: Number> TaskMember<K, T> {
-    /// Posts a push, for the next thread that combines.
-    ///
-    /// # Errors
-    ///
-    /// [`Error::Shut`], [`Error::BadRequest`] where the queue has a bound, and those of each post.
-    ///
-    /// ```
-    /// use flatpq::{Error, Queue};
-    ///
-    /// let queue: Queue = Queue::new()?;
-    /// let (mut posting, mut leading) = (queue.join()?, queue.join()?);
-    /// posting.post_push(5, 8)?;
-    /// assert_eq!(posting.poll(), Err(Error::Pending));
-    /// leading.combine()?;
-    /// assert_eq!(posting.poll(), Ok(Some((5, 8))));
-    /// # Ok::<(), Error>(())
-    /// ```
-    pub fn post_push(&mut self, key: K, number: T) -> Result<(), Error> {
-        let priority = self.shared.times.priority_of(key);
-        let value = value_of(number).map_err(|_| Error::NoMemory)?;
-        self.post(0, Item { priority, value })
-    }
-
-    /// Posts a pop. Where the member is dropped before it has polled for the answer, that may take a number out which nobody gets.
-    ///
-    /// # Errors
-    ///
-    /// Those of each post.
-    pub fn post_pop(&mut self) -> Result<(), Error> {
-        self.post(1, Item::default())
-    }
-
-    /// Posts a peek.
-    ///
-    /// # Errors
-    ///
-    /// Those of each post.
-    pub fn post_peek(&mut self) -> Result<(), Error> {
-        self.post(2, Item::default())
-    }
-
-    fn post(&mut self, request: u32, item: Item) -> Result<(), Error> {
-        // SAFETY: the member is there, and in this call alone.
-        Error::unless_ok(after::calling(|| unsafe {
-            raw::pq_post(self.raw.inside(), request, item)
-        }))?;
-        self.posted = item;
-        Ok(())
-    }
-
-    /// Polls for the answer to what was posted: the key and the number that were popped or peeked, or of a push those that were pushed;
-    /// `None` where the queue was empty.
-    ///
-    /// # Errors
-    ///
-    /// [`Error::Pending`] where there is no answer yet, [`Error::NotPending`], and what refused the request.
-    pub fn poll(&mut self) -> Result<Option<(K, T)>, Error> {
-        let (mut item, mut number) = (self.posted, 0);
-        // SAFETY: as above; the others are borrowed for the call.
-        let code =
-            after::calling(|| unsafe { raw::pq_poll(self.raw.inside(), &mut item, &mut number) });
-        let answered = Error::unless_ok(code);
-        if !matches!(answered, Err(Error::Pending | Error::NotPending)) {
-            self.number.set(number);
-        }
-        if code == raw::EMPTY {
-            return Ok(None);
-        }
-        answered?;
-        // SAFETY: the payload is a number.
-        let payload = unsafe { payload_of(item.value) };
-        Ok(Some((self.shared.times.key_of(item.priority), payload)))
     }
 }
 

@@ -116,9 +116,7 @@ static void it_is_refused(pq_queue *queue, pq_member *member) {
         CHECK(pq_take_due_or_listen(member, files[i], &item, NULL) == PQ_NO_TIMER && is_item(item, 9, 9) && pq_unlisten(member) == 0);
         CHECK(pop(queue) == PQ_OK);
     }
-    CHECK(close(files[1]) == 0 && pq_post(member, PQ_PEEK, item) == PQ_OK && take(&it) == PQ_PENDING && pq_unlisten(member) == 0);
-    CHECK(pq_combine(member) == PQ_OK && pq_poll(member, &item, NULL) == PQ_EMPTY && take(&it) == PQ_EMPTY && close(it.timer) == 0);
-    CHECK(pq_unlisten(member) == 1);
+    CHECK(close(files[1]) == 0 && take(&it) == PQ_EMPTY && close(it.timer) == 0 && pq_unlisten(member) == 1);
     it = alarm_by(joined(full));
     CHECK(take(&it) == PQ_EMPTY && pq_peek(pq_own(full), &item, PQ_FOREVER, NULL) == PQ_EMPTY && rings(&it) && take(&it) == PQ_JOURNAL_FULL);
     CHECK(is_item(it.item, 9, 9) && pq_unlisten(it.member) == 0);

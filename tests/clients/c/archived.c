@@ -48,20 +48,18 @@ static void keeps_so_many(uint32_t kept) {
 static void is_refused(pq_member *member) {
     refuses_requests(member, PQ_UNARCHIVED, PQ_FOREVER);
     refuses_requests(member, PQ_UNARCHIVED, PQ_NOW);
-    refuses_posts(member, PQ_UNARCHIVED);
-    CHECK(pq_post(member, 3, item_of(0, 0)) == PQ_BAD_REQUEST && pq_combine(member) == PQ_OK);
+    refuses_listening(member, PQ_UNARCHIVED);
 }
 
-/* As many as are kept are let through beyond those that are archived, one more never; and a post counts from when it is made. */
+/* As many as are kept are let through beyond those that are archived, one more never. */
 static void refuses_what_would_be_forgotten(uint32_t kept) {
     pq_queue *queue = opened_as(2, PQ_REFUSES, kept);
     pq_member *member = joined(queue), *other = joined(queue);
     pq_item item = item_of(7, 8);
     uint64_t number = 9;
     makes(member, kept - 1);
-    CHECK(pq_post(other, PQ_PEEK, item) == PQ_OK);
+    CHECK(pq_peek(other, &item, PQ_FOREVER, &number) == PQ_EMPTY && number == kept);
     is_refused(member);
-    CHECK(pq_poll(other, &item, &number) == PQ_EMPTY && number == kept);
     is_refused(other);
     CHECK(archives(member, 0) == kept);
     is_refused(member);
@@ -134,7 +132,7 @@ static void calls_that_time_out_count_for_nothing(uint64_t most_items) {
     refuses_requests(member, PQ_TIMED_OUT, PQ_NOW);
     CHECK(pq_remove(member, 1, &item, PQ_NOW, &number) == PQ_TIMED_OUT && pq_reschedule(member, 1, 5, PQ_NOW, &number) == PQ_TIMED_OUT);
     CHECK(pq_take_or_listen(member, 9, &item, &number, notes_nothing, NULL) == PQ_EMPTY && pq_unlisten(member) == 0);
-    CHECK(pq_size(member, PQ_NOW, &size, NULL) == PQ_TIMED_OUT && pq_combine(member) == PQ_TIMED_OUT);
+    CHECK(pq_size(member, PQ_NOW, &size, NULL) == PQ_TIMED_OUT);
     let_go(&own);
     have_entries(queue, member, own.pushed);
 }
@@ -148,7 +146,6 @@ static void refused_pushes_count_for_nothing(uint64_t most_items) {
     size_t done = 9;
     CHECK(pq_push(member, items[0], PQ_NOW, NULL) == PQ_OK && (code == PQ_FULL || pq_shut(queue) == PQ_OK));
     CHECK(pq_push(member, items[0], PQ_NOW, NULL) == code && pq_push_many(member, items, 2, PQ_NOW, &done, NULL) == code && done == 0);
-    CHECK(pq_post(member, PQ_PUSH, items[0]) == (code == PQ_FULL ? PQ_BAD_REQUEST : PQ_SHUT));
     have_entries(queue, member, 1);
 }
 
@@ -162,17 +159,6 @@ static void batches_count_for_what_they_pop(void) {
     CHECK(pq_pop_due_many(member, 9, some, 64, PQ_NOW, &done, NULL) == PQ_OK && done == 1 && is_item(some[0], 1, 2));
     CHECK(pq_pop_due_many(member, 9, some, 64, PQ_NOW, &done, NULL) == PQ_EMPTY && done == 0);
     have_entries(queue, member, 2);
-}
-
-/* A member that waits for an answer is refused, and that counts for nothing. */
-static void refusals_of_a_waiting_member_count_for_nothing(void) {
-    pq_queue *queue = refusing(0);
-    pq_member *member = joined(queue), *other = joined(queue);
-    pq_item item = item_of(1, 2);
-    CHECK(pq_post(other, PQ_PEEK, item) == PQ_OK && pq_post(other, PQ_PEEK, item) == PQ_PENDING);
-    CHECK(pq_combine(member) == PQ_OK && pq_poll(other, &item, NULL) == PQ_EMPTY);
-    pq_give_back(other);
-    have_entries(queue, member, 1);
 }
 
 /* What the workers did, or what the archive has. */
@@ -281,7 +267,6 @@ int main(int count, char **words) {
         refused_pushes_count_for_nothing(0);
         refused_pushes_count_for_nothing(1);
         batches_count_for_what_they_pop();
-        refusals_of_a_waiting_member_count_for_nothing();
     }
     if (strcmp(word, "most") == 0) {
         keeps_so_many(MOST);

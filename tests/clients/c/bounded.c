@@ -33,18 +33,6 @@ static void is_refused_at_its_deadline(void) {
     pq_journal_free(journal);
 }
 
-static void no_push_is_posted(void) {
-    pq_queue *queue = opened_within(1, 100);
-    pq_member *member = joined(queue);
-    pq_item item = item_of(5, 6);
-    CHECK(pq_post(member, PQ_PUSH, item) == PQ_BAD_REQUEST && pq_poll(member, &item, NULL) == PQ_NOT_PENDING);
-    CHECK(pq_post(member, PQ_POP, item) == PQ_OK && pq_post(member, PQ_PUSH, item) != PQ_OK && pq_combine(member) == PQ_OK);
-    CHECK(pq_poll(member, &item, NULL) == PQ_EMPTY && pq_push(member, item, PQ_NOW, NULL) == PQ_OK);
-    CHECK(pq_post(member, PQ_PEEK, item) == PQ_OK && pq_combine(member) == PQ_OK && pq_poll(member, &item, NULL) == PQ_OK && is_item(item, 5, 6));
-    pq_give_back(member);
-    close_and_free(queue);
-}
-
 static void counts(void *calls) {
     ++*(int *)calls;
 }
@@ -99,7 +87,6 @@ static void bounds_may_be_any(void) {
 
 int main(void) {
     is_refused_at_its_deadline();
-    no_push_is_posted();
     a_member_listens_for_room();
     bounds_may_be_any();
     return 0;

@@ -3,7 +3,6 @@
 #include "../wrapped.h"
 
 #include <signal.h>
-#include <string.h>
 #include <sys/wait.h>
 
 /* The call times out once its deadline has come, and not long after that. */
@@ -37,8 +36,7 @@ static void all_time_out(pq_member *member, uint64_t until) {
     TIMES_OUT(pq_size(member, until, &size, NULL));
     CHECK(size == 9);
     TIMES_OUT(pq_archive(member, 0, until, &journal));
-    CHECK(journal == NULL && pq_combine(member) == PQ_TIMED_OUT);
-    CHECK(pq_poll(member, &item, &number) == PQ_NOT_PENDING);
+    CHECK(journal == NULL);
     CHECK(pq_take_or_listen(member, 9, &item, &number, notify, &notified) == PQ_EMPTY && notified == 1);
     CHECK(number == 9 && is_item(item, 9, 9) && is_item(items[1], 9, 9));
 }
@@ -55,25 +53,32 @@ static void by_all_deadlines(pq_member *member) {
     all_time_out(member, in_ms(30));
 }
 
+/* What has no deadline goes on once the lock is free. */
+static void *peeks(void *member) {
+    pq_item item;
+    CHECK(pq_peek((pq_member *)member, &item, PQ_FOREVER, NULL) == PQ_OK && is_item(item, 1, 100));
+    return NULL;
+}
+
 static void calls_return_where_a_thread_stops(void) {
     pq_queue *queue = opened(5);
-    pq_member *member = joined(queue), *posting = joined(queue);
+    pq_member *member = joined(queue), *waiting = joined(queue);
+    pthread_t thread;
     pq_journal *journal;
     pq_entry entry;
     pq_item item = item_of(9, 9);
     holder own;
     CHECK(pq_take(pq_own(queue), &item, PQ_NOW, NULL) == PQ_EMPTY);
     hold(&own, queue, HOLDS_AND_STOPS);
+    thread = started(peeks, waiting);
     by_all_deadlines(member);
     by_all_deadlines(pq_own(queue));
-    CHECK(pq_shut(queue) == PQ_OK && pq_post(member, PQ_PUSH, item) == PQ_SHUT);
-    /* A post never waits. What has no deadline goes on once the lock is free. */
-    CHECK(pq_post(posting, PQ_PEEK, item) == PQ_OK && pq_poll(posting, &item, NULL) == PQ_PENDING && pq_combine(posting) == PQ_TIMED_OUT);
+    CHECK(pq_shut(queue) == PQ_OK && pq_push(member, item, PQ_FOREVER, NULL) == PQ_SHUT);
     let_go(&own);
-    CHECK(own.pushed == 1 && pq_combine(member) == PQ_OK && pq_poll(posting, &item, NULL) == PQ_OK && is_item(item, 1, 100));
-    CHECK(pq_take(member, &item, PQ_FOREVER, NULL) == PQ_OK && pq_take(member, &item, PQ_FOREVER, NULL) == PQ_SHUT);
+    ended(thread);
+    CHECK(own.pushed == 1 && pq_take(member, &item, PQ_FOREVER, NULL) == PQ_OK && pq_take(member, &item, PQ_FOREVER, NULL) == PQ_SHUT);
     pq_give_back(member);
-    pq_give_back(posting);
+    pq_give_back(waiting);
     journal = closed(queue);
     CHECK(pq_count(journal, NULL) == 3 && pq_read(journal, 2, &entry) == PQ_OK && entry.request == PQ_POP && is_item(entry.item, 1, 100));
     pq_journal_free(journal);
@@ -81,18 +86,12 @@ static void calls_return_where_a_thread_stops(void) {
 
 /* In a process of its own, which ends with the lock held: by SIGKILL, as no tool is to look for memory that the dead thread held. */
 static void calls_return_where_a_thread_dies(void) {
-    pq_queue *queue = opened(3);
-    pq_member *member = joined(queue), *posting = joined(queue);
-    pq_item item = item_of(9, 9);
+    pq_queue *queue = opened(2);
+    pq_member *member = joined(queue);
     holder own;
     hold(&own, queue, HOLDS_AND_DIES);
     by_all_deadlines(member);
-    CHECK(pq_post(posting, PQ_PUSH, item) == PQ_OK && pq_push(posting, item, in_ms(60000), NULL) == PQ_PENDING);
-    CHECK(pq_poll(posting, &item, NULL) == PQ_PENDING && pq_close(queue, NULL) == PQ_MEMBERS_LEFT);
-    /* Its request is out: the member is not handed out again. */
-    pq_give_back(posting);
-    CHECK(pq_join(queue, in_ms(30), &posting) == PQ_ALL_JOINED && posting == NULL);
-    CHECK(strcmp(pq_code_text(PQ_TIMED_OUT), pq_code_text(PQ_PENDING)) != 0);
+    CHECK(pq_close(queue, NULL) == PQ_MEMBERS_LEFT);
     raise(SIGKILL);
 }
 

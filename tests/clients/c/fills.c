@@ -18,8 +18,6 @@ static void stays_full(uint32_t entries, int has_item) {
         CHECK(pq_take_or_listen(member, 0, &item, NULL, notes_nothing, NULL) == PQ_JOURNAL_FULL && pq_unlisten(member) == 0);
         CHECK(pq_take_due_or_listen(member, -1, &item, NULL) == PQ_JOURNAL_FULL && pq_unlisten(member) == 0);
     }
-    CHECK(pq_post(member, PQ_PUSH, item) == PQ_OK && pq_combine(other) == PQ_OK && pq_poll(member, &item, NULL) == PQ_JOURNAL_FULL);
-    CHECK(pq_post(member, PQ_POP, item) == PQ_OK && pq_combine(member) == PQ_OK && pq_poll(member, &item, NULL) == PQ_JOURNAL_FULL);
     CHECK(is_item(item, 7, 8));
     pq_give_back(member);
     pq_give_back(other);
@@ -37,12 +35,9 @@ static void is_archived(void) {
     pq_item item;
     uint64_t before = 9, number = 0;
     CHECK(pq_push(member, item_of(1, 2), PQ_FOREVER, NULL) == PQ_OK && pq_pop(member, &item, PQ_FOREVER, NULL) == PQ_OK);
-    CHECK(pq_post(other, PQ_POP, item) == PQ_OK);
     CHECK(pq_archive(other, 1, PQ_FOREVER, &journal) == PQ_OK && pq_count(journal, &before) == 1 && before == 1);
     pq_journal_free(journal);
-    /* An archive carries no request out. */
-    CHECK(pq_poll(other, &item, NULL) == PQ_PENDING && pq_combine(member) == PQ_OK);
-    CHECK(pq_poll(other, &item, &number) == PQ_EMPTY && number == 3);
+    CHECK(pq_pop(member, &item, PQ_FOREVER, &number) == PQ_EMPTY && number == 3);
     CHECK(pq_archive(other, 0, PQ_NOW, &journal) == PQ_OK && pq_count(journal, &before) == 3 && before == 0);
     pq_journal_free(journal);
     pq_give_back(member);
@@ -63,8 +58,7 @@ static void a_member_makes_so_many_requests(void) {
     }
     refuses_requests(member, PQ_EXHAUSTED, PQ_FOREVER);
     refuses_requests(member, PQ_EXHAUSTED, PQ_NOW);
-    refuses_posts(member, PQ_EXHAUSTED);
-    CHECK(pq_combine(member) == PQ_OK && pq_poll(member, &item, NULL) == PQ_NOT_PENDING);
+    refuses_listening(member, PQ_EXHAUSTED);
     CHECK(pq_pop(other, &item, PQ_FOREVER, NULL) == PQ_JOURNAL_FULL);
     pq_give_back(member);
     pq_give_back(other);

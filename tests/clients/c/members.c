@@ -1,4 +1,4 @@
-/* Members are joined, move between threads and are given back, also with a request posted; no two have the same place at once, and each
+/* Members are joined, move between threads and are given back; no two have the same place at once, and each
    entry of the journal is that of a request. A joining waits for a member until its time. A queue that is freed hands its
    items on, unless a journal has them. A program may end with all of it open. */
 #include "../check.h"
@@ -16,27 +16,18 @@ static void *comes(void *own) {
     CHECK(pq_join(queue, PQ_FOREVER, &member) == PQ_OK);
     uint32_t place = pq_place(member);
     CHECK(place < PLACES && __atomic_exchange_n(&is_out[place], 1, __ATOMIC_SEQ_CST) == 0);
-    CHECK(pq_poll(member, &item, &number) == PQ_NOT_PENDING);
     CHECK(pq_push(member, item_of(turn % 5, turn), PQ_FOREVER, &number) == PQ_OK && number >= 1);
-    if (turn % 7 == 0) {
-        CHECK(pq_post(member, PQ_POP, item) == PQ_OK);
-        pq_code code = pq_combine(member);
-        CHECK(code == PQ_OK || code == PQ_TIMED_OUT);
-    } else {
-        CHECK(pq_pop(member, &item, PQ_FOREVER, &number) == PQ_OK);
-    }
+    CHECK(pq_pop(member, &item, PQ_FOREVER, &number) == PQ_OK);
     CHECK(pq_place(member) == place && __atomic_exchange_n(&is_out[place], 0, __ATOMIC_SEQ_CST) == 1);
     pq_give_back(member);
     return NULL;
 }
 
-/* All are joined again, and those that had posted a request have had their answers. */
+/* All are joined again. */
 static void comes_out_again(void) {
     pq_member *members[MEMBERS], *none = NULL;
-    pq_item item;
     for (size_t i = 0; i < MEMBERS; i++) {
         members[i] = joined(queue);
-        CHECK(pq_poll(members[i], &item, NULL) == PQ_NOT_PENDING && pq_combine(members[i]) == PQ_OK);
     }
     CHECK(pq_join(queue, PQ_NOW, &none) == PQ_ALL_JOINED);
     for (size_t i = 0; i < MEMBERS; i++) {
@@ -69,40 +60,9 @@ static void threads_come_and_go(void) {
     pq_journal_free(journal);
 }
 
-/* The only member, given back with a request posted, is joined again where no other thread is left to answer it. */
-static void the_only_one_is_joined_again(void) {
-    pq_queue *one = opened(1);
-    pq_member *member = joined(one);
-    pq_item item = item_of(7, 8);
-    uint64_t number = 0;
-    CHECK(pq_post(member, PQ_PUSH, item_of(3, 4)) == PQ_OK);
-    pq_give_back(member);
-    member = joined(one);
-    CHECK(pq_poll(member, &item, NULL) == PQ_NOT_PENDING && is_item(item, 7, 8));
-    CHECK(pq_pop(member, &item, PQ_NOW, &number) == PQ_OK && number == 2 && is_item(item, 3, 4));
-    pq_give_back(member);
-    close_and_free(one);
-}
-
-/* A queue closes with a member that was given back with a request posted. That has an entry where another thread answered it. */
-static void closes_with_one_that_waits(void) {
-    for (uint64_t served = 0; served < 2; served++) {
-        pq_queue *two = opened(2);
-        pq_member *first = joined(two), *second = joined(two);
-        CHECK(pq_post(first, PQ_PUSH, item_of(3, 4)) == PQ_OK);
-        CHECK(served == 0 || pq_combine(second) == PQ_OK);
-        pq_give_back(first);
-        pq_give_back(second);
-        pq_journal *journal = closed(two);
-        CHECK(pq_count(journal, NULL) == served);
-        pq_journal_free(journal);
-    }
-}
-
 /* A member that was joined here makes its calls there. */
-static void *pushes_and_posts(void *member) {
+static void *pushes(void *member) {
     CHECK(pq_push((pq_member *)member, item_of(1, 2), PQ_FOREVER, NULL) == PQ_OK);
-    CHECK(pq_post((pq_member *)member, PQ_POP, item_of(0, 0)) == PQ_OK);
     return NULL;
 }
 
@@ -116,8 +76,8 @@ static void members_move_between_threads(void) {
     pq_queue *one = opened(1);
     pq_member *member = joined(one), *other = NULL;
     pq_item item = item_of(7, 8);
-    ended(started(pushes_and_posts, member));
-    CHECK(pq_combine(member) == PQ_OK && pq_poll(member, &item, NULL) == PQ_OK && is_item(item, 1, 2));
+    ended(started(pushes, member));
+    CHECK(pq_pop(member, &item, PQ_NOW, NULL) == PQ_OK && is_item(item, 1, 2));
     uint64_t begun = pq_now();
     CHECK(pq_join(one, in_ms(30), &other) == PQ_ALL_JOINED && other == NULL && pq_now() >= begun + 30000000);
     pthread_t thread = started(gives_back_soon, member);
@@ -154,20 +114,15 @@ pq_journal *left_journal;
 
 static void all_is_left_open(void) {
     pq_queue *other = opened(1);
-    queue = opened(3);
+    queue = opened(2);
     left_member = joined(queue);
-    pq_member *hasty = joined(queue);
-    CHECK(pq_post(hasty, PQ_PUSH, item_of(1, 2)) == PQ_OK);
-    pq_give_back(hasty);
-    CHECK(pq_push(left_member, item_of(3, 4), PQ_FOREVER, NULL) == PQ_OK && pq_post(left_member, PQ_POP, item_of(0, 0)) == PQ_OK);
+    CHECK(pq_push(left_member, item_of(3, 4), PQ_FOREVER, NULL) == PQ_OK);
     CHECK(pq_push(pq_own(queue), item_of(5, 6), PQ_FOREVER, NULL) == PQ_OK && pq_push(pq_own(other), item_of(5, 6), PQ_FOREVER, NULL) == PQ_OK);
     left_journal = closed(other);
 }
 
 int main(void) {
     threads_come_and_go();
-    the_only_one_is_joined_again();
-    closes_with_one_that_waits();
     members_move_between_threads();
     a_freed_queue_leaves_its_items();
     all_is_left_open();

@@ -62,7 +62,7 @@ static pq_code step_call(core *member, pq_item item, core_answer *answer) {
 
 static pq_code step_answer(core *member, core_answer *answer) {
     pq_code code = pq_core_step_answer(member, answer);
-    if (code == PQ_PENDING) {
+    if (code == NOT_ANSWERED) {
         code = pq_core_step_answer(member, answer);
         answer->owes_wake = 1;
     }
@@ -153,6 +153,9 @@ static void pushed(actor *it, pq_code code, const core_answer *answer, enum plac
         it->at = code == PQ_SHUT ? DONE : otherwise;
     }
 }
+
+/* The library makes no such call by itself: it is the second half of a step that posts. */
+pq_code pq_core_post(core *member, uint32_t request, uint64_t priority, uint64_t value);
 
 static void post(actor *it) {
     const pq_code code = pq_core_post(&it->member, PQ_PUSH, it->item.priority, it->item.value);

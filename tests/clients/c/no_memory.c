@@ -190,8 +190,7 @@ static void asks_for_no_memory(pq_member *member, pq_member *other, uint64_t ent
     CHECK(pq_pop_due(other, 0, &item, PQ_FOREVER, NULL) == PQ_NOT_DUE && item.value == entries - 1);
     CHECK(pq_take(other, &item, PQ_FOREVER, NULL) == PQ_OK && pq_take_due(other, &item, PQ_FOREVER, NULL) == PQ_OK);
     CHECK(pq_pop_due_many(member, 4, items, 2, PQ_FOREVER, &done, NULL) == PQ_OK && done == 2 && is_item(items[1], 4, entries - 4));
-    CHECK(pq_post(member, PQ_POP, item) == PQ_OK && pq_combine(other) == PQ_OK && pq_poll(member, &item, NULL) == PQ_OK);
-    CHECK(pq_place(member) < 2080 && is_item(item, 5, entries - 5) && refused == 0);
+    CHECK(pq_pop(member, &item, PQ_FOREVER, NULL) == PQ_OK && pq_place(member) < 2080 && is_item(item, 5, entries - 5) && refused == 0);
     refuse_after(-1);
 }
 
@@ -243,8 +242,9 @@ static void *has_own_members(void *unused) {
     pq_queue *queue = opened(1);
     pq_member *own = pq_own(queue);
     pq_item item = item_of(7, 8);
+    uint64_t size;
     long asked;
-    AT_LAST(asked, pq_combine(own), pq_place(own) == UINT32_MAX);
+    AT_LAST(asked, pq_size(own, PQ_FOREVER, &size, NULL), pq_place(own) == UINT32_MAX);
     CHECK(asked > 0 && pq_place(own) != UINT32_MAX);
     refuse_after(0);
     CHECK(pq_pop(own, &item, PQ_FOREVER, NULL) == PQ_EMPTY);
@@ -286,9 +286,10 @@ static void a_refused_move_leaves_the_item(uint32_t keeping, uint32_t entries, u
 static void a_thread_without_an_end_has_no_member(void) {
     pthread_key_t key;
     pq_queue *queue = opened(1);
+    uint64_t size;
     while (pthread_key_create(&key, NULL) == 0) {
     }
-    CHECK(pq_combine(pq_own(queue)) == PQ_NO_MEMORY && pq_place(pq_own(queue)) == UINT32_MAX);
+    CHECK(pq_size(pq_own(queue), PQ_FOREVER, &size, NULL) == PQ_NO_MEMORY && pq_place(pq_own(queue)) == UINT32_MAX);
     pq_give_back(joined(queue));
     close_and_free(queue);
 }

@@ -1,5 +1,5 @@
 /* Own members: more threads than members call by pq_own. A thread's member goes to others while the thread doesn't use it, when the thread
-   ends or leaves; not while it listens. Calls at any moment, posts, closing and freeing tests/explore tries. */
+   ends or leaves; not while it listens. Calls at any moment, closing and freeing tests/explore tries. */
 #include "refused.h"
 
 enum { THREADS = 200, COMING = 10000 };
@@ -130,12 +130,13 @@ static void idle_members_are_taken_over(void) {
 /* A member that listens is taken over once that has ended. */
 static void members_that_listen_are_kept(void) {
     helper other;
+    uint64_t size = 9;
     queue = opened(1);
     begins(&other);
     does(&other, listens);
     has_none();
     refuses_requests(pq_own(queue), PQ_TIMED_OUT, PQ_NOW);
-    CHECK(pq_combine(pq_own(queue)) == PQ_TIMED_OUT && pq_close(queue, NULL) == PQ_MEMBERS_LEFT);
+    CHECK(pq_size(pq_own(queue), PQ_NOW, &size, NULL) == PQ_TIMED_OUT && size == 9 && pq_close(queue, NULL) == PQ_MEMBERS_LEFT);
     does(&other, unlistens);
     pushes_one();
     does(&other, has_none);

@@ -2,8 +2,6 @@
    All that was written before a push is there after the call that returned the item, and ThreadSanitizer knows. */
 #include "../check.h"
 
-#include <sched.h>
-
 enum { THREADS = 4, RECORDS = 8, HOPS = 400 };
 
 /* A record is plain memory: no atomic, and no lock but the queue. */
@@ -20,32 +18,17 @@ typedef struct worker {
     unsigned number, ways;
 } worker;
 
-static pq_code post(pq_member *member, uint32_t request, pq_item *item) {
-    pq_code code = pq_post(member, request, *item);
-    while (code == PQ_OK && (code = pq_poll(member, item, NULL)) == PQ_PENDING) {
-        code = pq_combine(member);
-        CHECK(code == PQ_OK || code == PQ_TIMED_OUT);
-        if (code == PQ_TIMED_OUT) {
-            sched_yield();
-        }
-        code = PQ_OK;
-    }
-    return code;
-}
-
 static void hand_on(pq_member *member, unsigned hop, pq_item item) {
     size_t done = 0;
-    CHECK((hop % 3 == 0   ? post(member, PQ_PUSH, &item)
-           : hop % 3 == 1 ? pq_push(member, item, PQ_FOREVER, NULL)
-                          : pq_push_many(member, &item, 1, PQ_FOREVER, &done, NULL)) == PQ_OK);
+    CHECK((hop % 2 == 0 ? pq_push(member, item, PQ_FOREVER, NULL) : pq_push_many(member, &item, 1, PQ_FOREVER, &done, NULL)) == PQ_OK);
 }
 
 static void ignores(void *context) {
     (void)context;
 }
 
-/* The first four calls use no mutex, by which ThreadSanitizer would think that threads are in order. */
-enum { AT_ONCE = 4, ALL = 8 };
+/* The first three calls use no mutex, by which ThreadSanitizer would think that threads are in order. */
+enum { AT_ONCE = 3, ALL = 7 };
 
 static pq_code get(pq_member *member, unsigned way, pq_item *item) {
     size_t done = 0;
@@ -58,12 +41,10 @@ static pq_code get(pq_member *member, unsigned way, pq_item *item) {
     case 2:
         return pq_pop_due_many(member, UINT64_MAX, item, 1, PQ_FOREVER, &done, NULL);
     case 3:
-        return post(member, PQ_POP, item);
-    case 4:
         return pq_take(member, item, in_ms(1), NULL);
-    case 5:
+    case 4:
         return pq_take_due(member, item, in_ms(1), NULL);
-    case 6:
+    case 5:
         code = pq_take_due_or_listen(member, -1, item, NULL);
         return code == PQ_NO_TIMER ? PQ_EMPTY : code;
     default:

@@ -60,28 +60,6 @@ static void refuses_joining_too_often_and_closing_too_early(void) {
     close_and_free(queue);
 }
 
-static void refuses_requests_out_of_turn(void) {
-    pq_queue *queue = opened(1);
-    pq_member *member = joined(queue);
-    pq_item item = item_of(7, 8);
-    uint64_t number = 9, size = 9, peak = 9;
-    CHECK(pq_poll(member, &item, &number) == PQ_NOT_PENDING && number == 9 && pq_combine(member) == PQ_OK);
-    CHECK(pq_post(member, 3, item) == PQ_BAD_REQUEST && pq_post(member, UINT32_MAX, item) == PQ_BAD_REQUEST);
-    CHECK(pq_poll(member, &item, &number) == PQ_NOT_PENDING && pq_post(member, PQ_PUSH, item_of(5, 6)) == PQ_OK);
-    refuses_requests(member, PQ_PENDING, PQ_NOW);
-    refuses_requests(member, PQ_PENDING, in_ms(1000));
-    refuses_requests(member, PQ_PENDING, PQ_FOREVER);
-    refuses_posts(member, PQ_PENDING);
-    CHECK(pq_size(member, PQ_FOREVER, &size, &peak) == PQ_PENDING && size == 9 && peak == 9);
-    CHECK(pq_post(member, 3, item) == PQ_BAD_REQUEST);
-    CHECK(pq_poll(member, &item, &number) == PQ_PENDING && is_item(item, 7, 8) && number == 9);
-    CHECK(pq_combine(member) == PQ_OK && pq_poll(member, &item, &number) == PQ_OK && number == 1);
-    CHECK(pq_poll(member, &item, &number) == PQ_NOT_PENDING && pq_unlisten(member) == 0);
-    CHECK(pq_pop(member, &item, PQ_FOREVER, &number) == PQ_OK && is_item(item, 5, 6) && number == 2);
-    pq_give_back(member);
-    close_and_free(queue);
-}
-
 /* Pushes alone are refused until the last item is gone; then calls that wait for an item are, too. */
 static void refuses_pushes_once_shut(void) {
     pq_queue *queue = opened(1);
@@ -92,7 +70,7 @@ static void refuses_pushes_once_shut(void) {
     size_t done = 9;
     CHECK(pq_push(member, item_of(5, 6), PQ_FOREVER, NULL) == PQ_OK && pq_shut(queue) == PQ_OK && pq_shut(queue) == PQ_OK);
     CHECK(pq_push(member, items[0], PQ_FOREVER, &number) == PQ_SHUT && pq_push(member, items[0], PQ_NOW, NULL) == PQ_SHUT && number == 9);
-    CHECK(pq_push_many(member, items, 2, PQ_FOREVER, &done, NULL) == PQ_SHUT && done == 0 && pq_post(member, PQ_PUSH, items[0]) == PQ_SHUT);
+    CHECK(pq_push_many(member, items, 2, PQ_FOREVER, &done, NULL) == PQ_SHUT && done == 0);
     CHECK(pq_peek(member, &item, PQ_FOREVER, &number) == PQ_OK && is_item(item, 5, 6) && number == 2);
     CHECK(pq_take_or_listen(member, 4, &item, NULL, notes_nothing, NULL) == PQ_NOT_DUE && pq_unlisten(member) == 1);
     CHECK(pq_take(member, &item, PQ_FOREVER, &number) == PQ_OK && number == 3);
@@ -101,7 +79,6 @@ static void refuses_pushes_once_shut(void) {
     CHECK(pq_take(member, &item, PQ_FOREVER, NULL) == PQ_SHUT && pq_take_due(member, &item, PQ_FOREVER, NULL) == PQ_SHUT);
     CHECK(pq_take(member, &item, in_ms(1000), NULL) == PQ_SHUT && pq_take_due(member, &item, in_ms(1000), NULL) == PQ_SHUT);
     CHECK(pq_take_or_listen(member, 9, &item, NULL, notes_nothing, NULL) == PQ_SHUT && pq_unlisten(member) == 0);
-    CHECK(pq_post(member, PQ_POP, item) == PQ_OK && pq_combine(member) == PQ_OK && pq_poll(member, &item, NULL) == PQ_EMPTY);
     pq_give_back(member);
     close_and_free(queue);
 }
@@ -203,7 +180,6 @@ int main(void) {
     refuses_openings();
     refuses_no_member();
     refuses_joining_too_often_and_closing_too_early();
-    refuses_requests_out_of_turn();
     refuses_pushes_once_shut();
     refuses_calls_once_closed();
     refuses_calls_while_it_ends();

@@ -24,11 +24,11 @@ static inline void refuses_requests(pq_member *member, pq_code code, uint64_t un
     CHECK(is_item(item, 7, 8) && is_item(items[0], 7, 8) && is_item(items[1], 7, 8) && number == 9);
 }
 
-/* So are calls that post a request, and those that listen. */
-static inline void refuses_posts(pq_member *member, pq_code code) {
+/* So are calls that listen. */
+static inline void refuses_listening(pq_member *member, pq_code code) {
     pq_item item = item_of(7, 8);
     uint64_t number = 9;
-    CHECK(pq_post(member, PQ_PUSH, item) == code && pq_post(member, PQ_POP, item) == code && pq_post(member, PQ_PEEK, item) == code);
+    CHECK(pq_push_or_listen(member, item, &number, notes_nothing, NULL) == code && pq_unlisten(member) == 0);
     CHECK(pq_take_or_listen(member, 9, &item, &number, notes_nothing, NULL) == code && pq_unlisten(member) == 0);
     CHECK(pq_take_due_or_listen(member, -1, &item, &number) == code && pq_unlisten(member) == 0);
     CHECK(is_item(item, 7, 8) && number == 9);
@@ -36,17 +36,15 @@ static inline void refuses_posts(pq_member *member, pq_code code) {
 
 /* And calls that make no request. */
 static inline void refuses_others(pq_member *member, pq_code code) {
-    pq_item item = item_of(7, 8);
-    uint64_t number = 9, size = 9, peak = 9;
+    uint64_t size = 9, peak = 9;
     pq_journal *journal = NULL;
-    CHECK(pq_poll(member, &item, &number) == code && pq_combine(member) == code && is_item(item, 7, 8) && number == 9);
     CHECK(pq_archive(member, 0, PQ_FOREVER, &journal) == code && journal == NULL);
     CHECK(pq_size(member, PQ_FOREVER, &size, &peak) == code && size == 9 && peak == 9);
 }
 
 static inline void refuses_all(pq_member *member, pq_code code, uint64_t until) {
     refuses_requests(member, code, until);
-    refuses_posts(member, code);
+    refuses_listening(member, code);
     refuses_others(member, code);
 }
 

@@ -1,5 +1,5 @@
-/* pq_size: how many items there are after each call that puts some in or takes some out, and were at most, without an entry; a count carries
-   out what others have posted; and beside other threads, which push and take at a bound, it is a number that the queue had. */
+/* pq_size: how many items there are after each call that puts some in or takes some out, and were at most, without an entry; and beside
+   other threads, which push and take at a bound, it is a number that the queue had. */
 #include "../check.h"
 
 static void is_of(pq_queue *queue, pq_member *member, uint64_t wanted) {
@@ -12,8 +12,8 @@ static void is_of(pq_queue *queue, pq_member *member, uint64_t wanted) {
 
 static void follows_each_call(void) {
     const pq_item many[] = { { 3, 3 }, { 4, 4 }, { 5, 5 } };
-    pq_queue *queue = opened(3);
-    pq_member *member = joined(queue), *poster = joined(queue);
+    pq_queue *queue = opened(2);
+    pq_member *member = joined(queue);
     pq_item item, items[3];
     uint64_t number = 0;
     size_t done = 0;
@@ -28,20 +28,14 @@ static void follows_each_call(void) {
     is_of(queue, member, 3);
     CHECK(pq_pop_due_many(member, 5, items, 3, PQ_FOREVER, &done, NULL) == PQ_OK && done == 2);
     is_of(queue, member, 1);
-    /* The count carries out what was posted. */
-    CHECK(pq_post(poster, PQ_PUSH, item_of(2, 2)) == PQ_OK);
-    is_of(queue, member, 2);
-    CHECK(pq_poll(poster, &item, NULL) == PQ_OK && pq_post(poster, PQ_POP, item) == PQ_OK);
+    CHECK(pq_shut(queue) == PQ_OK);
     is_of(queue, member, 1);
-    CHECK(pq_poll(poster, &item, NULL) == PQ_OK && is_item(item, 2, 2) && pq_shut(queue) == PQ_OK);
-    is_of(queue, member, 1);
-    CHECK(pq_pop(member, &item, PQ_FOREVER, &number) == PQ_OK && number == 13);
+    CHECK(pq_pop(member, &item, PQ_FOREVER, &number) == PQ_OK && number == 11);
     is_of(queue, member, 0);
     pq_give_back(member);
-    pq_give_back(poster);
     pq_leave(queue);
     pq_journal *journal = closed(queue);
-    CHECK(pq_count(journal, NULL) == 13);
+    CHECK(pq_count(journal, NULL) == 11);
     pq_journal_free(journal);
 }
 

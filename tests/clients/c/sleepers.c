@@ -1,5 +1,5 @@
 /* More threads wait for an item than a queue has members: a pool of them ends. The last member that is awake does not listen. The system is
-   asked for as many wakes as there are items, and a joining wakes a thread for what it carries out. Who is woken for what tests/explore tries. */
+   asked for as many wakes as there are items. Who is woken for what tests/explore tries. */
 #include "refused.h"
 #include "system_calls.h"
 
@@ -123,25 +123,6 @@ static void a_batch_wakes_as_many_as_it_has_items(void) {
     close_and_free(queue);
 }
 
-/* A member that was given back with its push posted is handed out again after a round: that wakes. */
-static void who_joins_wakes(void) {
-    queue = opened(3);
-    pq_member *poster = joined(queue), *last = joined(queue);
-    pthread_t thread = started(takes_all, NULL);
-    await_asleep(1);
-    CHECK(pq_post(poster, PQ_PUSH, item_of(3, 4)) == PQ_OK);
-    pq_give_back(poster);
-    poster = joined(queue);
-    while (size_of(queue) > 0) {
-        sleep_ms(1);
-    }
-    CHECK(pq_shut(queue) == PQ_OK);
-    ended(thread);
-    pq_give_back(poster);
-    pq_give_back(last);
-    close_and_free(queue);
-}
-
 int main(void) {
     const int timer = timerfd_create(CLOCK_MONOTONIC, 0);
     alarm(200);
@@ -149,7 +130,6 @@ int main(void) {
     the_last_member_does_not_listen(-1);
     the_last_member_does_not_listen(timer);
     a_batch_wakes_as_many_as_it_has_items();
-    who_joins_wakes();
     CHECK(close(timer) == 0);
     return 0;
 }

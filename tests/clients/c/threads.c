@@ -1,8 +1,6 @@
-/* 64 threads make requests at random: by calls that wait, by calls with deadlines, and by posts; half of them by members that they joined, the
+/* 64 threads make requests at random: by calls that wait, and by calls with deadlines; half of them by members that they joined, the
    others by pq_own. Each answer then stands in the journal at its number. With an argument the journal is written out, to be audited. */
 #include "../check.h"
-
-#include <sched.h>
 
 enum { THREADS = 64, MOST = 200 };
 
@@ -43,34 +41,20 @@ static pq_code by_call(pq_member *member, request *it) {
 static pq_code by_deadlines(pq_member *member, request *it) {
     pq_code code = calls(member, it, PQ_NOW);
     while (code == PQ_TIMED_OUT) {
-        CHECK(pq_poll(member, &it->item, &it->number) == PQ_NOT_PENDING);
         code = calls(member, it, pq_after(100000));
     }
     return code;
 }
 
-static pq_code by_post(pq_member *member, request *it) {
-    pq_code code = pq_post(member, it->request, it->item);
-    CHECK(code == PQ_OK);
-    while ((code = pq_poll(member, &it->item, &it->number)) == PQ_PENDING) {
-        pq_code combined = pq_combine(member);
-        CHECK(combined == PQ_OK || combined == PQ_TIMED_OUT);
-        if (combined == PQ_TIMED_OUT) {
-            sched_yield();
-        }
-    }
-    return code;
-}
-
 static void *asks(void *at) {
-    pq_code (*const ways[])(pq_member *, request *) = { by_post, by_deadlines, by_call };
+    pq_code (*const ways[])(pq_member *, request *) = { by_deadlines, by_call };
     asker *own = (asker *)at;
     for (uint32_t i = 0; i < own->requests; i++) {
         request *it = &own->made[i];
         uint32_t drawn = draw(&own->seed, 20);
         it->request = drawn < 9 ? PQ_PUSH : drawn < 18 ? PQ_POP : PQ_PEEK;
         it->item = it->request == PQ_PUSH ? item_of(draw(&own->seed, 50), draw(&own->seed, 60000)) : item_of(0, 0);
-        it->code = ways[draw(&own->seed, 3)](own->member, it);
+        it->code = ways[draw(&own->seed, 2)](own->member, it);
         CHECK(it->number >= 1 && (it->code == PQ_OK || (it->code == PQ_EMPTY && it->request != PQ_PUSH)));
     }
     own->place = pq_place(own->member);

@@ -129,16 +129,13 @@ static void others_refuse(void) {
     CHECK(pq_code_text(PQ_GONE)[0] != 0 && pq_code_text(PQ_NO_TICKETS)[0] != 0);
 }
 
-/* Where a request is posted; where another thread has the lock; and where an entry would be forgotten that is not archived. */
+/* Where another thread has the lock; and where an entry would be forgotten that is not archived. */
 static void refuses_for_now(void) {
     pq_queue *queue = opened_with_tickets(PQ_REFUSES, 0, 0);
     pq_member *member = joined(queue);
     pq_item item = item_of(1, 1);
     holder other;
-    CHECK(pushed(queue, 1, 2) == 1 && pq_post(member, PQ_REMOVE, item) == PQ_BAD_REQUEST && pq_post(member, PQ_RESCHEDULE, item) == PQ_BAD_REQUEST);
-    CHECK(pq_post(member, PQ_PEEK, item) == PQ_OK);
-    refuses(member, PQ_PENDING, PQ_FOREVER);
-    CHECK(pq_combine(member) == PQ_OK && pq_poll(member, &item, NULL) == PQ_OK);
+    CHECK(pushed(queue, 1, 2) == 1);
     hold(&other, queue, HOLDS_AND_STOPS);
     refuses(member, PQ_TIMED_OUT, PQ_NOW);
     refuses(member, PQ_TIMED_OUT, in_ms(5));

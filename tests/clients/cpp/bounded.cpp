@@ -18,9 +18,8 @@ static void items_are_counted() {
     CHECK(queue.push(5u, 6) && queue.push_many(std::vector<flatpq::item<>>{{1, 2}, {3, 4}}));
     CHECK(*read_only.size() == 3 && *read_only.peak_size() == 3 && *std::as_const(member).size(1h) == 3 && read_only.peek()->value == 2);
     CHECK(member.pop() && *queue.clear() == 2 && *member.size() == 0);
-    CHECK(member.post(flatpq::request::pop) == code::ok && member.size().error() == code::pending);
     auto moved = std::move(member);
-    CHECK(member.size().error() == code::no_member && *queue.size() == 0);
+    CHECK(member.size().error() == code::no_member && member.peak_size().error() == code::no_member && *queue.size() == 0);
 }
 
 // The most items at once: pops don't lower it, and a reschedule doesn't raise it.
@@ -33,7 +32,6 @@ static void the_peak_stays() {
     CHECK(queue.reschedule(ticket, 2u) && *queue.size() == 3 && *member.peak_size(1h) == 3);
     CHECK(queue.pop() && queue.pop() && *queue.peak_size() == 3 && queue.push(1u, 2) && *queue.size() == 2);
     CHECK(*queue.peak_size() == 3 && queue.shut() == code::ok && *member.peak_size() == 3);
-    CHECK(member.post(flatpq::request::pop) == code::ok && member.peak_size().error() == code::pending);
 }
 
 static void a_full_queue_refuses() {
@@ -51,12 +49,6 @@ static void a_full_queue_refuses() {
     const auto pushed = queue.push_many(many, 20ms);
     CHECK(!pushed && pushed.count == 1 && pushed.number == 3 && pushed.error == code::full);
     CHECK(many[1].payload == "eight" && *queue.size() == 1);
-}
-
-static void no_push_is_posted() {
-    flatpq::queue<> queue(flatpq::options().with_most_items(1));
-    CHECK(queue.post(flatpq::request::push, {1, 2}) == code::bad_request && queue.post(flatpq::request::pop) == code::ok);
-    CHECK(queue.combine() == code::ok && queue.poll().error() == code::empty);
 }
 
 static void an_event_loop_waits_for_room() {
@@ -92,7 +84,6 @@ int main() {
     items_are_counted();
     the_peak_stays();
     a_full_queue_refuses();
-    no_push_is_posted();
     an_event_loop_waits_for_room();
     a_callback_waits_for_room();
     return 0;

@@ -165,16 +165,12 @@ static_assert(takes<flatpq::queue<int>, int>(pushes, pops_due, pops_many, drains
 static_assert(!std::is_constructible_v<flatpq::task<char>, int, char> && std::is_constructible_v<flatpq::task<char>, unsigned, char>);
 static_assert(std::is_constructible_v<flatpq::task<char, int>, int, char>);
 
-// Keys that are not made of nothing are posted, and a batch may have items of the program's own.
+// Keys that are not made of nothing will do, and a batch may have items of the program's own.
 static void types_of_the_program_will_do() {
     auto ranks = *flatpq::queue<rank>::open();
-    CHECK(ranks.post(flatpq::request::push, {rank(5), 6}) == code::ok && ranks.combine() == code::ok && ranks.poll());
-    CHECK(ranks.post(flatpq::request::push) == code::bad_request && ranks.post(flatpq::request::pop) == code::ok && ranks.combine() == code::ok);
-    const auto popped = ranks.poll();
+    CHECK(ranks.push(rank(5), 6));
+    const auto popped = ranks.pop();
     CHECK(popped->priority.number == 5 && popped->value == 6);
-    auto numbers = *flatpq::queue<int>::open();
-    CHECK(numbers.post(flatpq::request::push) == code::ok && numbers.combine() == code::ok && numbers.poll());
-    CHECK(*numbers.pop() == flatpq::item<int>(0, 0));
     auto queue = *flatpq::queue<>::open();
     const std::vector<job> jobs = {{7, 8}, {5, 6}};
     CHECK(queue.push_many(jobs).count == 2 && *queue.pop() == flatpq::item<>(5, 6) && *queue.pop() == flatpq::item<>(7, 8));

@@ -48,9 +48,9 @@ template <class By> static void calls_are_refused(By &it, code why) {
     CHECK(it.take().error() == why && it.clear().error() == why && it.pop_due_many(1u, 5).error() == why && it.archive(0).error() == why);
     item<> items[] = {{1, 2}};
     const auto batch = it.push_many(items);
-    CHECK(batch.error == why && batch.count == 0 && batch.number == 0 && it.post(flatpq::request::pop) == why && it.poll().error() == why);
+    CHECK(batch.error == why && batch.count == 0 && batch.number == 0);
     CHECK(it.push_many(std::vector<item<>>()) && it.pop_due_many(1u, 0)->empty());
-    CHECK(it.combine() == why && it.take_or_listen(bell).error() == why && !it.unlisten() && it.place() == UINT32_MAX);
+    CHECK(it.take_or_listen(bell).error() == why && !it.unlisten() && it.place() == UINT32_MAX);
 }
 
 static void what_was_moved_from_refuses() {
@@ -108,7 +108,7 @@ static void they_end_in_any_order() {
         auto first = *queue.join();
         last.emplace(*queue.join());
         listener.emplace(*queue.listen());
-        CHECK(first.push(1u, 1) && first.post(flatpq::request::pop) == code::ok);
+        CHECK(first.push(1u, 1));
     }
     CHECK(last->push(2u, 2) && listener->take_or_listen());
     last.reset();
@@ -143,21 +143,14 @@ static void loops_go_through_results() {
     CHECK(sum == 6 + 6 + 6 + 21);
 }
 
-static void requests_are_posted() {
+static void answers_have_numbers() {
     auto queue = opened_for(2);
     auto member = *queue.join();
-    CHECK(member.poll().error() == code::not_pending && member.post(flatpq::request::push, {5, 6}) == code::ok);
-    CHECK(member.poll().error() == code::pending && member.push(1u, 1).error() == code::pending && queue.combine() == code::ok);
-    auto answer = member.poll();
-    CHECK(answer && answer.number() == 1 && member.post(flatpq::request::pop) == code::ok && member.combine() == code::ok);
-    answer = member.poll();
-    CHECK(*answer == (item<>{5, 6}) && answer.number() == 2);
-    CHECK(member.post(flatpq::request::peek) == code::ok && queue.combine() == code::ok);
-    answer = member.poll();
-    CHECK(answer.error() == code::empty && answer.number() == 3 && member.post(static_cast<flatpq::request>(9)) == code::bad_request);
-    const auto none = queue.pop();
-    CHECK(none.error() == code::empty && none.number() == 4 && !none.first() && queue.peek().number() == 5);
-    CHECK(*member.push(7u, 8) == 6 && queue.peek().number() == 7);
+    CHECK(*member.push(5u, 6) == 1);
+    const auto popped = member.pop(), none = queue.pop();
+    CHECK(*popped == (item<>{5, 6}) && popped.number() == 2);
+    CHECK(none.error() == code::empty && none.number() == 3 && !none.first() && queue.peek().number() == 4);
+    CHECK(*member.push(7u, 8) == 5 && queue.peek().number() == 6);
 }
 
 static void a_joining_waits() {
@@ -200,7 +193,7 @@ int main() {
     an_assignment_across_two_queues();
     they_end_in_any_order();
     loops_go_through_results();
-    requests_are_posted();
+    answers_have_numbers();
     a_joining_waits();
     return 0;
 }

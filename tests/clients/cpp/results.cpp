@@ -38,7 +38,7 @@ static bool ends_program(void (*takes)()) {
     close(ends[0]);
     int status = 0;
     CHECK(child > 0 && waitpid(child, &status, 0) == child);
-    return WIFSIGNALED(status) && WTERMSIG(status) == SIGABRT && said == std::string("flatpq: no value: ") + flatpq::text(code::pending) + "\n";
+    return WIFSIGNALED(status) && WTERMSIG(status) == SIGABRT && said == std::string("flatpq: no value: ") + flatpq::text(code::gone) + "\n";
 }
 
 static void results_are_checked() {
@@ -48,7 +48,7 @@ static void results_are_checked() {
     CHECK(some.value() == (item<>{1, 2}) && *some == some.value() && some->value == 2 && *of(item<>{5, 6}) == (item<>{5, 6}));
     CHECK(std::as_const(none).value_or(item<>{3, 4}) == (item<>{3, 4}) && std::as_const(some).value_or(item<>{3, 4}) == (item<>{1, 2}));
     CHECK(std::move(none).value_or(item<>{3, 4}) == (item<>{3, 4}) && std::move(some).value_or(item<>{3, 4}) == (item<>{1, 2}));
-    CHECK(ends_program([] { (void)*of(code::pending); }) && ends_program([] { (void)of(code::pending)->value; }));
+    CHECK(ends_program([] { (void)*of(code::gone); }) && ends_program([] { (void)of(code::gone)->value; }));
 #if defined(__cpp_exceptions)
     try {
         none.value();
@@ -57,7 +57,7 @@ static void results_are_checked() {
         CHECK(why.code() == code::journal_full && std::strcmp(why.what(), flatpq::text(code::journal_full)) == 0);
     }
 #else
-    CHECK(ends_program([] { of(code::pending).value(); }));
+    CHECK(ends_program([] { of(code::gone).value(); }));
 #endif
 }
 
@@ -69,12 +69,12 @@ void takes_value_without_exceptions();
 static void files_of_both_kinds_are_one_program() {
     using of = flatpq::result<item<>>;
     item<> &(of::*volatile value)() & = &of::value;
-    of none(code::pending);
+    of none(code::gone);
     try {
         (none.*value)();
         CHECK(false);
     } catch (const flatpq::error &why) {
-        CHECK(why.code() == code::pending);
+        CHECK(why.code() == code::gone);
     }
     CHECK(ends_program(takes_value_without_exceptions));
 }

@@ -6,6 +6,6 @@ void takes_value_without_exceptions();
 void takes_value_without_exceptions() {
     using of = flatpq::result<flatpq::item<>>;
     flatpq::item<> &(of::*volatile value)() & = &of::value;
-    of none(flatpq::code::pending);
+    of none(flatpq::code::gone);
     (none.*value)();
 }

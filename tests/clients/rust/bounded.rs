@@ -47,16 +47,6 @@ fn the_peak_stays() {
 }
 
 #[test]
-fn counts_are_refused_while_a_post_waits() {
-    let queue = Queue::new().unwrap();
-    let mut member = queue.join().unwrap();
-    member.post_push(1, 2).unwrap();
-    assert_eq!(member.len(), Err(Error::Pending));
-    assert_eq!(member.peak_len(), Err(Error::Pending));
-    assert_eq!((queue.len(), member.poll()), (Ok(1), Ok(Some((1, 2)))));
-}
-
-#[test]
 fn a_full_queue_refuses() {
     let queue = bounded(2);
     assert_eq!(
@@ -81,14 +71,6 @@ fn a_full_queue_refuses() {
         (Error::Full, vec![(4, "four")])
     );
     assert!(Error::Full.to_string().contains("full"));
-}
-
-#[test]
-fn no_push_is_posted() {
-    let queue: Queue = bounded(1);
-    let mut member = queue.join().unwrap();
-    assert_eq!(member.post_push(1, 2), Err(Error::BadRequest));
-    assert_eq!(member.post_pop(), Ok(()));
 }
 
 #[test]

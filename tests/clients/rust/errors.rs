@@ -155,34 +155,6 @@ fn what_is_not_archived_is_not_forgotten() {
 }
 
 #[test]
-fn a_member_that_has_posted_waits_for_its_answer() {
-    let queue = Queue::new().unwrap();
-    let mut member = queue.join().unwrap();
-    assert_eq!(member.poll(), Err(Error::NotPending));
-    member.post_push(1, 2).unwrap();
-    assert_eq!(member.post_pop(), Err(Error::Pending));
-    assert_eq!(member.push(1, 2).unwrap_err().error, Error::Pending);
-    assert_eq!(member.pop(), Err(Error::Pending));
-    member.combine().unwrap();
-    assert_eq!((member.poll(), member.number()), (Ok(Some((1, 2))), 1));
-    assert_eq!(
-        (member.poll(), member.number()),
-        (Err(Error::NotPending), 1)
-    );
-    member.post_peek().unwrap();
-    assert_eq!((member.poll(), member.number()), (Err(Error::Pending), 1));
-    member.combine().unwrap();
-    assert_eq!((member.poll(), member.number()), (Ok(Some((1, 2))), 2));
-    for popped in [Some((1, 2)), None] {
-        member.post_pop().unwrap();
-        member.combine().unwrap();
-        assert_eq!(member.poll(), Ok(popped));
-    }
-    queue.shut().unwrap();
-    assert_eq!(member.post_push(1, 2), Err(Error::Shut));
-}
-
-#[test]
 fn members_hold_a_queue_open() {
     let queue = opened(Options::new().members(1)).unwrap();
     let mut member = queue.join().unwrap();

@@ -59,7 +59,7 @@ fn is_refused(queue: TaskQueue<u64, Counted>, mut own: TaskMember<u64, Counted>)
         && own.push(1, Counted).err().map(|it| it.error) == refused
         && own.pop_due(1).err() == refused
         && own.archive(0).err() == refused
-        && own.combine().err() == refused;
+        && own.len().err() == refused;
     queue.leave();
     own.unlisten();
     drop(own);

@@ -193,18 +193,15 @@ fn an_archive_wakes_those_whose_entries_it_has_counted() {
     assert_eq!(run(queue.wait_archived_async(3)), Ok(()));
 }
 
-/// A thread that carries out two pushes wakes two tasks.
+/// A batch of two pushes wakes two tasks.
 #[test]
 fn as_many_tasks_are_woken_as_are_pushed_for() {
     let queue: Queue = Queue::new().unwrap();
-    let [mut one, mut other, mut leader] = members(&queue);
     let counted = [Counted::new(), Counted::new()];
     let (mut first, mut second) = (queue.take_async(), queue.take_async());
     assert!(polled(&mut first, &counted[0]).is_pending());
     assert!(polled(&mut second, &counted[1]).is_pending());
-    one.post_push(1, 1).unwrap();
-    other.post_push(1, 2).unwrap();
-    leader.combine().unwrap();
+    queue.push_many([(1, 1), (1, 2)]).unwrap();
     assert_eq!(counted.map(|it| it.wakes()), [1, 1]);
 }
 

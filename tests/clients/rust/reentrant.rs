@@ -1,13 +1,13 @@
 //! Wakers are code of the user. They may call queues, also the one that wakes, drop members and the queue, run their tasks, and panic. No
 //! call is under way meanwhile, so that none of it panics or waits for ever.
-use flatpq::{Due, Error, Member, Options, Queue, TaskQueue};
+use flatpq::{Error, Member, Options, Queue, TaskQueue};
 use std::future::Future;
 use std::panic::panic_any;
 use std::pin::Pin;
 use std::sync::{mpsc, Arc, Mutex};
 use std::task::{Context, Poll, Wake, Waker};
-use std::thread;
-use std::time::{Duration, Instant};
+use std::thread::{self, ThreadId};
+use std::time::Duration;
 
 /// Runs this in a thread of its own, which has to end in time.
 fn in_time(run: impl FnOnce() + Send + 'static) {
@@ -161,20 +161,6 @@ fn a_waker_drops_its_member() {
     drops_a_member(|queue| queue.shut().unwrap());
     drops_a_member(|queue| queue.join().unwrap().shut().unwrap());
     drops_a_member(|queue| assert_eq!(queue.push(1, 2).unwrap(), 1));
-    // Another carries out the push of a member that was given back.
-    drops_a_member(|queue| {
-        let mut posting = queue.join().unwrap();
-        posting.post_push(1, 2).unwrap();
-        drop(posting);
-        assert_eq!(queue.pop(), Ok(Some((1, 2))));
-    });
-    // A joining does, as no other member is left.
-    drops_a_member(|queue| {
-        let (mut posting, _third) = (queue.join().unwrap(), queue.join().unwrap());
-        posting.post_push(1, 2).unwrap();
-        drop(posting);
-        drop(queue.join().unwrap());
-    });
 }
 
 #[test]
@@ -195,6 +181,42 @@ fn a_waker_drops_the_last_of_its_queue() {
     });
 }
 
+/// Each waker says in which thread it runs. A thread that waits in a call passes a wake on to it, and can't run it: a thread of the crate does.
+fn run_while_a_thread_waits(wakers: &[Waker], woken: &mpsc::Receiver<ThreadId>) {
+    let queue = Queue::new().unwrap();
+    let (mut first, mut second) = (queue.join().unwrap(), queue.join().unwrap());
+    let idle = waker(|| ());
+    thread::scope(|scope| {
+        let waiting = scope.spawn(|| queue.take_due());
+        for waker in wakers {
+            // The push wakes the thread and the first that listens; once more where the thread did not wait yet.
+            let runs_in = std::iter::repeat_with(|| {
+                queue.clear().unwrap();
+                waits(&mut first, &idle);
+                waits(&mut second, waker);
+                queue.push(u64::MAX - 1, 1).unwrap();
+                woken.recv_timeout(Duration::from_millis(100))
+            });
+            let runs_in = runs_in.flatten().next().unwrap();
+            assert!(runs_in != waiting.thread().id() && runs_in != thread::current().id());
+            assert!(!second.unlisten() && !waiting.is_finished());
+        }
+        queue.shut().unwrap();
+        assert_eq!(queue.clear(), Ok(1));
+        assert_eq!(waiting.join().unwrap(), Err(Error::Shut));
+    });
+}
+
+#[test]
+fn a_waker_runs_while_the_thread_that_wakes_waits() {
+    in_time(|| {
+        let (wakes, woken) = mpsc::channel();
+        let wakes = Mutex::new(wakes);
+        let good = waker(move || wakes.lock().unwrap().send(thread::current().id()).unwrap());
+        run_while_a_thread_waits(&[good], &woken);
+    });
+}
+
 /// Its panic's own drop panics.
 #[test]
 fn a_waker_whose_panic_panics_stops_no_other() {
@@ -205,49 +227,13 @@ fn a_waker_whose_panic_panics_stops_no_other() {
         }
     }
     in_time(|| {
-        let queue: Queue<Instant, u32> = Queue::new().unwrap();
-        let late = Instant::now() + Duration::from_secs(600);
         let (wakes, woken) = mpsc::channel();
-        let wakes = Mutex::new(wakes);
-        let bomb = waker(|| panic_any(Bomb));
-        let good = waker(move || wakes.lock().unwrap().send(thread::current().id()).unwrap());
-        let (mut listening, mut posting) = (queue.join().unwrap(), queue.join().unwrap());
-        for waker in [bomb, good] {
-            let context = &mut Context::from_waker(&waker);
-            let found = listening.take_or_listen(Instant::now(), context);
-            assert_eq!(found.unwrap().got(), None);
-            posting.post_push(late, 1).unwrap();
-            let soon = queue.until(Duration::from_millis(50));
-            assert_eq!(soon.take_due(), Ok(Due::Later(late)));
-            assert_eq!(posting.poll(), Ok(Some((late, 1))));
-        }
-        assert_ne!(woken.recv().unwrap(), thread::current().id());
-    });
-}
-
-/// A thread that waits in a call, and carries out the push of another, can't run a waker: a thread of the crate does.
-#[test]
-fn a_waker_runs_while_the_thread_that_wakes_waits() {
-    in_time(|| {
-        let queue: Queue<Instant, u32> = Queue::new().unwrap();
-        let late = Instant::now() + Duration::from_secs(600);
-        let (wakes, woken) = mpsc::channel();
-        let wakes = Mutex::new(wakes);
-        let waker = waker(move || wakes.lock().unwrap().send(thread::current().id()).unwrap());
-        let (mut listening, mut posting) = (queue.join().unwrap(), queue.join().unwrap());
-        let context = &mut Context::from_waker(&waker);
-        let found = listening.take_or_listen(Instant::now(), context);
-        assert_eq!(found, Ok(Due::Empty));
-        posting.post_push(late, 1).unwrap();
-        thread::scope(|scope| {
-            let waits = scope.spawn(|| queue.take_due());
-            let woken = woken.recv().unwrap();
-            assert!(woken != waits.thread().id() && woken != thread::current().id());
-            let found = listening.take_or_listen(Instant::now(), context);
-            assert!(found == Ok(Due::Later(late)) && !waits.is_finished());
-            queue.shut().unwrap();
-            assert_eq!(queue.clear(), Ok(1));
-            assert_eq!(waits.join().unwrap(), Err(Error::Shut));
+        let [one, other] = [wakes.clone(), wakes].map(Mutex::new);
+        let bomb = waker(move || {
+            one.lock().unwrap().send(thread::current().id()).unwrap();
+            panic_any(Bomb);
         });
+        let good = waker(move || other.lock().unwrap().send(thread::current().id()).unwrap());
+        run_while_a_thread_waits(&[bomb, good], &woken);
     });
 }

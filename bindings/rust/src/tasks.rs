@@ -8,7 +8,7 @@ use crate::futures::{Archives, Slot};
 use crate::journal::{Item, Journal, TaskJournal};
 use crate::key::{Key, TimeKey};
 use crate::options::Options;
-use crate::payload::{self, payload_of, value_of};
+use crate::payload;
 use crate::raw::{self, RawMember, RawOptions, RawQueue};
 use crate::turns::Lines;
 use std::cell::Cell;

@@ -109,11 +109,11 @@ static void listen_once(int which, const uint64_t *numbers) {
     check_call_begins(NO_CALL, PQ_FOREVER, 0);
 }
 
-/* No other member sleeps or listens meanwhile. */
-static void listen_alone(int which, const uint64_t *numbers) {
+/* Another member stays awake meanwhile, for other threads too where this one is not joined. */
+static void listen_surely(int which, const uint64_t *numbers) {
     pq_item first = { 0, 0 };
     if (begin_listening(which, numbers[0], &first) == PQ_ALL_JOINED) {
-        fail("all other members are awake, and one may not listen");
+        fail("another member stays awake, and this one may not listen");
     }
     check_call_begins(NO_CALL, PQ_FOREVER, 0);
 }
@@ -193,7 +193,7 @@ const word listener_words[] = {
     { "listen-all", listen_all },
     { "listen-due", listen_due },
     { "listen-once", listen_once },
-    { "listen-alone", listen_alone },
+    { "listen-surely", listen_surely },
     { "listen-held", listen_held },
     { "listen-room", push_until },
     { "listen-room-once", push_once },

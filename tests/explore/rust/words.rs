@@ -106,6 +106,14 @@ fn ends_push(pushed: Pushed, item: Item) -> Option<Error> {
     pushed.err().map(|it| it.error)
 }
 
+// A future goes on where another thread has the lock for long, or there is no room.
+fn ends_push_async(pushed: Pushed, item: Item) -> Option<Error> {
+    if matches!(&pushed, Err(refused) if matches!(refused.error, Error::TimedOut | Error::Full)) {
+        explorer::fail(c"a future gives up its push");
+    }
+    ends_push(pushed, item)
+}
+
 fn stays(code: u32) {
     explorer::ends(POP, code, Item::default(), 0);
 }
@@ -205,7 +213,7 @@ fn polled() -> Poll<Option<Error>> {
         Awaited::Polls => member().poll_take(cx).map(ends),
         Awaited::Take(take) | Awaited::TakeDue(take) => take.as_mut().poll(cx).map(ends),
         Awaited::Archived(wait, _) => Pin::new(wait).poll(cx).map(Result::err),
-        Awaited::Push(push, item) => push.as_mut().poll(cx).map(|it| ends_push(it, *item)),
+        Awaited::Push(push, item) => push.as_mut().poll(cx).map(|it| ends_push_async(it, *item)),
     };
     if done.is_pending() {
         stays(raw::EMPTY);

@@ -203,8 +203,8 @@ int main(int count, char **words) {
     if (count == 4) {
         return lives(words[1], std::stoull(words[2]), std::stoull(words[3]));
     }
-    char folder[] = "/tmp/flatpq-jobs-XXXXXX";
-    CHECK(mkdtemp(folder) != nullptr);
+    std::string folder = std::filesystem::temp_directory_path() / "flatpq-jobs-XXXXXX";
+    CHECK(mkdtemp(folder.data()) != nullptr);
     std::mt19937 random(std::random_device{}());
     const unsigned kills = requests(30);
     for (unsigned life = 1; life <= kills; life++) {
@@ -212,7 +212,7 @@ int main(int count, char **words) {
     }
     lived("/proc/self/exe", folder, kills + 1, 0);
     std::map<std::string, std::string> said;
-    std::ifstream log(folder + std::string("/log"));
+    std::ifstream log(folder + "/log");
     for (std::string line; std::getline(log, line);) {
         said[line.substr(1)] += line[0];
     }
@@ -220,7 +220,7 @@ int main(int count, char **words) {
         const auto done = what.find('D');
         CHECK(what.find('R') != what.npos && (done == what.npos || what.find('R', done) == what.npos));
     }
-    CHECK(said.size() >= 20 && files::is_empty(std::string(folder) + "/jobs"));
+    CHECK(said.size() >= 20 && files::is_empty(folder + "/jobs"));
     files::remove_all(folder);
     return 0;
 }

@@ -1,0 +1,8 @@
+-- What the machine sees of the Book at home.
+use Rattle.std.specs.Prelude.{ℕ, List}
+use Rattle.pq_types.specs.Asked.{Line}
+
+-- how many lines it has room for, and its journal
+pub record Home : Type 0 where
+  pub room : ℕ
+  pub journal : List Line

@@ -25,9 +25,10 @@ use Rattle.pq_types.specs.declared.control.Kind.TheVariants as kind
 use Rattle.pq_types.specs.Asked.{Line}
 use Rattle.pq_types.specs.declared.journal.TheConstants.{GREATEST_NUMBER}
 use Rattle.pq_types.specs.Queue.{IsProperRequestOf}
-use Rattle.pq_types.specs.History.{journal_after, journal_by, MayAnswer, MayDo}
+use Rattle.pq_types.specs.History.{journal_after, journal_by}
+use Rattle.desk_core.specs.Answering.{MayTellOf, MayTell}
 use Rattle.pq_types.specs.Laws.{ControlWordsDiffer}
-use Rattle.pq_book.specs.Book.{Volume}
+use Rattle.desk_core.specs.Home.{Home}
 use Rattle.desk_core.specs.Beyond.{NextIsUnknown}
 use Rattle.desk_core.specs.Dealing.{IsReached, Takes, MovesReach}
 use Rattle.desk_core.specs.Desk.{Desk, Has, time, volume, put, locked, freed, with_control, with_cell, with_pen}
@@ -90,7 +91,7 @@ pub record Laws : Type 0 where
 pub at_both : (F : ℕ → ℕ → Type 0) (i j n k : ℕ) → i ≡ j → n ≡ k → F j k → F i n
 at_both F i j n k e f h = subst (λ x. F x n) (sym e) (subst (F j) (sym f) h)
 
-pub book_there : (x : home.Option (home.Option (Option Volume))) (b : Volume) → book_in x ≡ Some b → x ≡ some (some (Some b))
+pub book_there : (x : home.Option (home.Option (Option Home))) (b : Home) → book_in x ≡ Some b → x ≡ some (some (Some b))
 book_there none b e = absurd (cc e)
 book_there (some none) b e = absurd (cc e)
 book_there (some (some x)) b e = ap (λ y. some (some y)) e
@@ -105,7 +106,7 @@ module _ (laws : Laws) (wide : Bool) (roomy : ℕ → Type 0) (room places slots
   p = pen_at m
 
   abbrev St : Type 0
-  St = State (Option Volume) View
+  St = State (Option Home) View
 
   module _ (s : St) (k : Keeps wide roomy room places s) (at : get_elem? s.views id ≡ some m.0) where
     abbrev d : Desk
@@ -138,7 +139,7 @@ module _ (laws : Laws) (wide : Bool) (roomy : ℕ → Type 0) (room places slots
     unchanged i q acts reached meets = record { held = k.held; control = k.control; cells = k.cells; words = laws.loaded wide places s.words k.held k.control k.cells i k.words; slots = k.slots; reached = reached; meets = meets; duties = stays q acts; weight = weighs q acts; memory = k.memory }
 
     -- the Book in the slots is this one
-    home_is : (P : Desk → Type 0) (held : Bool) (homes : List (home.Option (Option Volume))) (views : List View) (book : Option Volume) → book_at_home homes ≡ book
+    home_is : (P : Desk → Type 0) (held : Bool) (homes : List (home.Option (Option Home))) (views : List View) (book : Option Home) → book_at_home homes ≡ book
         → P (record { room = room; places = places; held = held; control = k.control; item = k.cells; home = book; views = views })
         → P (desk_of room places held k.control k.cells homes views)
     home_is P held homes views book e h =
@@ -258,7 +259,7 @@ module _ (laws : Laws) (wide : Bool) (roomy : ℕ → Type 0) (room places slots
     room_is : p.room ≡ room
     room_is = (laws.seated (d s k at) id p k.meets (has s k at)).room
 
-    abbrev book : Volume
+    abbrev book : Home
     book = volume p.room lead.0
 
     there : get_elem? s.homes 0 ≡ some (some (Some book))
@@ -270,7 +271,7 @@ module _ (laws : Laws) (wide : Bool) (roomy : ℕ → Type 0) (room places slots
     led_not : p.leading ≡ false
     led_not = not_true p.leading (λ l. true≢false (sym (k.meets.2.led id p (has s k at) l).1 ∙ free))
 
-    won : (v : View) × (a : Act (Option Volume)) × Valid s.homes m.1 a × (k' : Keeps wide roomy room places (stepped s lock_at 1 id m.1 v a))
+    won : (v : View) × (a : Act (Option Home)) × Valid s.homes m.1 a × (k' : Keeps wide roomy room places (stepped s lock_at 1 id m.1 v a))
         × (((e : Event) × (actor e ≡ id) × Step (desk_in k) e (desk_in k')) ⊎ (desk_in k' ≡ desk_in k))
         × LockTried (step slots lock_at 0 1 none) m (slice_index s.words lock_at) (v, carried_after m.1 a)
     won = (
@@ -310,7 +311,7 @@ module _ (laws : Laws) (wide : Bool) (roomy : ℕ → Type 0) (room places slots
   pub try_allowed : AsMove wide roomy room places slots id m lock_at (λ n. either (n == 0) 1 n) (LockTried (step slots lock_at 0 1 none) m)
   try_allowed s k long at small =
       let n = slice_index s.words lock_at in
-      exchanged n 0 1 (λ w. (v : View) × (a : Act (Option Volume)) × Valid s.homes m.1 a × (k' : Keeps wide roomy room places (stepped s lock_at w id m.1 v a)) × (((e : Event) × (actor e ≡ id) × Step (desk_in k) e (desk_in k')) ⊎ (desk_in k' ≡ desk_in k)) × LockTried (step slots lock_at 0 1 none) m n (v, carried_after m.1 a))
+      exchanged n 0 1 (λ w. (v : View) × (a : Act (Option Home)) × Valid s.homes m.1 a × (k' : Keeps wide roomy room places (stepped s lock_at w id m.1 v a)) × (((e : Event) × (actor e ≡ id) × Step (desk_in k) e (desk_in k')) ⊎ (desk_in k' ≡ desk_in k)) × LockTried (step slots lock_at 0 1 none) m n (v, carried_after m.1 a))
       (λ e. won s k at e)
       (λ ne. (
         Holder (after_miss p),
@@ -397,12 +398,12 @@ module _ (laws : Laws) (wide : Bool) (roomy : ℕ → Type 0) (room places slots
       ))
 
   pub answer_allowed : (index word : ℕ) (due : Due) (request : Request) (answer : Answer) → index ≡ control_at due.place → word ≡ control_word (answered answer) → due.place < places → p.due ≡ Some due
-      → kind_of request ≡ due.kind → IsKept (request_item request) due.item → IsKept (answer_item answer) due.item → MayAnswer p.room p.hand request answer
+      → kind_of request ≡ due.kind → IsKept (request_item request) due.item → IsKept (answer_item answer) due.item → MayTellOf p.room p.hand request answer
       → (roomy p.room → answer ≢ NoMemory) → AsMove wide roomy room places slots id m index (λ _. word) (λ _. AnswerStored (step slots index word 0 none) m word)
   answer_allowed index word due request answer ei ew lt is_due kind known laid may unrefused =
       at_both (λ i n. AsMove wide roomy room places slots id m i (λ _. n) (λ _. AnswerStored (step slots i n 0 none) m n)) index (control_at due.place) word (control_word (answered answer)) ei ew
       (λ s k long at small.
-      let may' : MayAnswer room p.hand request answer = subst (λ r. MayAnswer r p.hand request answer) (laws.seated (d s k at) id p k.meets (has s k at)).room may in
+      let may' : MayTellOf room p.hand request answer = subst (λ r. MayTellOf r p.hand request answer) (laws.seated (d s k at) id p k.meets (has s k at)).room may in
       let proper = ((laws.due (d s k at) id p k.meets (has s k at) due is_due).answers request answer may').1 in (
         Holder (after_answer p due request answer),
         keeps,
@@ -429,14 +430,14 @@ module _ (laws : Laws) (wide : Bool) (roomy : ℕ → Type 0) (room places slots
             ∙ (ap (λ x. (Holder (after_answer p other x answer), m.1)) q_is ∙ ap (λ x. (Holder (after_answer p other q x), m.1)) a_is),
       ))
 
-  pub apply_allowed : (others : List (ℕ × Option Volume)) (request : Request) (answer : Answer) → BringsHome m request answer others
-      → p.leading ≡ true → IsIdle p.standing → p.posts < GREATEST_NUMBER → IsProperRequestOf true request → MayAnswer p.room p.hand request answer
+  pub apply_allowed : (others : List (ℕ × Option Home)) (request : Request) (answer : Answer) → BringsHome m request answer others
+      → p.leading ≡ true → IsIdle p.standing → p.posts < GREATEST_NUMBER → IsProperRequestOf true request → MayTellOf p.room p.hand request answer
       → AsMove wide roomy room places slots id m lock_at (λ n. n) (Applied (step slots lock_at 0 0 none) m)
   apply_allowed others request answer held leads idle few proper may s k long at small =
       let now = time (d s k at) in
       let w = after_apply p request answer now in
       let room_is = (laws.seated (d s k at) id p k.meets (has s k at)).room in
-      let may' : MayAnswer room p.hand request answer = subst (λ r. MayAnswer r p.hand request answer) room_is may in (
+      let may' : MayTellOf room p.hand request answer = subst (λ r. MayTellOf r p.hand request answer) room_is may in (
         Holder w,
         keeps,
         tt,
@@ -449,7 +450,7 @@ module _ (laws : Laws) (wide : Bool) (roomy : ℕ → Type 0) (room places slots
         ),
       )
 
-  pub release_looks : (others : List (ℕ × Option Volume)) → m.1 ≡ (0, Some (volume p.room p.hand)) ∷ others → p.leading ≡ true
+  pub release_looks : (others : List (ℕ × Option Home)) → m.1 ≡ (0, Some (volume p.room p.hand)) ∷ others → p.leading ≡ true
       → AsLook wide roomy room places slots id m lock_at (λ _. 0) (λ _. Released (step slots lock_at 0 0 none) m 0)
   release_looks others held leads s k long at small =
       let book = volume p.room p.hand in
@@ -479,21 +480,21 @@ module _ (laws : Laws) (wide : Bool) (roomy : ℕ → Type 0) (room places slots
         refl,
       )
 
-  pub release_allowed : (others : List (ℕ × Option Volume)) → m.1 ≡ (0, Some (volume p.room p.hand)) ∷ others → p.leading ≡ true
+  pub release_allowed : (others : List (ℕ × Option Home)) → m.1 ≡ (0, Some (volume p.room p.hand)) ∷ others → p.leading ≡ true
       → AsMove wide roomy room places slots id m lock_at (λ _. 0) (λ _. Released (step slots lock_at 0 0 none) m 0)
   release_allowed others held leads s k long at small =
       let t = release_looks others held leads s k long at small in
       (t.0, t.1, t.2, t.3, inl (Releases id, refl, t.4.0), t.5)
 
-  pub release_with_allowed : (others : List (ℕ × Option Volume)) (operation : Operation) (answer : Answer) → BringsHomeBy m operation answer others
-      → p.leading ≡ true → p.due ≡ None → IsIdle p.standing → p.posts < GREATEST_NUMBER → IsProperOperationOf true operation → MayDo p.room p.hand operation answer
+  pub release_with_allowed : (others : List (ℕ × Option Home)) (operation : Operation) (answer : Answer) → BringsHomeBy m operation answer others
+      → p.leading ≡ true → p.due ≡ None → IsIdle p.standing → p.posts < GREATEST_NUMBER → IsProperOperationOf true operation → MayTell p.room p.hand operation answer
       → AsMove wide roomy room places slots id m lock_at (λ _. 0) (λ _. ReleasedWith (step slots lock_at 0 0 none) m 0)
   release_with_allowed others operation answer held leads none_due idle few proper may s k long at small =
       let js = journal_by p.hand p.place (p.posts + 1) operation answer in
       let book = volume p.room js in
       let w = after_release_by p operation answer (time (d s k at)) in
       let room_is = (laws.seated (d s k at) id p k.meets (has s k at)).room in
-      let may' : MayDo room p.hand operation answer = subst (λ r. MayDo r p.hand operation answer) room_is may in
+      let may' : MayTell room p.hand operation answer = subst (λ r. MayTell r p.hand operation answer) room_is may in
       let homes_are : put_back s.homes m.1 ≡ set s.homes 0 (some (Some book)) = ap (put_back s.homes) held in
       let back : book_at_home (put_back s.homes m.1) ≡ Some (volume room js) =
       ap book_at_home homes_are ∙ (ap book_in (set_here s.homes 0 (some (Some book)) (let e = k.slots in omega arith)) ∙ ap (λ r. Some (volume r js)) room_is) in (

@@ -8,8 +8,9 @@ use Rattle.pq_types.specs.Entry.{IsProperOperationOf}
 use Rattle.pq_types.specs.Asked.{Answer}
 use Rattle.pq_types.specs.declared.journal.TheConstants.{GREATEST_NUMBER}
 use Rattle.pq_types.specs.Queue.{IsProperRequestOf}
-use Rattle.pq_types.specs.History.{journal_after, journal_by, MayAnswer, MayDo}
-use Rattle.pq_book.specs.Book.{Volume}
+use Rattle.pq_types.specs.History.{journal_after, journal_by}
+use Rattle.desk_core.specs.Answering.{MayTellOf, MayTell}
+use Rattle.desk_core.specs.Home.{Home}
 use Rattle.desk_core.specs.Desk.{volume}
 use Rattle.desk_core.specs.Knows.{Knows}
 use Rattle.desk_core.specs.Layout.{lock_at}
@@ -19,7 +20,7 @@ use Rattle.announce_board.specs.Rule.{Keeps, Seated}
 use Rattle.announce_board.specs.Steps.{pen_at, Applied, Released, ReleasedWith}
 use Rattle.announce_board.specs.Allowed.{ApplyAllowed, ReleaseAllowed, ReleaseWithAllowed}
 
-pub release_owes : (wide : Bool) (roomy : ℕ → Type 0) → ReleaseAllowed wide roomy → (room places slots id : ℕ) (m n : Seated) (b : Volume) → m.0 ≡ Holder (pen_at m) → (pen_at m).leading ≡ true → b ≡ volume (pen_at m).room (pen_at m).hand
+pub release_owes : (wide : Bool) (roomy : ℕ → Type 0) → ReleaseAllowed wide roomy → (room places slots id : ℕ) (m n : Seated) (b : Home) → m.0 ≡ Holder (pen_at m) → (pen_at m).leading ≡ true → b ≡ volume (pen_at m).room (pen_at m).hand
     → ◌≡◌ {A = Seated} n (m.0, (0, Some b) ∷ rest m.1) → Allows (Keeps wide roomy room places) slots id n lock_at (λ _. 0) (λ _. Released (step slots lock_at 0 0 none) n 0)
 release_owes wide roomy allowed room places slots id m n b is leads book e =
     let F : Seated → Type 0 = λ x. Allows (Keeps wide roomy room places) slots id x lock_at (λ _. 0) (λ _. Released (step slots lock_at 0 0 none) x 0) in
@@ -27,19 +28,19 @@ release_owes wide roomy allowed room places slots id m n b is leads book e =
     subst F (sym e) (allowed room places slots id now is (rest m.1) (ap (λ y. (0, Some y) ∷ rest m.1) book) leads)
 
 -- the Book after it has carried out an operation of the pen's own
-pub carried_out : (m : Seated) (place serial : ℕ) (b b' : Volume) (q : Operation) (x : Answer) → b ≡ volume (pen_at m).room (pen_at m).hand → place ≡ (pen_at m).place
+pub carried_out : (m : Seated) (place serial : ℕ) (b b' : Home) (q : Operation) (x : Answer) → b ≡ volume (pen_at m).room (pen_at m).hand → place ≡ (pen_at m).place
     → serial ≡ (pen_at m).posts + 1 → b'.room ≡ b.room → b'.journal ≡ journal_by b.journal place serial q x
     → b' ≡ volume (pen_at m).room (journal_by (pen_at m).hand (pen_at m).place ((pen_at m).posts + 1) q x)
 carried_out m place serial b b' q x book here next room journal =
     let p = pen_at m in
-    let r : b'.room ≡ p.room = room ∙ ap (λ (v : Volume). v.room) book in
+    let r : b'.room ≡ p.room = room ∙ ap (λ (v : Home). v.room) book in
     let j : b'.journal ≡ journal_by p.hand p.place (p.posts + 1) q x =
-    journal ∙ (ap (λ (v : Volume). journal_by v.journal place serial q x) book ∙ (ap (λ k. journal_by p.hand k serial q x) here ∙ ap (λ s. journal_by p.hand p.place s q x) next)) in
+    journal ∙ (ap (λ (v : Home). journal_by v.journal place serial q x) book ∙ (ap (λ k. journal_by p.hand k serial q x) here ∙ ap (λ s. journal_by p.hand p.place s q x) next)) in
     ap (λ n. volume n b'.journal) r ∙ ap (volume p.room) j
 
-pub release_with_owes : (wide : Bool) (roomy : ℕ → Type 0) → ReleaseWithAllowed wide roomy → (room places slots id : ℕ) (m n : Seated) (b : Volume) (q : Operation) (x : Answer) → m.0 ≡ Holder (pen_at m)
+pub release_with_owes : (wide : Bool) (roomy : ℕ → Type 0) → ReleaseWithAllowed wide roomy → (room places slots id : ℕ) (m n : Seated) (b : Home) (q : Operation) (x : Answer) → m.0 ≡ Holder (pen_at m)
     → (pen_at m).leading ≡ true → (pen_at m).due ≡ None → IsIdle (pen_at m).standing → (pen_at m).posts < GREATEST_NUMBER → IsProperOperationOf true q
-    → MayDo (pen_at m).room (pen_at m).hand q x
+    → MayTell (pen_at m).room (pen_at m).hand q x
     → b ≡ volume (pen_at m).room (journal_by (pen_at m).hand (pen_at m).place ((pen_at m).posts + 1) q x)
     → ◌≡◌ {A = Seated} n (m.0, (0, Some b) ∷ rest m.1) → Allows (Keeps wide roomy room places) slots id n lock_at (λ _. 0) (λ _. ReleasedWith (step slots lock_at 0 0 none) n 0)
 release_with_owes wide roomy allowed room places slots id m n b q x is leads due idle few proper may book e =
@@ -48,8 +49,8 @@ release_with_owes wide roomy allowed room places slots id m n b q x is leads due
     subst F (sym e) (allowed room places slots id now is (rest m.1) q x (ap (λ y. (0, Some y) ∷ rest m.1) book) leads due idle few proper may)
 
 -- and what it is afterwards
-pub released_with : (m n after : Seated) (b : Volume) (q : Operation) (x : Answer) → m.1 ≡ (0, None) ∷ []
-    → MayDo (pen_at m).room (pen_at m).hand q x
+pub released_with : (m n after : Seated) (b : Home) (q : Operation) (x : Answer) → m.1 ≡ (0, None) ∷ []
+    → MayTell (pen_at m).room (pen_at m).hand q x
     → b ≡ volume (pen_at m).room (journal_by (pen_at m).hand (pen_at m).place ((pen_at m).posts + 1) q x)
     → ◌≡◌ {A = Seated} n (m.0, (0, Some b) ∷ rest m.1) → ReleasedWith (step 0 lock_at 0 0 none) n 0 after
     → ((now : ℕ) × ◌≡◌ {A = Seated} after (Holder (after_release_by (pen_at m) q x now), [])) × Knows (pen_at m).room (pen_at m) (pen_at m).hand
@@ -60,9 +61,9 @@ released_with m n after b q x slot may book e told =
     ((s.0.0, s.0.1 ∙ ap (λ l. (Holder (after_release_by (pen_at m) q x s.0.0), rest l)) slot), s.1)
 
 -- the same of the step by which it applies a request of its own, with the Book in the slot
-pub apply_owes : (wide : Bool) (roomy : ℕ → Type 0) → ApplyAllowed wide roomy → (room places slots id : ℕ) (m n : Seated) (b : Volume) (q : Request) (x : Answer) → m.0 ≡ Holder (pen_at m)
+pub apply_owes : (wide : Bool) (roomy : ℕ → Type 0) → ApplyAllowed wide roomy → (room places slots id : ℕ) (m n : Seated) (b : Home) (q : Request) (x : Answer) → m.0 ≡ Holder (pen_at m)
     → (pen_at m).leading ≡ true → IsIdle (pen_at m).standing → (pen_at m).posts < GREATEST_NUMBER → IsProperRequestOf true q
-    → MayAnswer (pen_at m).room (pen_at m).hand q x
+    → MayTellOf (pen_at m).room (pen_at m).hand q x
     → b ≡ volume (pen_at m).room (journal_after (pen_at m).hand (pen_at m).place ((pen_at m).posts + 1) q x)
     → ◌≡◌ {A = Seated} n (m.0, (0, Some b) ∷ rest m.1) → Allows (Keeps wide roomy room places) slots id n lock_at (λ k. k) (Applied (step slots lock_at 0 0 none) n)
 apply_owes wide roomy allowed room places slots id m n b q x is leads idle few proper may book e =
@@ -71,8 +72,8 @@ apply_owes wide roomy allowed room places slots id m n b q x is leads idle few p
     subst F (sym e) (allowed room places slots id now is (rest m.1) q x (ap (λ y. (0, Some y) ∷ rest m.1) book) leads idle few proper may)
 
 -- and what it is afterwards: it holds the slot with the Book
-pub applied : (m n after : Seated) (word : ℕ) (b : Volume) (q : Request) (x : Answer) → m.1 ≡ (0, None) ∷ []
-    → MayAnswer (pen_at m).room (pen_at m).hand q x
+pub applied : (m n after : Seated) (word : ℕ) (b : Home) (q : Request) (x : Answer) → m.1 ≡ (0, None) ∷ []
+    → MayTellOf (pen_at m).room (pen_at m).hand q x
     → b ≡ volume (pen_at m).room (journal_after (pen_at m).hand (pen_at m).place ((pen_at m).posts + 1) q x)
     → ◌≡◌ {A = Seated} n (m.0, (0, Some b) ∷ rest m.1) → Applied (step 0 lock_at 0 0 none) n word after
     → ((now : ℕ) × ◌≡◌ {A = Seated} after (Holder (after_apply (pen_at m) q x now), (0, Some b) ∷ [])) × Knows (pen_at m).room (pen_at m) (pen_at m).hand
@@ -82,10 +83,10 @@ applied m n after word b q x slot may book e told =
     let s = t q x may (ap (λ y. (0, Some y) ∷ rest m.1) book) in
     ((s.0.0, s.0.1 ∙ ap (λ l. (Holder (after_apply (pen_at m) q x s.0.0), (0, Some b) ∷ rest l)) slot), s.1)
 
-abbrev first_slot : List (ℕ × Option Volume) → Option Volume
+abbrev first_slot : List (ℕ × Option Home) → Option Home
 first_slot [] = None
 first_slot (x ∷ xs) = x.1
 
 -- the one Book in a slot
-pub same_held : (b b' : Volume) (l : List (ℕ × Option Volume)) → l ≡ (0, Some b) ∷ [] → l ≡ (0, Some b') ∷ [] → b ≡ b'
+pub same_held : (b b' : Home) (l : List (ℕ × Option Home)) → l ≡ (0, Some b) ∷ [] → l ≡ (0, Some b') ∷ [] → b ≡ b'
 same_held b b' l e f = let g : Some b ≡ Some b' = sym (ap first_slot e) ∙ ap first_slot f in cc

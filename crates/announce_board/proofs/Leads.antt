@@ -5,7 +5,7 @@ use Rattle.pq_types.specs.Item.{Item}
 use Rattle.pq_types.specs.Asked.{Request}
 use Rattle.pq_types.specs.declared.request.Request.TheVariants.{Push, Pop, Least}
 use Rattle.pq_types.specs.Asked.{Answer}
-use Rattle.pq_types.specs.declared.answer.Answer.TheVariants.{Entered, BookFull, NoMemory}
+use Rattle.pq_types.specs.declared.answer.Answer.TheVariants.{Entered, BookFull, NoMemory, Refused}
 use Rattle.pq_types.specs.declared.control.Notice.{Notice}
 use Rattle.pq_types.specs.declared.control.Control.{Control}
 use Rattle.pq_types.specs.declared.control.Control.TheVariants.{Nothing, Posted, Answered}
@@ -30,6 +30,7 @@ none_above_gained place n [] q (Entered number reply) h = (λ e. omega arith, tt
 none_above_gained place n (l ∷ ls) q (Entered number reply) h = (λ e. let below : l.serial < n + 1 = h.0 e in omega (arith, below), none_above_gained place n ls q (Entered number reply) h.1)
 none_above_gained place n lines q BookFull h = none_above place n lines h
 none_above_gained place n lines q NoMemory h = none_above place n lines h
+none_above_gained place n lines q (Refused why) h = none_above place n lines h
 
 pub draft_keeps : DraftKeepsLead
 draft_keeps words pen lead x h = record { table = h.table; place = h.place; leads = h.leads; book = h.book; used = h.used }

@@ -16,9 +16,9 @@ use Rattle.pq_types.specs.declared.control.Control.TheVariants.{Answered}
 use Rattle.pq_types.specs.declared.journal.TheConstants.{GREATEST_NUMBER}
 use Rattle.pq_types.specs.Queue.{IsProperRequestOf}
 use Rattle.pq_types.specs.Control.{kind_of, request_item, answer_item, notice_has_item, posted, answered}
-use Rattle.pq_types.specs.History.{MayAnswer, MayDo}
+use Rattle.desk_core.specs.Answering.{MayTellOf, MayTell}
 use Rattle.pq_types.specs.Mail.{control_word}
-use Rattle.pq_book.specs.Book.{Volume}
+use Rattle.desk_core.specs.Home.{Home}
 use Rattle.desk_core.specs.Desk.{Desk, volume}
 use Rattle.desk_core.specs.Looking.{Looked, sights_of}
 use Rattle.desk_core.specs.Steps.{Event, Releases, actor, Step}
@@ -44,7 +44,7 @@ abbrev pub Plainly : Form
 Plainly wide roomy room places slots id m i f then = Allows (Keeps wide roomy room places) slots id m i f then
 
 -- the desk as which a table stands that keeps the rule
-abbrev pub desk_in : {wide : Bool} {roomy : ℕ → Type 0} {room places : ℕ} {s : State (Option Volume) View}
+abbrev pub desk_in : {wide : Bool} {roomy : ℕ → Type 0} {room places : ℕ} {s : State (Option Home) View}
     → Keeps wide roomy room places s → Desk
 desk_in {wide} {roomy} {room} {places} {s} k = desk_of room places k.held k.control k.cells s.homes s.views
 
@@ -52,9 +52,9 @@ desk_in {wide} {roomy} {room} {places} {s} k = desk_of room places k.held k.cont
 -- stood to the one as which it stands then; or it changes nothing of that desk.
 abbrev pub AsMove : Form
 AsMove wide roomy room places slots id m i f then =
-    (s : State (Option Volume) View) (k : Keeps wide roomy room places s) → length s.homes ≡ slots
+    (s : State (Option Home) View) (k : Keeps wide roomy room places s) → length s.homes ≡ slots
     → get_elem? s.views id ≡ some m.0 → slice_index s.words i < 18446744073709551616
-    → (w : View) × (a : Act (Option Volume)) × Valid s.homes m.1 a
+    → (w : View) × (a : Act (Option Home)) × Valid s.homes m.1 a
     × (k' : Keeps wide roomy room places (stepped s i (f (slice_index s.words i)) id m.1 w a))
     × (((e : Event) × (actor e ≡ id) × Step (desk_in k) e (desk_in k')) ⊎ (desk_in k' ≡ desk_in k))
     × then (slice_index s.words i) (w, carried_after m.1 a)
@@ -63,9 +63,9 @@ AsMove wide roomy room places slots id m i f then =
 -- that the pen of this place finds the journal in its hand.
 abbrev pub AsLook : Form
 AsLook wide roomy room places slots id m i f then =
-    (s : State (Option Volume) View) (k : Keeps wide roomy room places s) → length s.homes ≡ slots
+    (s : State (Option Home) View) (k : Keeps wide roomy room places s) → length s.homes ≡ slots
     → get_elem? s.views id ≡ some m.0 → slice_index s.words i < 18446744073709551616
-    → (w : View) × (a : Act (Option Volume)) × Valid s.homes m.1 a
+    → (w : View) × (a : Act (Option Home)) × Valid s.homes m.1 a
     × (k' : Keeps wide roomy room places (stepped s i (f (slice_index s.words i)) id m.1 w a))
     × ((step : Step (desk_in k) (Releases id) (desk_in k'))
     × (sights_of (desk_in k) (Releases id) (desk_in k') step ≡ Looked (pen_at m).place (pen_at m).hand ∷ []))
@@ -122,7 +122,7 @@ AnswerAllowedBy A wide roomy = AtEachPen (λ room places slots id m.
     (index word : ℕ) (due : Due) (request : Request) (answer : Answer)
     → index ≡ control_at due.place → word ≡ control_word (answered answer) → due.place < places → (pen_at m).due ≡ Some due
     → kind_of request ≡ due.kind → IsKept (request_item request) due.item → IsKept (answer_item answer) due.item
-    → MayAnswer (pen_at m).room (pen_at m).hand request answer → (roomy (pen_at m).room → answer ≢ NoMemory)
+    → MayTellOf (pen_at m).room (pen_at m).hand request answer → (roomy (pen_at m).room → answer ≢ NoMemory)
     → A wide roomy room places slots id m index (λ _. word)
     (λ _. AnswerStored (step slots index word 0 none) m word))
 
@@ -132,7 +132,7 @@ ApplyAllowedBy A wide roomy = AtEachPen (λ room places slots id m.
     (others : List (ℕ × Option _)) (request : Request) (answer : Answer)
     → BringsHome m request answer others → (pen_at m).leading ≡ true → IsIdle (pen_at m).standing
     → (pen_at m).posts < GREATEST_NUMBER
-    → IsProperRequestOf true request → MayAnswer (pen_at m).room (pen_at m).hand request answer
+    → IsProperRequestOf true request → MayTellOf (pen_at m).room (pen_at m).hand request answer
     → A wide roomy room places slots id m lock_at (λ n. n) (Applied (step slots lock_at 0 0 none) m))
 
 -- the slot that is given back has the Book with the journal in the pen's hand
@@ -147,7 +147,7 @@ ReleaseWithAllowedBy A wide roomy = AtEachPen (λ room places slots id m.
     (others : List (ℕ × Option _)) (operation : Operation) (answer : Answer)
     → BringsHomeBy m operation answer others → (pen_at m).leading ≡ true → (pen_at m).due ≡ None → IsIdle (pen_at m).standing
     → (pen_at m).posts < GREATEST_NUMBER
-    → IsProperOperationOf true operation → MayDo (pen_at m).room (pen_at m).hand operation answer
+    → IsProperOperationOf true operation → MayTell (pen_at m).room (pen_at m).hand operation answer
     → A wide roomy room places slots id m lock_at (λ _. 0) (λ _. ReleasedWith (step slots lock_at 0 0 none) m 0))
 
 abbrev pub LookAllowedBy : Form → Bool → (ℕ → Type 0) → Type 0

@@ -1,7 +1,7 @@
 -- What a contract sees of a desk, a pen and a lead; and what their fields keep.
 use Rattle.std.specs.Prelude.{◌≡◌, ℕ, ◌+◌, ◌<◌, Bool, true, false, List, [], ◌∷◌}
 use Rattle.atomic_table.specs.Seated.{TableId}
-use Rattle.pq_book.specs.Book.{Volume}
+use Rattle.desk_core.specs.Home.{Home}
 use Rattle.desk_core.specs.Desk.{volume}
 use Rattle.desk_core.specs.Knows.{NoneAbove}
 use Rattle.desk_core.specs.Pen.{new_pen}
@@ -29,7 +29,7 @@ pub record AtDesk : Type 0 where
 pub record Leading : Type 0 where
   pub table : TableId
   pub place : ℕ
-  pub book : Volume
+  pub book : Home
 
 -- the lead is that of this pen, which leads, and its Book has the journal that the pen has in its
 -- hand; no line of its place there has a serial above its last

@@ -3,8 +3,10 @@ ghost use Rattle.std.specs.Prelude.{◌≡◌, ◌≢◌, ℕ, ◌+◌, ◌<◌,
 ghost use Rattle.pq_types.specs.Asked.{Reply};
 ghost use Rattle.pq_types.specs.declared.answer.Answer.TheVariants.{Entered};
 ghost use Rattle.pq_types.specs.declared.journal.TheConstants.{GREATEST_NUMBER};
-ghost use Rattle.pq_types.specs.History.{left, MayAnswer, journal_after};
-ghost use Rattle.pq_book.specs.Book.{AllHaveRoom, Volume};
+ghost use Rattle.pq_types.specs.History.{left, journal_after};
+ghost use Rattle.desk_core.specs.Answering.{MayTellOf};
+ghost use Rattle.pq_book.specs.Book.{AllHaveRoom};
+ghost use Rattle.desk_core.specs.Home.{Home};
 ghost use Rattle.desk_core.specs.declared.model.View.TheVariants.{Holder};
 ghost use Rattle.desk_core.specs.Desk.{volume};
 ghost use Rattle.desk_core.specs.Knows.{NoneAbove};
@@ -32,7 +34,7 @@ fn take_back<S: Store<Entry<P>>, P: Part>(
     seat: &mut BoardSeat<S, P>,
 ) -> BoxedBook<S, P>
     requires here { seat.old.table_id ≡ board.now.table_id }
-    requires slot { (book : Volume) × (seat.old.me.1 ≡ (0, Some book) ∷ []) }
+    requires slot { (book : Home) × (seat.old.me.1 ≡ (0, Some book) ∷ []) }
     ensures table { seat.new.table_id ≡ seat.old.table_id }
     ensures book { seat.old.me.1 ≡ (0, Some result) ∷ [] }
     ensures after { seat.new.me ≡ (seat.old.me.0, (0, None) ∷ []) }
@@ -65,7 +67,7 @@ fn apply_own<S: Store<Entry<P>>, P: Part>(
     requires used { NoneAbove (pen_at seat.old.me).place (pen_at seat.old.me).posts (pen_at seat.old.me).hand }
     requires book { book ≡ volume (pen_at seat.old.me).room (pen_at seat.old.me).hand }
     ensures table { seat.new.table_id ≡ seat.old.table_id }
-    ensures may { MayAnswer (pen_at seat.old.me).room (pen_at seat.old.me).hand request result.1 }
+    ensures may { MayTellOf (pen_at seat.old.me).room (pen_at seat.old.me).hand request result.1 }
     ensures answers { IsAnswerTo (pen_at seat.old.me).room request result.1 }
     ensures behind { (number : ℕ) (reply : Reply) → result.1 ≡ Entered number reply → IsAboveAll number (pen_at seat.old.me).mine }
     ensures full { result.1 ≡ Answer.BookFull → IsFullFor (pen_at seat.new.me) }
@@ -112,7 +114,7 @@ impl<S: Store<Entry<P>>, P: Part> Desk<S, P> {
         requires idle { is_idle pen.old.state.standing ≡ true }
         requires few { pen.old.state.posts < GREATEST_NUMBER }
         ensures lead { IsLeadOf pen.new result.0 }
-        ensures may { MayAnswer pen.old.state.room pen.old.state.hand request result.1 }
+        ensures may { MayTellOf pen.old.state.room pen.old.state.hand request result.1 }
         ensures answers { IsAnswerTo pen.old.state.room request result.1 }
         ensures behind { (number : ℕ) (reply : Reply) → result.1 ≡ Entered number reply → IsAboveAll number pen.old.state.mine }
         ensures full { result.1 ≡ Answer.BookFull → IsFullFor pen.new.state }

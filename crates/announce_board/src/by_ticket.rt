@@ -4,7 +4,8 @@ ghost use Rattle.std.specs.Prelude.{◌≡◌, ◌≢◌, ℕ, ◌+◌, ◌<◌,
 ghost use Rattle.pq_types.specs.Asked.{Reply};
 ghost use Rattle.pq_types.specs.declared.answer.Answer.TheVariants.{Entered};
 ghost use Rattle.pq_types.specs.declared.journal.TheConstants.{GREATEST_NUMBER};
-ghost use Rattle.pq_types.specs.History.{left, MayDo};
+ghost use Rattle.pq_types.specs.History.{left};
+ghost use Rattle.desk_core.specs.Answering.{MayTell};
 ghost use Rattle.pq_book.specs.Book.{AllHaveRoom};
 ghost use Rattle.pq_types.specs.Operation.{ByTicket};
 ghost use Rattle.desk_core.specs.declared.model.View.TheVariants.{Holder};
@@ -50,7 +51,7 @@ fn put_home_by_ticket<S: TicketStore<Entry<P>>, P: Part>(
     requires used { NoneAbove (pen_at seat.old.me).place (pen_at seat.old.me).posts (pen_at seat.old.me).hand }
     requires book { book ≡ volume (pen_at seat.old.me).room (pen_at seat.old.me).hand }
     ensures table { seat.new.table_id ≡ seat.old.table_id }
-    ensures may { MayDo (pen_at seat.old.me).room (pen_at seat.old.me).hand (ByTicket ticketed) result }
+    ensures may { MayTell (pen_at seat.old.me).room (pen_at seat.old.me).hand (ByTicket ticketed) result }
     ensures answers { IsAnswerBy (pen_at seat.old.me).room (ByTicket ticketed) result }
     ensures behind { (number : ℕ) (reply : Reply) → result ≡ Entered number reply → IsAboveAll number (pen_at seat.old.me).mine }
     ensures full { result ≡ Answer.BookFull → IsFullFor (pen_at seat.new.me) }
@@ -86,7 +87,7 @@ impl<S: TicketStore<Entry<P>>, P: Part> Desk<S, P> {
         requires due { pen.old.state.due ≡ None }
         requires idle { is_idle pen.old.state.standing ≡ true }
         requires few { pen.old.state.posts < GREATEST_NUMBER }
-        ensures may { MayDo pen.old.state.room pen.old.state.hand (ByTicket ticketed) result }
+        ensures may { MayTell pen.old.state.room pen.old.state.hand (ByTicket ticketed) result }
         ensures answers { IsAnswerBy pen.old.state.room (ByTicket ticketed) result }
         ensures behind { (number : ℕ) (reply : Reply) → result ≡ Entered number reply → IsAboveAll number pen.old.state.mine }
         ensures full { result ≡ Answer.BookFull → IsFullFor pen.new.state }

@@ -4,7 +4,8 @@ ghost use Rattle.std.specs.Prelude.{◌≡◌, ◌≢◌, ℕ, ◌+◌, ◌<◌,
 ghost use Rattle.pq_types.specs.Asked.{Reply};
 ghost use Rattle.pq_types.specs.declared.answer.Answer.TheVariants.{Entered};
 ghost use Rattle.pq_types.specs.declared.journal.TheConstants.{GREATEST_NUMBER};
-ghost use Rattle.pq_types.specs.History.{left, MayAnswer};
+ghost use Rattle.pq_types.specs.History.{left};
+ghost use Rattle.desk_core.specs.Answering.{MayTellOf};
 ghost use Rattle.pq_book.specs.Book.{AllHaveRoom};
 ghost use Rattle.desk_core.specs.declared.model.View.TheVariants.{Holder};
 ghost use Rattle.desk_core.specs.Desk.{volume};
@@ -51,7 +52,7 @@ fn put_home_with<S: Store<Entry<P>>, P: Part>(
     requires used { NoneAbove (pen_at seat.old.me).place (pen_at seat.old.me).posts (pen_at seat.old.me).hand }
     requires book { book ≡ volume (pen_at seat.old.me).room (pen_at seat.old.me).hand }
     ensures table { seat.new.table_id ≡ seat.old.table_id }
-    ensures may { MayAnswer (pen_at seat.old.me).room (pen_at seat.old.me).hand request result }
+    ensures may { MayTellOf (pen_at seat.old.me).room (pen_at seat.old.me).hand request result }
     ensures answers { IsAnswerTo (pen_at seat.old.me).room request result }
     ensures behind { (number : ℕ) (reply : Reply) → result ≡ Entered number reply → IsAboveAll number (pen_at seat.old.me).mine }
     ensures full { result ≡ Answer.BookFull → IsFullFor (pen_at seat.new.me) }
@@ -89,7 +90,7 @@ impl<S: Store<Entry<P>>, P: Part> Desk<S, P> {
         requires due { pen.old.state.due ≡ None }
         requires idle { is_idle pen.old.state.standing ≡ true }
         requires few { pen.old.state.posts < GREATEST_NUMBER }
-        ensures may { MayAnswer pen.old.state.room pen.old.state.hand request result }
+        ensures may { MayTellOf pen.old.state.room pen.old.state.hand request result }
         ensures answers { IsAnswerTo pen.old.state.room request result }
         ensures behind { (number : ℕ) (reply : Reply) → result ≡ Entered number reply → IsAboveAll number pen.old.state.mine }
         ensures full { result ≡ Answer.BookFull → IsFullFor pen.new.state }

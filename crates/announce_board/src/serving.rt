@@ -4,7 +4,8 @@ ghost use Rattle.std.specs.Prelude.{◌≡◌, ◌≢◌, ℕ, ◌+◌, ◌<◌,
 ghost use Rattle.pq_types.specs.declared.control.Kind.TheVariants as kind;
 ghost use Rattle.pq_types.specs.Control.{kind_has_item, answer_item};
 ghost use Rattle.pq_types.specs.Mail.{IsProperAnswerOf};
-ghost use Rattle.pq_types.specs.History.{left, MayAnswer};
+ghost use Rattle.pq_types.specs.History.{left};
+ghost use Rattle.desk_core.specs.Answering.{MayTellOf};
 ghost use Rattle.pq_book.specs.Book.{AllHaveRoom};
 ghost use Rattle.desk_core.specs.declared.model.Due.{Due};
 ghost use Rattle.desk_core.specs.Desk.{volume};
@@ -87,7 +88,7 @@ pub fn store_answer<S: Store<Entry<P>>, P: Part>(
     requires pen { IsServing board.now.table_id board.now.key.places seat.old.me place }
     requires proper { IsProperAnswerOf P.wide answer }
     requires due { (due : Due) × IsDueFor (pen_at seat.old.me) place request answer due }
-    requires may { MayAnswer (pen_at seat.old.me).room (pen_at seat.old.me).hand request answer }
+    requires may { MayTellOf (pen_at seat.old.me).room (pen_at seat.old.me).hand request answer }
     requires memory { AllHaveRoom S.room (pen_at seat.old.me).room → answer ≢ Answer.NoMemory }
     ensures table { seat.new.table_id ≡ seat.old.table_id }
     ensures after { (due : Due) → IsDueFor (pen_at seat.old.me) place request answer due
@@ -144,7 +145,7 @@ pub fn give_answer<S: Store<Entry<P>>, P: Part>(
     requires pen { IsServing board.now.table_id board.now.key.places seat.old.me place }
     requires proper { IsProperAnswerOf P.wide answer }
     requires due { (serial : ℕ) × ((pen_at seat.old.me).due ≡ Some (due_of place serial request)) }
-    requires may { MayAnswer (pen_at seat.old.me).room (pen_at seat.old.me).hand request answer }
+    requires may { MayTellOf (pen_at seat.old.me).room (pen_at seat.old.me).hand request answer }
     requires memory { AllHaveRoom S.room (pen_at seat.old.me).room → answer ≢ Answer.NoMemory }
     ensures table { seat.new.table_id ≡ seat.old.table_id }
     ensures after { (serial : ℕ) → (pen_at seat.old.me).due ≡ Some (due_of place serial request)

@@ -4,8 +4,10 @@ use Rattle.announce_board.specs.Rule.{Seated}
 use Rattle.announce_board.specs.Steps.{pen_at}
 use Rattle.announce_board.specs.Asking.{IsFullFor}
 use Rattle.announce_board.proofs.ItemSteps.{wider_request}
-use Rattle.pq_types.specs.History.{left, last_serial, MayAnswer}
-use Rattle.pq_book.specs.Book.{Volume, AllHaveRoom}
+use Rattle.pq_types.specs.History.{left, last_serial}
+use Rattle.desk_core.specs.Answering.{MayTellOf}
+use Rattle.pq_book.specs.Book.{AllHaveRoom}
+use Rattle.desk_core.specs.Home.{Home}
 use Rattle.announce_board.proofs.Homes.{carried_out, apply_owes, applied, same_held}
 use Rattle.announce_board.proofs.ToldLemmas.{above_the_last, own_answer_fits, own_behind, applied_full, own_barred}
 use Rattle.announce_board.proofs.applying.apply_own.Goals as goal
@@ -16,7 +18,7 @@ load-requires g c =
     let e = c.apply-answer.ensures in
     let h = c.requires in
     let there = c.deref_mut.ensures.value ∙ c.book.view_is ∙ h.book in
-    let may = subst (λ (b : Volume). MayAnswer b.room b.journal c.args.request c.apply-answer.result) there e.answer in (
+    let may = subst (λ (b : Home). MayTellOf b.room b.journal c.args.request c.apply-answer.result) there e.answer in (
       c.exchange.ensures.0 ∙ h.here,
       h.lock,
       apply_owes _ _ c.law_steps_are_allowed.ensures.apply _ _ _ _ c.args.seat.now.me _ c.apply-answer.new.self c.args.request c.apply-answer.result h.is h.leads h.idle
@@ -30,7 +32,7 @@ apply-answer-requires g c =
     let there = c.deref_mut.ensures.value ∙ c.book.view_is ∙ h.book in
     let p = pen_at c.args.seat.now.me in
     let lt : last_serial p.place p.hand < p.posts + 1 = above_the_last p.place (p.posts + 1) p.hand (omega arith, omega (arith, h.serial, h.few)) h.used in
-    subst (λ (b : Volume). last_serial c.args.place b.journal < c.args.serial) (sym there)
+    subst (λ (b : Home). last_serial c.args.place b.journal < c.args.serial) (sym there)
     (subst (λ k. last_serial k p.hand < c.args.serial) (sym h.place) (subst (λ s. last_serial p.place p.hand < s) (sym h.serial) lt))
 
 pub returns-clause-behind : goal.returns-clause-behind
@@ -38,7 +40,7 @@ returns-clause-behind g c =
     let e = c.apply-answer.ensures in
     let h = c.requires in
     let there = c.deref_mut.ensures.value ∙ c.book.view_is ∙ h.book in
-    let may = subst (λ (b : Volume). MayAnswer b.room b.journal c.args.request c.apply-answer.result) there e.answer in
+    let may = subst (λ (b : Home). MayTellOf b.room b.journal c.args.request c.apply-answer.result) there e.answer in
     let told = applied c.args.seat.now.me _ c.load.new.seat.me c.load.result c.apply-answer.new.self c.args.request c.apply-answer.result h.slot may
     (carried_out c.args.seat.now.me c.args.place c.args.serial c.deref_mut.result.now c.apply-answer.new.self (Asked c.args.request) c.apply-answer.result there h.place h.serial e.room e.journal) c.exchange.ensures.3 c.load.ensures.2 in
     own_behind c.law_calls_are_lines.ensures.lines (pen_at c.args.seat.now.me) (Asked c.args.request) c.apply-answer.result told.1 h.idle may
@@ -48,7 +50,7 @@ returns-clause-barred g c =
     let e = c.apply-answer.ensures in
     let h = c.requires in
     let there = c.deref_mut.ensures.value ∙ c.book.view_is ∙ h.book in
-    let may = subst (λ (b : Volume). MayAnswer b.room b.journal c.args.request c.apply-answer.result) there e.answer in
+    let may = subst (λ (b : Home). MayTellOf b.room b.journal c.args.request c.apply-answer.result) there e.answer in
     let told = applied c.args.seat.now.me _ c.load.new.seat.me c.load.result c.apply-answer.new.self c.args.request c.apply-answer.result h.slot may
     (carried_out c.args.seat.now.me c.args.place c.args.serial c.deref_mut.result.now c.apply-answer.new.self (Asked c.args.request) c.apply-answer.result there h.place h.serial e.room e.journal) c.exchange.ensures.3 c.load.ensures.2 in
     own_barred (pen_at c.args.seat.now.me) (Asked c.args.request) c.apply-answer.result told.1 may
@@ -59,19 +61,19 @@ returns-clause-answers g c =
     let h = c.requires in
     let there = c.deref_mut.ensures.value ∙ c.book.view_is ∙ h.book in
     own_answer_fits g.P.Part.wide (pen_at c.args.seat.now.me).room (pen_at c.args.seat.now.me).hand (Asked c.args.request) c.apply-answer.result
-    (subst (λ (b : Volume). MayAnswer b.room b.journal c.args.request c.apply-answer.result) there e.answer) e.proper
+    (subst (λ (b : Home). MayTellOf b.room b.journal c.args.request c.apply-answer.result) there e.answer) e.proper
 
 pub returns-clause-spare : goal.returns-clause-spare
 returns-clause-spare g c =
     let there = c.deref_mut.ensures.value ∙ c.book.view_is ∙ c.requires.book in
-    λ all. c.apply-answer.ensures.spare (subst (λ (b : Volume). AllHaveRoom g.S.Store.room (length (left b.journal) + 1)) (sym there) all)
+    λ all. c.apply-answer.ensures.spare (subst (λ (b : Home). AllHaveRoom g.S.Store.room (length (left b.journal) + 1)) (sym there) all)
 
 pub take_back-requires-clause-slot : goal.take_back-requires-clause-slot
 take_back-requires-clause-slot g c =
     let e = c.apply-answer.ensures in
     let h = c.requires in
     let there = c.deref_mut.ensures.value ∙ c.book.view_is ∙ h.book in
-    let may = subst (λ (b : Volume). MayAnswer b.room b.journal c.args.request c.apply-answer.result) there e.answer in
+    let may = subst (λ (b : Home). MayTellOf b.room b.journal c.args.request c.apply-answer.result) there e.answer in
     let told = applied c.args.seat.now.me _ c.load.new.seat.me c.load.result c.apply-answer.new.self c.args.request c.apply-answer.result h.slot may
     (carried_out c.args.seat.now.me c.args.place c.args.serial c.deref_mut.result.now c.apply-answer.new.self (Asked c.args.request) c.apply-answer.result there h.place h.serial e.room e.journal) c.exchange.ensures.3 c.load.ensures.2 in
     (c.apply-answer.new.self, ap (λ (m : Seated). m.1) told.0.1)
@@ -81,7 +83,7 @@ returns-clause-after g c =
     let e = c.apply-answer.ensures in
     let h = c.requires in
     let there = c.deref_mut.ensures.value ∙ c.book.view_is ∙ h.book in
-    let may = subst (λ (b : Volume). MayAnswer b.room b.journal c.args.request c.apply-answer.result) there e.answer in
+    let may = subst (λ (b : Home). MayTellOf b.room b.journal c.args.request c.apply-answer.result) there e.answer in
     let told = applied c.args.seat.now.me _ c.load.new.seat.me c.load.result c.apply-answer.new.self c.args.request c.apply-answer.result h.slot may
     (carried_out c.args.seat.now.me c.args.place c.args.serial c.deref_mut.result.now c.apply-answer.new.self (Asked c.args.request) c.apply-answer.result there h.place h.serial e.room e.journal) c.exchange.ensures.3 c.load.ensures.2 in
     (told.0.0, c.take_back.ensures.after ∙ ap (λ (m : Seated). (m.0, (0, None) ∷ [])) told.0.1)
@@ -91,7 +93,7 @@ returns-clause-full g c =
     let e = c.apply-answer.ensures in
     let h = c.requires in
     let there = c.deref_mut.ensures.value ∙ c.book.view_is ∙ h.book in
-    let may = subst (λ (b : Volume). MayAnswer b.room b.journal c.args.request c.apply-answer.result) there e.answer in
+    let may = subst (λ (b : Home). MayTellOf b.room b.journal c.args.request c.apply-answer.result) there e.answer in
     let told = applied c.args.seat.now.me _ c.load.new.seat.me c.load.result c.apply-answer.new.self c.args.request c.apply-answer.result h.slot may
     (carried_out c.args.seat.now.me c.args.place c.args.serial c.deref_mut.result.now c.apply-answer.new.self (Asked c.args.request) c.apply-answer.result there h.place h.serial e.room e.journal) c.exchange.ensures.3 c.load.ensures.2 in
     λ f. subst (λ (m : Seated). IsFullFor (pen_at m)) (sym (c.take_back.ensures.after ∙ ap (λ (m : Seated). (m.0, (0, None) ∷ [])) told.0.1))
@@ -102,7 +104,7 @@ returns-clause-book g c =
     let e = c.apply-answer.ensures in
     let h = c.requires in
     let there = c.deref_mut.ensures.value ∙ c.book.view_is ∙ h.book in
-    let may = subst (λ (b : Volume). MayAnswer b.room b.journal c.args.request c.apply-answer.result) there e.answer in
+    let may = subst (λ (b : Home). MayTellOf b.room b.journal c.args.request c.apply-answer.result) there e.answer in
     let told = applied c.args.seat.now.me _ c.load.new.seat.me c.load.result c.apply-answer.new.self c.args.request c.apply-answer.result h.slot may
     (carried_out c.args.seat.now.me c.args.place c.args.serial c.deref_mut.result.now c.apply-answer.new.self (Asked c.args.request) c.apply-answer.result there h.place h.serial e.room e.journal) c.exchange.ensures.3 c.load.ensures.2 in
     same_held c.take_back.result c.apply-answer.new.self c.load.new.seat.me.1 c.take_back.ensures.book (ap (λ (m : Seated). m.1) told.0.1)

@@ -41,7 +41,7 @@ pub heeds_more : StillHeeds
 heeds_more [] l h heard = ((λ e. tt), tt)
 heeds_more (m ∷ ls) l h heard = (
   (λ e. all_more (λ k. EndsAtShut k.operation → ⊥) ls l (h.0 e) (λ ends. not_both (or_left (shuts m.operation) (is_shut ls) e) (heard ends))),
-  heeds_more ls l h.1 (λ ends. or_right (shuts m.operation) (is_shut ls) (heard ends))
+  heeds_more ls l h.1 (λ ends. or_right (shuts m.operation) (is_shut ls) (heard ends)),
 )
 
 pub shut_leaves : ShutLeavesAll

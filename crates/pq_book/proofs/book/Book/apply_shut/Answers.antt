@@ -18,6 +18,9 @@ invariant_of-self g c =
     let grown = with_line _ _ _ _ _ _ _ c.shut-2.ensures c.add.ensures.lines in
     let kept = kept_entered _ _ _ _ c.self.invariant.0 line.legal line.rise c.law_shut.ensures.heeds c.law_items_stay_in_range.ensures.entries (g.S.Store.content c.self.inside.store) _ (c.len-number.result + 1) _ _ Shuts Empty (rw (← c.self.view_is) at c.requires) admitted tt
     (omega (arith, c.len-number.ensures)) refl refl grown in
-    let same = ap (map item_of) (ap entries_of grown ∙ c.law_shut.ensures.unchanged (all c.self.inside.journal) (line_of c.args.place c.args.serial Shuts Empty) refl) in
-    (kept, paged_entered c.self.inside.room c.self.inside.journal c.add.new.self _ c.self.invariant.1 c.add.ensures.page c.add.ensures.kept c.add.ensures.full c.add.ensures.lines c.add.ensures.most,
-     peak_stays _ _ _ _ c.self.invariant.2 c.add.ensures.lines (ap (λ xs. length xs) same), shut_then c.law_shut.ensures.more _ _ _ refl grown)
+    let same = ap (map item_of) (ap entries_of grown ∙ c.law_shut.ensures.unchanged (all c.self.inside.journal) (line_of c.args.place c.args.serial Shuts Empty) refl) in (
+      kept,
+      paged_entered c.self.inside.room c.self.inside.journal c.add.new.self _ c.self.invariant.1 c.add.ensures.page c.add.ensures.kept c.add.ensures.full c.add.ensures.lines c.add.ensures.most,
+      peak_stays _ _ _ _ c.self.invariant.2 c.add.ensures.lines (ap (λ xs. length xs) same),
+      shut_then c.law_shut.ensures.more _ _ _ refl grown,
+    )

@@ -14,6 +14,7 @@ use Rattle.pq_types.specs.declared.control.Control.TheVariants.{Nothing, Posted,
 use Rattle.pq_types.specs.Control.{is_posted}
 use Rattle.pq_types.specs.History.{journal_by}
 use Rattle.pq_book.specs.Book.{Volume}
+use Rattle.pq_types.specs.declared.answer.Refusal.{Refusal}
 use Rattle.desk_core.specs.Calls.{gained_by}
 use Rattle.desk_core.specs.Pen.{due_at}
 use Rattle.desk_core.specs.Rule.{StartsWith}
@@ -34,7 +35,7 @@ use Rattle.flat_queue.specs.Calling.{KeepsTimes, HasPostedOne, IsEntered, MakesC
 use Rattle.flat_queue.specs.OwnRequest.{SweepsWhereBy, ReleasesOperation, CarriesOutOperationBy, CarriesOutBy, EntersAtOnceBy, TriesOrWaitsBy, EntersOrWaitsBy}
 use Rattle.flat_queue.specs.CallSteps.{HasTried}
 use Rattle.flat_queue.specs.declared.error.CallError.{CallError}
-use Rattle.flat_queue.specs.declared.error.CallError.TheVariants.{NoMemory, Spent}
+use Rattle.flat_queue.specs.declared.error.CallError.TheVariants.{NoMemory, Refused, Spent}
 use Rattle.flat_queue.proofs.Misses.{HasMissed, missed_none, missed_on, call_behind}
 use Rattle.flat_queue.proofs.Waits.{starts_trans, starts_by, sweeps_start}
 
@@ -146,6 +147,7 @@ own_turns : (words : ℕ) (x : Answer) (a c : Joined) (request : Request) → Ca
 own_turns words (Entered number reply) a c request h = (Entered number reply, refl, h)
 own_turns words answer.BookFull a c request h = (answer.BookFull, refl, h)
 own_turns words answer.NoMemory a c request h = (answer.NoMemory, refl, h)
+own_turns words (answer.Refused why) a c request h = (answer.Refused why, refl, h)
 
 -- what it gains that carried its operation out
 gained_own : (words : ℕ) (x : Answer) (a c : Joined) (operation : Operation) → CarriesOutOperationBy words a operation x c → HasPostedOne a (Idle None) (a.pen.mine ++ gained_by (a.pen.posts + 1) operation x) c
@@ -199,6 +201,10 @@ refused_own words a c operation h = no_more a c (Idle None) a.pen.mine (gained_o
 pub unfit_own : (words : ℕ) (a c : Joined) (operation : Operation) → CarriesOutOperationBy words a operation answer.NoMemory c → HasPostedOne a (Idle None) a.pen.mine c
 unfit_own words a c operation h = no_more a c (Idle None) a.pen.mine (gained_own words answer.NoMemory a c operation h)
 
+-- and one that the queue's rules refused
+pub ruled_own : (words : ℕ) (a c : Joined) (operation : Operation) (why : Refusal) → CarriesOutOperationBy words a operation (answer.Refused why) c → HasPostedOne a (Idle None) a.pen.mine c
+ruled_own words a c operation why h = no_more a c (Idle None) a.pen.mine (gained_own words (answer.Refused why) a c operation h)
+
 -- what a call comes to that carried its request out: its answer is one to it
 pub called_own : (words : ℕ) (x : Answer) (a c : Joined) (request : Request) (has_room : Type 0) → CarriesOutBy words a request x c → IsAnswerTo a.queue.room request x
     → a.pen.posts < most_posts a.queue.room → (has_room → x ≢ answer.NoMemory)
@@ -232,6 +238,16 @@ called_own words answer.NoMemory a c request has_room h fits few memory =
       turns = λ f. own_turns words answer.NoMemory a c request h;
       never_gives_up = λ e. cc e;
       memory = λ room e. memory room refl;
+    }
+called_own words (answer.Refused why) a c request has_room h fits few memory =
+    record {
+      ok = tt;
+      err = (fits, ruled_own words a c (Asked request) why h);
+      full = λ e. absurd (cc e);
+      spent = (λ e. absurd (cc e), λ le. absurd (omega (arith, le, few)));
+      turns = λ f. own_turns words (answer.Refused why) a c request h;
+      never_gives_up = λ e. cc e;
+      memory = λ room e. absurd (cc e);
     }
 
 -- and one that had no serial left
@@ -316,3 +332,4 @@ pub refused_as : (x : Answer) → IsErrOf (ended (Some x)) NoMemory → x ≡ an
 refused_as (Entered number reply) e = absurd (cc e)
 refused_as answer.BookFull e = absurd (cc e)
 refused_as answer.NoMemory e = refl
+refused_as (answer.Refused why) e = absurd (cc e)

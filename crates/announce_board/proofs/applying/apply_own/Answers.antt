@@ -5,9 +5,9 @@ use Rattle.announce_board.specs.Steps.{pen_at}
 use Rattle.announce_board.specs.Asking.{IsFullFor}
 use Rattle.announce_board.proofs.ItemSteps.{wider_request}
 use Rattle.pq_types.specs.History.{left, last_serial}
-use Rattle.pq_book.specs.Book.{AllHaveRoom}
+use Rattle.pq_book.specs.Book.{AllHaveRoom, limits_of}
 use Rattle.desk_core.specs.Home.{Home, home_of}
-use Rattle.announce_board.proofs.Homes.{may_tell, carried_out, apply_owes, applied, same_held}
+use Rattle.announce_board.proofs.Homes.{may_tell, same_limits, carried_out, apply_owes, applied, same_held}
 use Rattle.announce_board.proofs.ToldLemmas.{above_the_last, own_answer_fits, own_behind, applied_full, own_barred}
 use Rattle.announce_board.proofs.applying.apply_own.Goals as goal
 
@@ -106,5 +106,16 @@ returns-clause-book g c =
     let may = may_tell c.law_books_deal.ensures (pen_at c.args.seat.now.me).room (pen_at c.args.seat.now.me).hand c.deref_mut.result.now (Asked c.args.request) c.apply-answer.result there e.answer in
     let told = applied c.args.seat.now.me _ c.load.new.seat.me c.load.result c.apply-answer.new.self c.args.request c.apply-answer.result h.slot may
     (carried_out c.args.seat.now.me c.args.place c.args.serial c.deref_mut.result.now c.apply-answer.new.self (Asked c.args.request) c.apply-answer.result there h.place h.serial e.terms e.journal) c.exchange.ensures.3 c.load.ensures.2 in
-    same_held c.take_back.result c.apply-answer.new.self c.load.new.seat.me.1 c.take_back.ensures.book (ap (λ (m : Seated). m.1) told.0.1)
+    ap home_of (same_held c.take_back.result c.apply-answer.new.self c.load.new.seat.me.1 c.take_back.ensures.book (ap (λ (m : Seated). m.1) told.0.1))
     ∙ carried_out c.args.seat.now.me c.args.place c.args.serial c.deref_mut.result.now c.apply-answer.new.self (Asked c.args.request) c.apply-answer.result there h.place h.serial e.terms e.journal
+
+pub returns-clause-limits : goal.returns-clause-limits
+returns-clause-limits g c =
+    let e = c.apply-answer.ensures in
+    let h = c.requires in
+    let there = ap home_of (c.deref_mut.ensures.value ∙ c.book.view_is) ∙ h.book in
+    let may = may_tell c.law_books_deal.ensures (pen_at c.args.seat.now.me).room (pen_at c.args.seat.now.me).hand c.deref_mut.result.now (Asked c.args.request) c.apply-answer.result there e.answer in
+    let told = applied c.args.seat.now.me _ c.load.new.seat.me c.load.result c.apply-answer.new.self c.args.request c.apply-answer.result h.slot may
+    (carried_out c.args.seat.now.me c.args.place c.args.serial c.deref_mut.result.now c.apply-answer.new.self (Asked c.args.request) c.apply-answer.result there h.place h.serial e.terms e.journal) c.exchange.ensures.3 c.load.ensures.2 in
+    ap limits_of (same_held c.take_back.result c.apply-answer.new.self c.load.new.seat.me.1 c.take_back.ensures.book (ap (λ (m : Seated). m.1) told.0.1))
+    ∙ (same_limits c.deref_mut.result.now c.apply-answer.new.self e.terms e.allowed ∙ ap limits_of (c.deref_mut.ensures.value ∙ c.book.view_is))

@@ -28,7 +28,8 @@ use Rattle.pq_types.specs.Queue.{IsProperRequestOf}
 use Rattle.pq_types.specs.History.{journal_after, journal_by}
 use Rattle.desk_core.specs.Answering.{MayTellOf, MayTell}
 use Rattle.pq_types.specs.Laws.{ControlWordsDiffer}
-use Rattle.desk_core.specs.Home.{Home}
+use Rattle.pq_book.specs.Book.{Volume}
+use Rattle.desk_core.specs.Home.{Home, home_of}
 use Rattle.desk_core.specs.Beyond.{NextIsUnknown}
 use Rattle.desk_core.specs.Dealing.{IsReached, Takes, MovesReach}
 use Rattle.desk_core.specs.Desk.{Desk, Has, time, volume, put, locked, freed, with_control, with_cell, with_pen}
@@ -49,7 +50,7 @@ use Rattle.desk_core.specs.declared.model.View.{View}
 use Rattle.desk_core.specs.declared.model.View.TheVariants.{Holder}
 use Rattle.announce_board.specs.Allowed.{AsMove, AsLook, Plainly, desk_in}
 use Rattle.announce_board.specs.Rule.{Keeps, Seated, desk_of, book_in, book_at_home}
-use Rattle.announce_board.specs.Steps.{pen_at, StandsAt, WordDrafted, Drafted, PostStored, LockRead, LockTried, ControlRead, MailRead, CellRead, ItemRead, WordLaid, ItemLaid, AnswerStored, Released, BringsHome, BringsHomeBy, Applied, ReleasedWith, Looked, AnswerLooked, WordSeen, ItemSeen, Taken, ItemTaken}
+use Rattle.announce_board.specs.Steps.{pen_at, StandsAt, WordDrafted, Drafted, PostStored, LockRead, LockTried, ControlRead, MailRead, CellRead, ItemRead, WordLaid, ItemLaid, AnswerStored, Released, HasInSlot, BringsHome, BringsHomeBy, Applied, ReleasedWith, Looked, AnswerLooked, WordSeen, ItemSeen, Taken, ItemTaken}
 use Rattle.announce_board.proofs.Duties.{acts_on}
 use Rattle.announce_board.proofs.Sums.{length_at}
 use Rattle.announce_board.proofs.Weights.{weighs_on}
@@ -91,10 +92,12 @@ pub record Laws : Type 0 where
 pub at_both : (F : ℕ → ℕ → Type 0) (i j n k : ℕ) → i ≡ j → n ≡ k → F j k → F i n
 at_both F i j n k e f h = subst (λ x. F x n) (sym e) (subst (F j) (sym f) h)
 
-pub book_there : (x : home.Option (home.Option (Option Home))) (b : Home) → book_in x ≡ Some b → x ≡ some (some (Some b))
-book_there none b e = absurd (cc e)
-book_there (some none) b e = absurd (cc e)
-book_there (some (some x)) b e = ap (λ y. some (some y)) e
+-- what the machine sees at home is the Book in the slot
+pub book_there : (x : home.Option (home.Option (Option Volume))) (h : Home) → book_in x ≡ Some h → (b : Volume) × (x ≡ some (some (Some b))) × (home_of b ≡ h)
+book_there none h e = absurd (cc e)
+book_there (some none) h e = absurd (cc e)
+book_there (some (some None)) h e = absurd (cc e)
+book_there (some (some (Some b))) h e = let f : Some (home_of b) ≡ Some h = e in let g : home_of b ≡ h = cc in (b, refl, g)
 
 -- an item of either width is in the range of wide ones
 wider : (wide : Bool) (x : Item) → IsItemOf wide x → IsItemOf true x
@@ -106,7 +109,7 @@ module _ (laws : Laws) (wide : Bool) (roomy : ℕ → Type 0) (room places slots
   p = pen_at m
 
   abbrev St : Type 0
-  St = State (Option Home) View
+  St = State (Option Volume) View
 
   module _ (s : St) (k : Keeps wide roomy room places s) (at : get_elem? s.views id ≡ some m.0) where
     abbrev d : Desk
@@ -139,7 +142,7 @@ module _ (laws : Laws) (wide : Bool) (roomy : ℕ → Type 0) (room places slots
     unchanged i q acts reached meets = record { held = k.held; control = k.control; cells = k.cells; words = laws.loaded wide places s.words k.held k.control k.cells i k.words; slots = k.slots; reached = reached; meets = meets; duties = stays q acts; weight = weighs q acts; memory = k.memory }
 
     -- the Book in the slots is this one
-    home_is : (P : Desk → Type 0) (held : Bool) (homes : List (home.Option (Option Home))) (views : List View) (book : Option Home) → book_at_home homes ≡ book
+    home_is : (P : Desk → Type 0) (held : Bool) (homes : List (home.Option (Option Volume))) (views : List View) (book : Option Home) → book_at_home homes ≡ book
         → P (record { room = room; places = places; held = held; control = k.control; item = k.cells; home = book; views = views })
         → P (desk_of room places held k.control k.cells homes views)
     home_is P held homes views book e h =
@@ -259,11 +262,17 @@ module _ (laws : Laws) (wide : Bool) (roomy : ℕ → Type 0) (room places slots
     room_is : p.room ≡ room
     room_is = (laws.seated (d s k at) id p k.meets (has s k at)).room
 
-    abbrev book : Home
-    book = volume p.room lead.0
+    got : (b : Volume) × (get_elem? s.homes 0 ≡ some (some (Some b))) × (home_of b ≡ volume room lead.0)
+    got = book_there (get_elem? s.homes 0) (volume room lead.0) lead.1
+
+    abbrev book : Volume
+    book = got.0
 
     there : get_elem? s.homes 0 ≡ some (some (Some book))
-    there = book_there (get_elem? s.homes 0) book (lead.1 ∙ ap (λ r. Some (volume r lead.0)) (sym room_is))
+    there = got.1
+
+    journal_is : book.journal ≡ lead.0
+    journal_is = ap (λ (h : Home). h.journal) got.2
 
     out : book_at_home (set s.homes 0 none) ≡ None
     out = ap book_in (set_here s.homes 0 none (length_at s.homes 0 (some (Some book)) there))
@@ -271,7 +280,7 @@ module _ (laws : Laws) (wide : Bool) (roomy : ℕ → Type 0) (room places slots
     led_not : p.leading ≡ false
     led_not = not_true p.leading (λ l. true≢false (sym (k.meets.2.led id p (has s k at) l).1 ∙ free))
 
-    won : (v : View) × (a : Act (Option Home)) × Valid s.homes m.1 a × (k' : Keeps wide roomy room places (stepped s lock_at 1 id m.1 v a))
+    won : (v : View) × (a : Act (Option Volume)) × Valid s.homes m.1 a × (k' : Keeps wide roomy room places (stepped s lock_at 1 id m.1 v a))
         × (((e : Event) × (actor e ≡ id) × Step (desk_in k) e (desk_in k')) ⊎ (desk_in k' ≡ desk_in k))
         × LockTried (step slots lock_at 0 1 none) m (slice_index s.words lock_at) (v, carried_after m.1 a)
     won = (
@@ -299,10 +308,11 @@ module _ (laws : Laws) (wide : Bool) (roomy : ℕ → Type 0) (room places slots
       ),
       (
         λ _. record {
-          journal = lead.0;
-          knows = subst (λ r. Knows r p lead.0) (sym room_is) (laws.home (d s k at) id p lead.0 k.meets (has s k at) lead.1);
+          book = book;
+          room = ap (λ (h : Home). h.room) got.2 ∙ sym room_is;
+          knows = subst (Knows p.room p) (sym journal_is) (subst (λ r. Knows r p lead.0) (sym room_is) (laws.home (d s k at) id p lead.0 k.meets (has s k at) lead.1));
           led_not = led_not;
-          next = refl;
+          next = ap (λ js. (Holder (after_lead p js), (0, Some book) ∷ m.1)) (sym journal_is);
         },
         λ ne. absurd (ne e),
       ),
@@ -311,7 +321,7 @@ module _ (laws : Laws) (wide : Bool) (roomy : ℕ → Type 0) (room places slots
   pub try_allowed : AsMove wide roomy room places slots id m lock_at (λ n. either (n == 0) 1 n) (LockTried (step slots lock_at 0 1 none) m)
   try_allowed s k long at small =
       let n = slice_index s.words lock_at in
-      exchanged n 0 1 (λ w. (v : View) × (a : Act (Option Home)) × Valid s.homes m.1 a × (k' : Keeps wide roomy room places (stepped s lock_at w id m.1 v a)) × (((e : Event) × (actor e ≡ id) × Step (desk_in k) e (desk_in k')) ⊎ (desk_in k' ≡ desk_in k)) × LockTried (step slots lock_at 0 1 none) m n (v, carried_after m.1 a))
+      exchanged n 0 1 (λ w. (v : View) × (a : Act (Option Volume)) × Valid s.homes m.1 a × (k' : Keeps wide roomy room places (stepped s lock_at w id m.1 v a)) × (((e : Event) × (actor e ≡ id) × Step (desk_in k) e (desk_in k')) ⊎ (desk_in k' ≡ desk_in k)) × LockTried (step slots lock_at 0 1 none) m n (v, carried_after m.1 a))
       (λ e. won s k at e)
       (λ ne. (
         Holder (after_miss p),
@@ -430,7 +440,7 @@ module _ (laws : Laws) (wide : Bool) (roomy : ℕ → Type 0) (room places slots
             ∙ (ap (λ x. (Holder (after_answer p other x answer), m.1)) q_is ∙ ap (λ x. (Holder (after_answer p other q x), m.1)) a_is),
       ))
 
-  pub apply_allowed : (others : List (ℕ × Option Home)) (request : Request) (answer : Answer) → BringsHome m request answer others
+  pub apply_allowed : (others : List (ℕ × Option Volume)) (request : Request) (answer : Answer) → BringsHome m request answer others
       → p.leading ≡ true → IsIdle p.standing → p.posts < GREATEST_NUMBER → IsProperRequestOf true request → MayTellOf p.room p.hand request answer
       → AsMove wide roomy room places slots id m lock_at (λ n. n) (Applied (step slots lock_at 0 0 none) m)
   apply_allowed others request answer held leads idle few proper may s k long at small =
@@ -445,19 +455,18 @@ module _ (laws : Laws) (wide : Bool) (roomy : ℕ → Type 0) (room places slots
             (laws.apply (d s k at) id p k.meets (has s k at) request answer now leads idle few proper may'),
         inl (Applies id request answer, refl, (p, has s k at, leads, idle, few, proper, may', refl)),
         λ q a other home. (
-          (now, ap (λ v. (Holder v, m.1)) (same_applied now p request q answer a may other (same_book p.room (journal_after p.hand p.place (p.posts + 1) request answer) (journal_after p.hand p.place (p.posts + 1) q a) others (rest m.1) m.1 held home))),
+          (now, ap (λ v. (Holder v, m.1)) (same_applied now p request q answer a may other (same_book m (journal_after p.hand p.place (p.posts + 1) request answer) (journal_after p.hand p.place (p.posts + 1) q a) others (rest m.1) held home))),
           subst (λ r. Knows r p p.hand) (sym room_is) (laws.leaders (d s k at) id p k.meets (has s k at) leads),
         ),
       )
 
-  pub release_looks : (others : List (ℕ × Option Home)) → m.1 ≡ (0, Some (volume p.room p.hand)) ∷ others → p.leading ≡ true
+  pub release_looks : (others : List (ℕ × Option Volume)) → HasInSlot m p.hand others → p.leading ≡ true
       → AsLook wide roomy room places slots id m lock_at (λ _. 0) (λ _. Released (step slots lock_at 0 0 none) m 0)
-  release_looks others held leads s k long at small =
-      let book = volume p.room p.hand in
+  release_looks others (book, is, held) leads s k long at small =
       let room_is = (laws.seated (d s k at) id p k.meets (has s k at)).room in
       let homes_are : put_back s.homes m.1 ≡ set s.homes 0 (some (Some book)) = ap (put_back s.homes) held in
       let back : book_at_home (put_back s.homes m.1) ≡ Some (volume room p.hand) =
-      ap book_at_home homes_are ∙ (ap book_in (set_here s.homes 0 (some (Some book)) (let e = k.slots in omega arith)) ∙ ap (λ r. Some (volume r p.hand)) room_is) in (
+      ap book_at_home homes_are ∙ (ap book_in (set_here s.homes 0 (some (Some book)) (let e = k.slots in omega arith)) ∙ (ap Some is ∙ ap (λ r. Some (volume r p.hand)) room_is)) in (
         Holder (after_release p),
         gives,
         tt,
@@ -480,24 +489,23 @@ module _ (laws : Laws) (wide : Bool) (roomy : ℕ → Type 0) (room places slots
         refl,
       )
 
-  pub release_allowed : (others : List (ℕ × Option Home)) → m.1 ≡ (0, Some (volume p.room p.hand)) ∷ others → p.leading ≡ true
+  pub release_allowed : (others : List (ℕ × Option Volume)) → HasInSlot m p.hand others → p.leading ≡ true
       → AsMove wide roomy room places slots id m lock_at (λ _. 0) (λ _. Released (step slots lock_at 0 0 none) m 0)
   release_allowed others held leads s k long at small =
       let t = release_looks others held leads s k long at small in
       (t.0, t.1, t.2, t.3, inl (Releases id, refl, t.4.0), t.5)
 
-  pub release_with_allowed : (others : List (ℕ × Option Home)) (operation : Operation) (answer : Answer) → BringsHomeBy m operation answer others
+  pub release_with_allowed : (others : List (ℕ × Option Volume)) (operation : Operation) (answer : Answer) → BringsHomeBy m operation answer others
       → p.leading ≡ true → p.due ≡ None → IsIdle p.standing → p.posts < GREATEST_NUMBER → IsProperOperationOf true operation → MayTell p.room p.hand operation answer
       → AsMove wide roomy room places slots id m lock_at (λ _. 0) (λ _. ReleasedWith (step slots lock_at 0 0 none) m 0)
-  release_with_allowed others operation answer held leads none_due idle few proper may s k long at small =
+  release_with_allowed others operation answer (book, is, held) leads none_due idle few proper may s k long at small =
       let js = journal_by p.hand p.place (p.posts + 1) operation answer in
-      let book = volume p.room js in
       let w = after_release_by p operation answer (time (d s k at)) in
       let room_is = (laws.seated (d s k at) id p k.meets (has s k at)).room in
       let may' : MayTell room p.hand operation answer = subst (λ r. MayTell r p.hand operation answer) room_is may in
       let homes_are : put_back s.homes m.1 ≡ set s.homes 0 (some (Some book)) = ap (put_back s.homes) held in
       let back : book_at_home (put_back s.homes m.1) ≡ Some (volume room js) =
-      ap book_at_home homes_are ∙ (ap book_in (set_here s.homes 0 (some (Some book)) (let e = k.slots in omega arith)) ∙ ap (λ r. Some (volume r js)) room_is) in (
+      ap book_at_home homes_are ∙ (ap book_in (set_here s.homes 0 (some (Some book)) (let e = k.slots in omega arith)) ∙ (ap Some is ∙ ap (λ r. Some (volume r js)) room_is)) in (
         Holder w,
         gives,
         tt,
@@ -522,7 +530,7 @@ module _ (laws : Laws) (wide : Bool) (roomy : ℕ → Type 0) (room places slots
               (p, has s k at, leads, none_due, idle, few, proper, may', refl),
         ),
         λ q a other home. (
-          (time (d s k at), ap (λ v. (Holder v, rest m.1)) (same_ended (time (d s k at)) p operation q answer a may other (same_book p.room js (journal_by p.hand p.place (p.posts + 1) q a) others (rest m.1) m.1 held home))),
+          (time (d s k at), ap (λ v. (Holder v, rest m.1)) (same_ended (time (d s k at)) p operation q answer a may other (same_book m js (journal_by p.hand p.place (p.posts + 1) q a) others (rest m.1) (book, is, held) home))),
           subst (λ r. Knows r p p.hand) (sym room_is) (laws.leaders (d s k at) id p k.meets (has s k at) leads),
         ),
       )

@@ -16,7 +16,7 @@ use Rattle.desk_core.specs.Knows.{NoneAbove}
 use Rattle.desk_core.specs.Pen.{after_look}
 use Rattle.desk_core.specs.declared.model.PenState.{PenState}
 use Rattle.announce_board.specs.Asking.{seen_by, taken_if}
-use Rattle.announce_board.specs.Leading.{DraftKeepsLead, PostKeepsLead, LookKeepsLead}
+use Rattle.announce_board.specs.Leading.{DraftKeepsLead, PostKeepsLead, LookKeepsLead, ArchiveKeepsLead}
 use Rattle.announce_board.specs.Tokens.{AtDesk, Leading, IsLeadOf}
 
 -- no line is above one serial more
@@ -63,3 +63,6 @@ seen_keeps words table p lead request (Answered notice) cell now h =
 pub look_keeps : LookKeepsLead
 look_keeps words pen lead found after h look =
     subst (λ p. IsLeadOf (at pen.table p) lead) (sym look.next) (seen_keeps words pen.table pen.state lead look.request look.control look.cell look.now h)
+
+pub archive_keeps : ArchiveKeepsLead
+archive_keeps pen lead lines h = record { table = h.table; place = h.place; leads = h.leads; book = h.book; used = h.used }

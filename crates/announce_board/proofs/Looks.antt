@@ -130,11 +130,10 @@ other_answer : (n : Notice) (x : Item) → Some n ≢ Some notice.NoMemory → a
 other_answer (notice.Entered l o) x ne e = absurd (cc e)
 other_answer notice.BookFull x ne e = absurd (cc e)
 other_answer notice.NoMemory x ne e = ne refl
-other_answer (notice.Refused why) x ne e = ne refl
+other_answer (notice.Refused why) x ne e = absurd (cc e)
 
 pub told_other : (n : Notice) (x : Item) (a : Answer) → Some n ≢ Some notice.NoMemory → a ≡ answer_with n x → Some a ≢ Some answer.NoMemory
 told_other n x a ne e f = let g : a ≡ answer.NoMemory = cc in other_answer n x ne (sym e ∙ g)
-told_other n x a ne e f = let g : a ≡ (answer.Refused why) = cc in other_answer n x ne (sym e ∙ g)
 
 -- the pen of a seat that became this one, which acts
 pub pen_is : (before after : Seated) (p : PenState) → after ≡ (Holder p, before.1) → pen_at after ≡ record p { duty = Active }

@@ -7,7 +7,7 @@ use lib.ListN.{get_elem?}
 use Rattle.atomic_table.specs.Table.{State, keeps}
 use Rattle.atomic_table.proofs.Lists.{set_else}
 use Rattle.pq_types.specs.Asked.{Line}
-use Rattle.desk_core.specs.Home.{Home}
+use Rattle.pq_book.specs.Book.{Volume}
 use Rattle.desk_core.specs.CallLines.{IsLineOf, CallsAreLines}
 use Rattle.desk_core.specs.Calls.{call}
 use Rattle.desk_core.specs.Dealing.{IsReached, CatchesUp as MovesUp, Writes, Hears, Copies, MovesReach}
@@ -27,7 +27,7 @@ use Rattle.announce_board.proofs.Agreeing.{longer_in_common, both_begin}
 use Rattle.announce_board.proofs.Duties.{acts_on, quiet_set, quiet_more, note_quiet}
 use Rattle.announce_board.proofs.Weights.{weighs_set, weighs_more, weighs_on}
 
-module _ (wide : Bool) (roomy : ℕ → Type 0) (room places : ℕ) (s : State (Option Home) View) (k : Keeps wide roomy room places s) where
+module _ (wide : Bool) (roomy : ℕ → Type 0) (room places : ℕ) (s : State (Option Volume) View) (k : Keeps wide roomy room places s) where
   abbrev d : Desk
   d = desk_of room places k.held k.control k.cells s.homes s.views
 

@@ -5,7 +5,7 @@ use mathlib.Core.Option.{some}
 use lib.ListN.{get_elem?}
 use Rattle.atomic_table.specs.Table.{State, keeps}
 use Rattle.atomic_table.proofs.Lists.{set_else, set_again}
-use Rattle.desk_core.specs.Home.{Home}
+use Rattle.pq_book.specs.Book.{Volume}
 use Rattle.desk_core.specs.Dealing.{IsReached, Testifies, Retires, Gathers, ReachedMeetRule, MovesReach}
 use Rattle.desk_core.specs.Desk.{Desk}
 use Rattle.desk_core.specs.Layout.{lock_at, Loaded}
@@ -25,7 +25,7 @@ use Rattle.announce_board.proofs.Retiring.{one_alone}
 use Rattle.announce_board.proofs.Weights.{weighs_more, weighs_all_active, weighs_retired, weighs_gathered}
 
 -- the views alone have changed
-pub viewed : (wide : Bool) (roomy : ℕ → Type 0) → ReachedMeetRule → (room places : ℕ) (s : State (Option Home) View) (k : Keeps wide roomy room places s) (views : List View)
+pub viewed : (wide : Bool) (roomy : ℕ → Type 0) → ReachedMeetRule → (room places : ℕ) (s : State (Option Volume) View) (k : Keeps wide roomy room places s) (views : List View)
     → IsReached places room (record (desk_of room places k.held k.control k.cells s.homes s.views) { views = views }) → DutiesAreKept views → weight_of places views ≤ places
     → Keeps wide roomy room places record { words = s.words; homes = s.homes; views = views }
 viewed wide roomy meet room places s k views reached duties weight =

@@ -18,8 +18,8 @@ use Rattle.pq_types.specs.Queue.{IsProperRequestOf}
 use Rattle.pq_types.specs.Control.{kind_of, request_item, answer_item, notice_has_item, posted, answered}
 use Rattle.desk_core.specs.Answering.{MayTellOf, MayTell}
 use Rattle.pq_types.specs.Mail.{control_word}
-use Rattle.desk_core.specs.Home.{Home}
-use Rattle.desk_core.specs.Desk.{Desk, volume}
+use Rattle.pq_book.specs.Book.{Volume}
+use Rattle.desk_core.specs.Desk.{Desk}
 use Rattle.desk_core.specs.Looking.{Looked, sights_of}
 use Rattle.desk_core.specs.Steps.{Event, Releases, actor, Step}
 use Rattle.desk_core.specs.declared.model.View.{View}
@@ -32,7 +32,7 @@ use Rattle.desk_core.specs.declared.model.View.TheVariants.{Holder}
 use Rattle.announce_board.specs.Rule.{Keeps, Seated, desk_of}
 use Rattle.announce_board.specs.Steps.{pen_at, Drafted, PostStored, LockRead, LockTried}
 use Rattle.announce_board.specs.Steps.{MailRead, ItemRead, ItemLaid, AnswerStored, Released}
-use Rattle.announce_board.specs.Steps.{BringsHome, BringsHomeBy, Applied, ReleasedWith, AnswerLooked, ItemSeen, ItemTaken}
+use Rattle.announce_board.specs.Steps.{HasInSlot, BringsHome, BringsHomeBy, Applied, ReleasedWith, AnswerLooked, ItemSeen, ItemTaken}
 
 -- how it is said that a step of the seat m is allowed, and tells this: a step on the word at an index, of which it makes f
 -- of what the word was
@@ -44,7 +44,7 @@ abbrev pub Plainly : Form
 Plainly wide roomy room places slots id m i f then = Allows (Keeps wide roomy room places) slots id m i f then
 
 -- the desk as which a table stands that keeps the rule
-abbrev pub desk_in : {wide : Bool} {roomy : ℕ → Type 0} {room places : ℕ} {s : State (Option Home) View}
+abbrev pub desk_in : {wide : Bool} {roomy : ℕ → Type 0} {room places : ℕ} {s : State (Option Volume) View}
     → Keeps wide roomy room places s → Desk
 desk_in {wide} {roomy} {room} {places} {s} k = desk_of room places k.held k.control k.cells s.homes s.views
 
@@ -52,9 +52,9 @@ desk_in {wide} {roomy} {room} {places} {s} k = desk_of room places k.held k.cont
 -- stood to the one as which it stands then; or it changes nothing of that desk.
 abbrev pub AsMove : Form
 AsMove wide roomy room places slots id m i f then =
-    (s : State (Option Home) View) (k : Keeps wide roomy room places s) → length s.homes ≡ slots
+    (s : State (Option Volume) View) (k : Keeps wide roomy room places s) → length s.homes ≡ slots
     → get_elem? s.views id ≡ some m.0 → slice_index s.words i < 18446744073709551616
-    → (w : View) × (a : Act (Option Home)) × Valid s.homes m.1 a
+    → (w : View) × (a : Act (Option Volume)) × Valid s.homes m.1 a
     × (k' : Keeps wide roomy room places (stepped s i (f (slice_index s.words i)) id m.1 w a))
     × (((e : Event) × (actor e ≡ id) × Step (desk_in k) e (desk_in k')) ⊎ (desk_in k' ≡ desk_in k))
     × then (slice_index s.words i) (w, carried_after m.1 a)
@@ -63,9 +63,9 @@ AsMove wide roomy room places slots id m i f then =
 -- that the pen of this place finds the journal in its hand.
 abbrev pub AsLook : Form
 AsLook wide roomy room places slots id m i f then =
-    (s : State (Option Home) View) (k : Keeps wide roomy room places s) → length s.homes ≡ slots
+    (s : State (Option Volume) View) (k : Keeps wide roomy room places s) → length s.homes ≡ slots
     → get_elem? s.views id ≡ some m.0 → slice_index s.words i < 18446744073709551616
-    → (w : View) × (a : Act (Option Home)) × Valid s.homes m.1 a
+    → (w : View) × (a : Act (Option Volume)) × Valid s.homes m.1 a
     × (k' : Keeps wide roomy room places (stepped s i (f (slice_index s.words i)) id m.1 w a))
     × ((step : Step (desk_in k) (Releases id) (desk_in k'))
     × (sights_of (desk_in k) (Releases id) (desk_in k') step ≡ Looked (pen_at m).place (pen_at m).hand ∷ []))
@@ -138,7 +138,7 @@ ApplyAllowedBy A wide roomy = AtEachPen (λ room places slots id m.
 -- the slot that is given back has the Book with the journal in the pen's hand
 abbrev pub ReleaseAllowedBy : Form → Bool → (ℕ → Type 0) → Type 0
 ReleaseAllowedBy A wide roomy = AtEachPen (λ room places slots id m. (others : List (ℕ × Option _))
-    → ◌≡◌ {A = List _} m.1 ((0, Some (volume (pen_at m).room (pen_at m).hand)) ∷ others) → (pen_at m).leading ≡ true
+    → HasInSlot m (pen_at m).hand others → (pen_at m).leading ≡ true
     → A wide roomy room places slots id m lock_at (λ _. 0) (λ _. Released (step slots lock_at 0 0 none) m 0))
 
 -- the slot that is given back has the Book with the line of the operation of its own, if it is entered

@@ -4,7 +4,7 @@ use Rattle.pq_types.specs.Item.{Item}
 use Rattle.pq_types.specs.Asked.{Request}
 use Rattle.pq_types.specs.declared.control.Notice.{Notice}
 use Rattle.pq_types.specs.declared.control.Kind.{Kind}
-use Rattle.desk_core.specs.Home.{Home}
+use Rattle.pq_book.specs.Book.{Volume}
 use Rattle.desk_core.specs.Knows.{Knows}
 use Rattle.desk_core.specs.Desk.{Desk}
 use Rattle.desk_core.specs.Pen.{after_lead, after_miss}
@@ -41,7 +41,7 @@ TriesLock true before after = LockWon before after
 TriesLock false before after = Becomes before (after_miss (pen_at before)) after
 
 -- the pen has won the lock, and the Book has left its slot
-pub record WinsBook (before : Seated) (book : Home) (after : Seated) : Type 0 where
+pub record WinsBook (before : Seated) (book : Volume) (after : Seated) : Type 0 where
   pub room : book.room ≡ (pen_at before).room
   pub led_not : (pen_at before).leading ≡ false
   pub knows : Knows (pen_at before).room (pen_at before) book.journal

@@ -6,7 +6,7 @@ use Rattle.std.specs.List.{AllByRecursion}
 use Rattle.atomic_table.specs.Seated.{TableId}
 use Rattle.atomic_table.specs.Table.{Step, Allows, Splits, Joins, step}
 use Rattle.pq_types.specs.Asked.{Line}
-use Rattle.desk_core.specs.Home.{Home}
+use Rattle.pq_book.specs.Book.{Volume}
 use Rattle.desk_core.specs.CallLines.{IsLineOf}
 use Rattle.desk_core.specs.Knows.{Knows}
 use Rattle.desk_core.specs.Layout.{lock_at}
@@ -62,7 +62,7 @@ CatchesUp before after =
     (journal : List Line) × Knows (pen_at before).room (pen_at before) journal
     × Becomes before (after_catch_up (pen_at before) journal) after
 
-abbrev pub CaughtUp : Step (Option Home) → Seated → ℕ → Seated → Type 0
+abbrev pub CaughtUp : Step (Option Volume) → Seated → ℕ → Seated → Type 0
 CaughtUp st before word after = CatchesUp before after
 
 -- the pen after it has caught up with this journal, and written a note of it

@@ -8,7 +8,8 @@ use Rattle.atomic_table.specs.Table.{State, Splits, opening}
 use Rattle.atomic_table.specs.Seated.{TableId}
 use Rattle.pq_types.specs.declared.journal.TheConstants.{GREATEST_NUMBER}
 use Rattle.pq_types.specs.Asked.{Line}
-use Rattle.desk_core.specs.Home.{Home}
+use Rattle.pq_book.specs.Book.{Volume}
+use Rattle.desk_core.specs.Home.{home_of}
 use Rattle.desk_core.specs.Pen.{new_pen}
 use Rattle.desk_core.specs.Dealing.{IsReached}
 use Rattle.desk_core.specs.Desk.{Desk, Has, volume}
@@ -46,14 +47,13 @@ pub record Opens (places room : ℕ) (desk : Running) (pens : List AtDesk) : Typ
 abbrev pub desk_code : DeskError → ℕ
 desk_code LinesOutOfRange = 5
 desk_code NoMemory = 6
-desk_code (Refused why) = 6
 
 -- the Book is the one at home at some desk with this room that is at the end of a run of the machine, and meets the rule
-pub record IsHomeBook (room : ℕ) (book : Home) : Type 0 where
+pub record IsHomeBook (room : ℕ) (book : Volume) : Type 0 where
   pub desk : Desk
   pub reached : IsReached desk.places room desk
   pub meets : MeetsRule desk
-  pub at_home : desk.home ≡ Some book
+  pub at_home : desk.home ≡ Some (home_of book)
   pub room_is : book.room ≡ room
 
 -- the lock is held at some such desk with this room
@@ -66,11 +66,11 @@ pub record IsHeld (room : ℕ) : Type 0 where
 
 -- The same of a desk at which this pen has its seat: so what the pen last saw or stored in its own
 -- record still stands there.
-pub record IsHomeWith (room : ℕ) (pen : PenState) (book : Home) : Type 0 where
+pub record IsHomeWith (room : ℕ) (pen : PenState) (book : Volume) : Type 0 where
   pub desk : Desk
   pub reached : IsReached desk.places room desk
   pub meets : MeetsRule desk
-  pub at_home : desk.home ≡ Some book
+  pub at_home : desk.home ≡ Some (home_of book)
   pub room_is : book.room ≡ room
   pub seat : ℕ
   pub has : Has desk.views seat pen
@@ -96,16 +96,16 @@ pub record HasAll (places : ℕ) (pens : List PenState) (licences : ℕ) : Type 
   pub counted : length pens + licences ≡ places
 
 -- the Book is the one at home at some such desk with this room, at which each of these pens has its seat
-pub record IsHomeWithAll (room : ℕ) (pens : List PenState) (book : Home) : Type 0 where
+pub record IsHomeWithAll (room : ℕ) (pens : List PenState) (book : Volume) : Type 0 where
   pub desk : Desk
   pub reached : IsReached desk.places room desk
   pub meets : MeetsRule desk
-  pub at_home : desk.home ≡ Some book
+  pub at_home : desk.home ≡ Some (home_of book)
   pub room_is : book.room ≡ room
   pub seated : OfEachOf pens (λ p. (seat : ℕ) × Has desk.views seat p)
 
 -- each of these pens knows the journal of this Book
-abbrev pub AllKnow : List PenState → Home → Type 0
+abbrev pub AllKnow : List PenState → Volume → Type 0
 AllKnow pens book = OfEachOf pens (λ p. Knows p.room p book.journal)
 
 -- each line of this journal is of the place of one of these pens
@@ -120,16 +120,16 @@ pub record HavePlaces (places : ℕ) (pens : List PenState) : Type 0 where
       (j k : ℕ) (p q : PenState) → slice_get pens j ≡ Some p → slice_get pens k ≡ Some q → p.place ≡ q.place → j ≡ k
 
 -- what is so of the Book of a desk with this room and so many places where a testimony of these pens has all
-pub record ClosedByAll (room places : ℕ) (pens : List PenState) (book : Home) : Type 0 where
+pub record ClosedByAll (room places : ℕ) (pens : List PenState) (book : Volume) : Type 0 where
   pub home : IsHomeWithAll room pens book
   pub knows : AllKnow pens book
   pub only : LinesAreOfThese pens book.journal
   pub placed : HavePlaces places pens
 
--- the table of a desk before all steps keeps the rule
+-- the table of a desk before all steps, with a Book that has no lines, keeps the rule
 abbrev pub OpeningKept : Bool → (ℕ → Type 0) → Type 0
-OpeningKept wide roomy = (room places : ℕ) → room ≤ GREATEST_NUMBER
-    → Keeps wide roomy room places (opening (replicate (word_count places) 0) (Some (volume room []) ∷ []) (Dealer 0 room))
+OpeningKept wide roomy = (room places : ℕ) (book : Volume) → room ≤ GREATEST_NUMBER → home_of book ≡ volume room []
+    → Keeps wide roomy room places (opening (replicate (word_count places) 0) (Some book ∷ []) (Dealer 0 room))
 
 -- the dealer may give out the pen of its next place
 abbrev pub DealingAllowed : Bool → (ℕ → Type 0) → Type 0
@@ -140,8 +140,8 @@ DealingAllowed wide roomy = (room places id place known : ℕ) → place < place
 -- What the words and the slot of a table say at its end. A lock word 0: the Book is in its slot,
 -- lawful, and each pen knows its journal and does not lead. Any other: the lock is held, and where
 -- there is one place alone its pen leads. Where a testimony has all pens, the Book is in its slot.
-pub record Ends (room places : ℕ) (s : State (Option Home) View) : Type 0 where
-  pub free : slice_index s.words lock_at ≡ 0 → (book : Home) × (get_elem? s.homes 0 ≡ some (some (Some book)))
+pub record Ends (room places : ℕ) (s : State (Option Volume) View) : Type 0 where
+  pub free : slice_index s.words lock_at ≡ 0 → (book : Volume) × (get_elem? s.homes 0 ≡ some (some (Some book)))
       × (home : IsHomeBook room book) × (home.desk.views ≡ s.views)
       × ((id : ℕ) (m : Seated) → m.0 ≡ Holder (pen_at m) → get_elem? s.views id ≡ some m.0
       → Knows (pen_at m).room (pen_at m) book.journal × ((pen_at m).leading ≡ false))
@@ -151,7 +151,7 @@ pub record Ends (room places : ℕ) (s : State (Option Home) View) : Type 0 wher
       → get_elem? s.views id ≡ some m.0 → (pen_at m).leading ≡ true
   pub all : (id : ℕ) (pens : List PenState) (licences : ℕ) → get_elem? s.views id ≡ some (Testimony pens licences)
       → HasAll places pens licences
-      → (book : Home) × (get_elem? s.homes 0 ≡ some (some (Some book))) × ClosedByAll room places pens book
+      → (book : Volume) × (get_elem? s.homes 0 ≡ some (some (Some book))) × ClosedByAll room places pens book
 
 abbrev pub EndsAreTold : Bool → (ℕ → Type 0) → Type 0
-EndsAreTold wide roomy = (room places : ℕ) (s : State (Option Home) View) → Keeps wide roomy room places s → Ends room places s
+EndsAreTold wide roomy = (room places : ℕ) (s : State (Option Volume) View) → Keeps wide roomy room places s → Ends room places s

@@ -1,5 +1,5 @@
 -- The rule of a desk's table, which holds between any two atomic steps.
-use Rattle.std.specs.Prelude.{◌≡◌, ◌≢◌, ℕ, ◌+◌, ◌≤◌, Bool, true, false, List, [], ◌∷◌, length, Option, None}
+use Rattle.std.specs.Prelude.{◌≡◌, ◌≢◌, ℕ, ◌+◌, ◌≤◌, Bool, true, false, List, [], ◌∷◌, length, Option, Some, None}
 use mathlib.Core.Option as home
 use mathlib.Core.Option.{some, none}
 use lib.ListN.{get_elem?}
@@ -8,7 +8,8 @@ use Rattle.pq_types.specs.Item.{Item}
 use Rattle.pq_types.specs.declared.answer.Answer.TheVariants.{NoMemory}
 use Rattle.pq_types.specs.declared.control.Control.{Control}
 use Rattle.pq_types.specs.Control.{answered}
-use Rattle.desk_core.specs.Home.{Home}
+use Rattle.pq_book.specs.Book.{Volume}
+use Rattle.desk_core.specs.Home.{Home, home_of}
 use Rattle.desk_core.specs.Pen.{new_pen}
 use Rattle.desk_core.specs.Dealing.{IsReached}
 use Rattle.desk_core.specs.Desk.{Desk}
@@ -20,18 +21,23 @@ use Rattle.desk_core.specs.declared.model.PenState.{PenState}
 use Rattle.desk_core.specs.declared.model.View.{View}
 use Rattle.desk_core.specs.declared.model.View.TheVariants.{Dealer, Holder, Note, Testimony}
 
--- the Book in a slot, where it is at home
-abbrev pub book_in : home.Option (home.Option (Option Home)) → Option Home
+-- what the machine sees of a Book, where there is one
+abbrev pub seen_of : Option Volume → Option Home
+seen_of None = None
+seen_of (Some book) = Some (home_of book)
+
+-- what it sees of the Book in a slot, where it is at home
+abbrev pub book_in : home.Option (home.Option (Option Volume)) → Option Home
 book_in none = None
 book_in (some none) = None
-book_in (some (some book)) = book
+book_in (some (some book)) = seen_of book
 
--- the Book in the slot of the table, where it is at home
-abbrev pub book_at_home : List (home.Option (Option Home)) → Option Home
+-- and of that in the slot of the table
+abbrev pub book_at_home : List (home.Option (Option Volume)) → Option Home
 book_at_home homes = book_in (get_elem? homes 0)
 
 -- the desk with this room and these places, lock, controls, item cells, slot and views
-abbrev pub desk_of : ℕ → ℕ → Bool → (ℕ → Control) → (ℕ → Item) → List (home.Option (Option Home)) → List View → Desk
+abbrev pub desk_of : ℕ → ℕ → Bool → (ℕ → Control) → (ℕ → Item) → List (home.Option (Option Volume)) → List View → Desk
 desk_of room places held control cells homes views =
     record {
       room = room;
@@ -54,7 +60,7 @@ NoneIsRefused control = (place : ℕ) → control place ≢ answered NoMemory
 -- pens are as new. The pens that act, the retired ones and the licences are no more than the places. `roomy n` says that every store of
 -- the desk's kind has room for n items: where that is so of the journal's lines, no record says
 -- NoMemory. The items of the desk are wide or narrow.
-pub record Keeps (wide : Bool) (roomy : ℕ → Type 0) (room places : ℕ) (s : State (Option Home) View) : Type 0 where
+pub record Keeps (wide : Bool) (roomy : ℕ → Type 0) (room places : ℕ) (s : State (Option Volume) View) : Type 0 where
   pub held : Bool
   pub control : ℕ → Control
   pub cells : ℕ → Item
@@ -79,10 +85,10 @@ pen_of v = record (holder_of v) { duty = Active }
 
 -- what a seat knows, and the slots that it holds
 abbrev pub Seated : Type 0
-Seated = Me (Option Home) View
+Seated = Me (Option Volume) View
 
 -- a pen that leads holds the slot, from which the Book is out
-abbrev pub held_slots : Bool → List (ℕ × Option Home)
+abbrev pub held_slots : Bool → List (ℕ × Option Volume)
 held_slots true = (0, None) ∷ []
 held_slots false = []
 

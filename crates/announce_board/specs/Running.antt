@@ -2,7 +2,7 @@
 use Rattle.std.specs.Prelude.{◌≡◌, ℕ, ◌≤◌, Bool, List, Option, slice_set}
 use Rattle.atomic_table.specs.Table.{State}
 use Rattle.pq_types.specs.Asked.{Line}
-use Rattle.desk_core.specs.Home.{Home}
+use Rattle.pq_book.specs.Book.{Volume}
 use Rattle.desk_core.specs.Clauses.{LockClause}
 use Rattle.desk_core.specs.Dealing.{Move, DealtRun, dealt_history}
 use Rattle.desk_core.specs.Desk.{Desk, Has, acts_number, dealer_opening}
@@ -22,7 +22,7 @@ use Rattle.announce_board.specs.Rule.{Keeps, book_at_home}
 -- The positions that the pens keep are those of their acts in this history; each of its positions is some pen's, and it has
 -- no other act of a pen than those. So of the calls that any two pens have read, of which one ended before the other began, it
 -- has the earlier line. The looks of that run have their places in the same order.
-pub record IsLinearized (wide : Bool) (room places : ℕ) (s : State (Option Home) View) : Type 0 where
+pub record IsLinearized (wide : Bool) (room places : ℕ) (s : State (Option Volume) View) : Type 0 where
   pub desk : Desk
   pub words : AreWords wide places s.words desk.held desk.control desk.item
   pub home : desk.home ≡ book_at_home s.homes
@@ -41,14 +41,14 @@ pub record IsLinearized (wide : Bool) (room places : ℕ) (s : State (Option Hom
 -- so it is of every table that keeps the rule of desks
 abbrev pub TablesAreLinearized : Bool → (ℕ → Type 0) → Type 0
 TablesAreLinearized wide roomy =
-    (room places : ℕ) (s : State (Option Home) View) → Keeps wide roomy room places s → IsLinearized wide room places s
+    (room places : ℕ) (s : State (Option Volume) View) → Keeps wide roomy room places s → IsLinearized wide room places s
 
 -- Where a table has gone from one state to another, both of which keep the rule, and of its seats this pen's alone has changed,
 -- to one that keeps no fewer acts, what the pen keeps more are the positions from the next one on. Each step of a table changes
 -- the seat that takes it alone.
 abbrev pub TablesForcePositions : Bool → (ℕ → Type 0) → Type 0
 TablesForcePositions wide roomy =
-    (room places : ℕ) (s s' : State (Option Home) View) (seat : ℕ) (p w : PenState)
+    (room places : ℕ) (s s' : State (Option Volume) View) (seat : ℕ) (p w : PenState)
     → Keeps wide roomy room places s → Keeps wide roomy room places s'
     → Has s.views seat p → s'.views ≡ slice_set s.views seat (Holder w) → acts_number s.views ≤ acts_number s'.views
     → KeepsTheNext (acts_number s.views) (acts_number s'.views) p w

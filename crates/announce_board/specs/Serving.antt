@@ -9,10 +9,10 @@ use Rattle.pq_types.specs.Asked.{Answer}
 use Rattle.pq_types.specs.declared.control.Kind.TheVariants as kind
 use Rattle.pq_types.specs.declared.control.Control.{Control}
 use Rattle.pq_types.specs.Control.{kind_of, request_item, answer_item, posted, is_posted, is_answer}
-use Rattle.pq_types.specs.History.{journal_after}
-use Rattle.desk_core.specs.Answering.{MayTellOf}
+use Rattle.pq_types.specs.History.{journal_after, MayAnswer}
+use Rattle.pq_book.specs.Book.{Volume, limits_of}
 use Rattle.pq_types.specs.Mail.{IsSerial}
-use Rattle.desk_core.specs.Home.{Home}
+use Rattle.desk_core.specs.Home.{home_of}
 use Rattle.desk_core.specs.Desk.{volume}
 use Rattle.desk_core.specs.Knows.{Knows}
 use Rattle.desk_core.specs.Layout.{item_at}
@@ -27,7 +27,7 @@ use Rattle.announce_board.specs.Steps.{pen_at}
 
 -- The pen has won the lock. It did not lead, and has this Book's journal in its hand, of which it
 -- knows what each pen knows of the journal at home.
-pub record Wins (p : PenState) (book : Home) (p' : PenState) : Type 0 where
+pub record Wins (p : PenState) (book : Volume) (p' : PenState) : Type 0 where
   pub room : book.room ≡ p.room
   pub led_not : p.leading ≡ false
   pub knows : Knows p.room p book.journal
@@ -58,36 +58,36 @@ served_by words p place serial request answer =
     (due_of place serial request) request answer
 
 -- A request stood posted there, and has its answer.
--- The serial is above each of that place in the journal in hand; the answer is one that the Book
--- may give, and the Book has what the answer leaves. At the leader's own place the serial is its
+-- The serial is above each of that place in the journal in hand; the answer is one that the Book,
+-- of these limits, may give, and the Book has what the answer leaves. At the leader's own place the serial is its
 -- last, and the request the one for which it waits.
-pub record ServesBy (words place : ℕ) (p : PenState) (p' : PenState) (book : Home) : Type 0 where
+pub record ServesBy (words place : ℕ) (p : PenState) (p' : PenState) (book : Volume) : Type 0 where
   pub serial : ℕ
   pub request : Request
   pub answer : Answer
   pub in_range : IsSerial serial
   pub above : AllByRecursion (λ l. place ≡ l.place → l.serial < serial) p.hand
-  pub may : MayTellOf p.room p.hand request answer
+  pub may : MayAnswer (limits_of book) p.hand request answer
   pub next : p' ≡ served_by words p place serial request answer
-  pub book_is : book ≡ volume p.room (journal_after p.hand place serial request answer)
+  pub book_is : home_of book ≡ volume p.room (journal_after p.hand place serial request answer)
   pub last : place ≡ p.place → serial ≡ p.posts
   pub own : (asked : Request) → place ≡ p.place → p.standing ≡ Waiting asked → (serial ≡ p.posts) × (request ≡ asked)
 
 -- No request stood posted there: the control was read, and nothing else is another. At the leader's
 -- own place, where it waits, it was an answer.
-pub record Passes (place : ℕ) (p : PenState) (p' : PenState) (book : Home) : Type 0 where
+pub record Passes (place : ℕ) (p : PenState) (p' : PenState) (book : Volume) : Type 0 where
   pub control : Control
   pub not_posted : is_posted control ≡ false
   pub next : p' ≡ after_read p place control
-  pub book_is : book ≡ volume p.room p.hand
+  pub book_is : home_of book ≡ volume p.room p.hand
   pub own : (asked : Request) → place ≡ p.place → p.standing ≡ Waiting asked → is_answer control ≡ true
 
-abbrev pub ServesWhereBy : ℕ → Bool → ℕ → PenState → PenState → Home → Type 0
+abbrev pub ServesWhereBy : ℕ → Bool → ℕ → PenState → PenState → Volume → Type 0
 ServesWhereBy words true place p p' book = ServesBy words place p p' book
 ServesWhereBy words false place p p' book = Passes place p p' book
 
 -- a request that stood posted there was not given this answer
-abbrev pub ServesOtherThanBy : ℕ → Answer → ℕ → PenState → PenState → Home → Type 0
+abbrev pub ServesOtherThanBy : ℕ → Answer → ℕ → PenState → PenState → Volume → Type 0
 ServesOtherThanBy words answer place p p' book = (serves : ServesBy words place p p' book) → serves.answer ≢ answer
 
 -- the seat is that of a pen that leads, and this place of the desk has words in its table
@@ -135,11 +135,11 @@ laid_and_answered = laid_and_answered_by 1
 abbrev pub served : PenState → ℕ → ℕ → Request → Answer → PenState
 served = served_by 1
 
-abbrev pub Serves : ℕ → PenState → PenState → Home → Type 0
+abbrev pub Serves : ℕ → PenState → PenState → Volume → Type 0
 Serves = ServesBy 1
 
-abbrev pub ServesWhere : Bool → ℕ → PenState → PenState → Home → Type 0
+abbrev pub ServesWhere : Bool → ℕ → PenState → PenState → Volume → Type 0
 ServesWhere = ServesWhereBy 1
 
-abbrev pub ServesOtherThan : Answer → ℕ → PenState → PenState → Home → Type 0
+abbrev pub ServesOtherThan : Answer → ℕ → PenState → PenState → Volume → Type 0
 ServesOtherThan = ServesOtherThanBy 1

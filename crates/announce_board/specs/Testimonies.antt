@@ -3,7 +3,7 @@ use Rattle.std.specs.Prelude.{◌≡◌, ℕ, ◌+◌, Bool, false, List, [], �
 use mathlib.Core.Option.{none}
 use Rattle.atomic_table.specs.Seated.{TableId}
 use Rattle.atomic_table.specs.Table.{Step, Allows, Splits, Joins, step}
-use Rattle.desk_core.specs.Home.{Home}
+use Rattle.pq_book.specs.Book.{Volume}
 use Rattle.desk_core.specs.Layout.{lock_at}
 use Rattle.desk_core.specs.Testimonies.{after_retiring}
 use Rattle.desk_core.specs.Witnessed.{AreLinearized}
@@ -68,7 +68,7 @@ abbrev pub both_testify : View → View → View
 both_testify v w = Testimony (pens_of v ++ pens_of w) (licences_of v + licences_of w)
 
 -- one load has told that the pens of the testimony fit one history, and one journal that linearizes it
-abbrev pub Compared : Step (Option Home) → Seated → ℕ → Seated → Type 0
+abbrev pub Compared : Step (Option Volume) → Seated → ℕ → Seated → Type 0
 Compared st before word after = (◌≡◌ {A = Seated} after before) × ((room : ℕ) × AreLinearized room (pens_of before.0))
 
 -- each pen may give testimony

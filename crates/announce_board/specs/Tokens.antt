@@ -1,7 +1,8 @@
 -- What a contract sees of a desk, a pen and a lead; and what their fields keep.
 use Rattle.std.specs.Prelude.{◌≡◌, ℕ, ◌+◌, ◌<◌, Bool, true, false, List, [], ◌∷◌}
 use Rattle.atomic_table.specs.Seated.{TableId}
-use Rattle.desk_core.specs.Home.{Home}
+use Rattle.pq_book.specs.Book.{Volume}
+use Rattle.desk_core.specs.Home.{home_of}
 use Rattle.desk_core.specs.Desk.{volume}
 use Rattle.desk_core.specs.Knows.{NoneAbove}
 use Rattle.desk_core.specs.Pen.{new_pen}
@@ -29,7 +30,7 @@ pub record AtDesk : Type 0 where
 pub record Leading : Type 0 where
   pub table : TableId
   pub place : ℕ
-  pub book : Home
+  pub book : Volume
 
 -- the lead is that of this pen, which leads, and its Book has the journal that the pen has in its
 -- hand; no line of its place there has a serial above its last
@@ -37,8 +38,12 @@ pub record IsLeadOf (pen : AtDesk) (lead : Leading) : Type 0 where
   pub table : lead.table ≡ pen.table
   pub place : lead.place ≡ pen.state.place
   pub leads : pen.state.leading ≡ true
-  pub book : lead.book ≡ volume pen.state.room pen.state.hand
+  pub book : home_of lead.book ≡ volume pen.state.room pen.state.hand
   pub used : NoneAbove pen.state.place pen.state.posts pen.state.hand
+
+-- the lead whose Book allows so many lines until more are archived
+abbrev pub allowing : Leading → ℕ → Leading
+allowing lead lines = record lead { book = record lead.book { allowed = lines } }
 
 -- whether a pen waits for no answer
 abbrev pub is_idle : Standing → Bool

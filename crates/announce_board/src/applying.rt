@@ -3,10 +3,9 @@ ghost use Rattle.std.specs.Prelude.{◌≡◌, ◌≢◌, ℕ, ◌+◌, ◌<◌,
 ghost use Rattle.pq_types.specs.Asked.{Reply};
 ghost use Rattle.pq_types.specs.declared.answer.Answer.TheVariants.{Entered};
 ghost use Rattle.pq_types.specs.declared.journal.TheConstants.{GREATEST_NUMBER};
-ghost use Rattle.pq_types.specs.History.{left, journal_after};
-ghost use Rattle.desk_core.specs.Answering.{MayTellOf};
-ghost use Rattle.pq_book.specs.Book.{AllHaveRoom};
-ghost use Rattle.desk_core.specs.Home.{Home};
+ghost use Rattle.pq_types.specs.History.{left, MayAnswer, journal_after};
+ghost use Rattle.pq_book.specs.Book.{AllHaveRoom, Volume, limits_of};
+ghost use Rattle.desk_core.specs.Home.{home_of};
 ghost use Rattle.desk_core.specs.declared.model.View.TheVariants.{Holder};
 ghost use Rattle.desk_core.specs.Desk.{volume};
 ghost use Rattle.desk_core.specs.Knows.{NoneAbove};
@@ -22,7 +21,7 @@ use crate::laws::law_steps_are_allowed;
 use crate::rule::{Apply, Board, BoardSeat};
 use crate::tokens::{Lead, Pen};
 use crate::words::LOCK;
-use desk_core::laws::law_calls_are_lines;
+use desk_core::laws::{law_books_deal, law_calls_are_lines};
 use leftist_heap::Store;
 use pq_book::Entry;
 use pq_types::laws::law_request_is_proper;
@@ -34,7 +33,7 @@ fn take_back<S: Store<Entry<P>>, P: Part>(
     seat: &mut BoardSeat<S, P>,
 ) -> BoxedBook<S, P>
     requires here { seat.old.table_id ≡ board.now.table_id }
-    requires slot { (book : Home) × (seat.old.me.1 ≡ (0, Some book) ∷ []) }
+    requires slot { (book : Volume) × (seat.old.me.1 ≡ (0, Some book) ∷ []) }
     ensures table { seat.new.table_id ≡ seat.old.table_id }
     ensures book { seat.old.me.1 ≡ (0, Some result) ∷ [] }
     ensures after { seat.new.me ≡ (seat.old.me.0, (0, None) ∷ []) }
@@ -65,21 +64,23 @@ fn apply_own<S: Store<Entry<P>>, P: Part>(
     requires serial { serial ≡ (pen_at seat.old.me).posts + 1 }
     requires few { serial ≤ GREATEST_NUMBER }
     requires used { NoneAbove (pen_at seat.old.me).place (pen_at seat.old.me).posts (pen_at seat.old.me).hand }
-    requires book { book ≡ volume (pen_at seat.old.me).room (pen_at seat.old.me).hand }
+    requires book { home_of book ≡ volume (pen_at seat.old.me).room (pen_at seat.old.me).hand }
     ensures table { seat.new.table_id ≡ seat.old.table_id }
-    ensures may { MayTellOf (pen_at seat.old.me).room (pen_at seat.old.me).hand request result.1 }
+    ensures may { MayAnswer (limits_of book) (pen_at seat.old.me).hand request result.1 }
     ensures answers { IsAnswerTo (pen_at seat.old.me).room request result.1 }
     ensures behind { (number : ℕ) (reply : Reply) → result.1 ≡ Entered number reply → IsAboveAll number (pen_at seat.old.me).mine }
     ensures full { result.1 ≡ Answer.BookFull → IsFullFor (pen_at seat.new.me) }
     ensures barred { IsFullFor (pen_at seat.old.me) → (number : ℕ) (reply : Reply) → result.1 ≢ Entered number reply }
     ensures memory { AllHaveRoom S.room (pen_at seat.old.me).room → result.1 ≢ Answer.NoMemory }
     ensures spare { AllHaveRoom S.room (length (left (pen_at seat.old.me).hand) + 1) → result.1 ≢ Answer.NoMemory }
-    ensures book { result.0 ≡ volume (pen_at seat.old.me).room
+    ensures limits { limits_of result.0 ≡ limits_of book }
+    ensures book { home_of result.0 ≡ volume (pen_at seat.old.me).room
         (journal_after (pen_at seat.old.me).hand (pen_at seat.old.me).place ((pen_at seat.old.me).posts + 1) request result.1) }
     ensures after { (now : ℕ) × (seat.new.me ≡ (Holder (after_apply (pen_at seat.old.me) request result.1 now), (0, None) ∷ [])) }
 {
     law_steps_are_allowed::<S, P>();
     law_calls_are_lines();
+    law_books_deal();
     law_request_is_proper(&request);
     let mut book = book;
     let answer = book.boxed.apply(place, serial, request);
@@ -114,7 +115,8 @@ impl<S: Store<Entry<P>>, P: Part> Desk<S, P> {
         requires idle { is_idle pen.old.state.standing ≡ true }
         requires few { pen.old.state.posts < GREATEST_NUMBER }
         ensures lead { IsLeadOf pen.new result.0 }
-        ensures may { MayTellOf pen.old.state.room pen.old.state.hand request result.1 }
+        ensures limits { limits_of result.0.book ≡ limits_of lead.book }
+        ensures may { MayAnswer (limits_of lead.book) pen.old.state.hand request result.1 }
         ensures answers { IsAnswerTo pen.old.state.room request result.1 }
         ensures behind { (number : ℕ) (reply : Reply) → result.1 ≡ Entered number reply → IsAboveAll number pen.old.state.mine }
         ensures full { result.1 ≡ Answer.BookFull → IsFullFor pen.new.state }

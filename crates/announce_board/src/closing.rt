@@ -1,6 +1,6 @@
 // How a desk is closed.
 ghost use Rattle.std.specs.Prelude.{◌≡◌, ◌≢◌, true, false, Some, IfOk, IfErr};
-ghost use Rattle.desk_core.specs.Home.{Home};
+ghost use Rattle.pq_book.specs.Book.{Volume};
 ghost use Rattle.desk_core.specs.Knows.{Knows};
 ghost use Rattle.announce_board.specs.Opening.{IsHomeBook, IsHomeWith, IsHeld, IsHeldWith};
 ghost use Rattle.announce_board.specs.Opening.{HasAll, IsHomeWithAll, AllKnow, LinesAreOfThese, HavePlaces};
@@ -22,7 +22,7 @@ fn book_of<S: Store<Entry<P>>, P: Part>(
     lock: u64,
     slot: Slot<S, P>,
 ) -> Result<Book<S, Global, P>, LockHeld>
-    requires home { lock ≡ 0 → (book : Home) × (slot ≡ Some book) }
+    requires home { lock ≡ 0 → (book : Volume) × (slot ≡ Some book) }
     ensures ok { IfOk result (λ book. (lock ≡ 0) × (slot ≡ Some book)) }
     ensures err { IfErr result (λ _. lock ≢ 0) }
 {

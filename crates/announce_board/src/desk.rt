@@ -2,7 +2,7 @@
 ghost use Rattle.std.specs.Prelude.{◌≡◌, ◌≢◌, ℕ, ◌+◌, ◌<◌, true, false, length, Some, IfSome, IfNone, MatchOption};
 ghost use Rattle.pq_types.specs.declared.journal.TheConstants.{GREATEST_NUMBER};
 ghost use Rattle.pq_types.specs.History.{left};
-ghost use Rattle.pq_book.specs.Book.{AllHaveRoom};
+ghost use Rattle.pq_book.specs.Book.{AllHaveRoom, limits_of};
 ghost use Rattle.desk_core.specs.Knows.{NoneAbove};
 ghost use Rattle.desk_core.specs.Pen.{after_miss, after_release};
 ghost use Rattle.desk_core.specs.Words.{word_number};
@@ -129,6 +129,7 @@ impl<S: Store<Entry<P>>, P: Part> Desk<S, P> {
         requires place { place < self.now.places }
         ensures table { pen.new.table ≡ pen.old.table }
         ensures lead { IsLeadOf pen.new lead.new }
+        ensures limits { limits_of lead.new.book ≡ limits_of lead.old.book }
         ensures serves { ServesWhereBy (word_number P.wide) result place pen.old.state pen.new.state lead.new.book }
         ensures memory { AllHaveRoom S.room pen.old.state.room
             → ServesOtherThanBy (word_number P.wide) Answer.NoMemory place pen.old.state pen.new.state lead.new.book }

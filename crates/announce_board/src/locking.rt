@@ -1,6 +1,7 @@
 // How a pen wins the lock of its desk and the Book with it, and gives both back.
 ghost use Rattle.std.specs.Prelude.{◌≡◌, ◌<◌, true, [], ◌∷◌, None, MatchOption};
 ghost use Rattle.desk_core.specs.declared.model.View.TheVariants.{Holder};
+ghost use Rattle.desk_core.specs.Home.{home_of};
 ghost use Rattle.desk_core.specs.Desk.{volume};
 ghost use Rattle.desk_core.specs.Layout.{lock_at};
 ghost use Rattle.desk_core.specs.Pen.{after_miss, after_release};
@@ -60,7 +61,7 @@ pub fn put_home<S: Store<Entry<P>>, P: Part>(
     requires lock { lock_at < board.now.table_id.words }
     requires slot { seat.old.me.1 ≡ (0, None) ∷ [] }
     requires leads { (pen_at seat.old.me).leading ≡ true }
-    requires book { book ≡ volume (pen_at seat.old.me).room (pen_at seat.old.me).hand }
+    requires book { home_of book ≡ volume (pen_at seat.old.me).room (pen_at seat.old.me).hand }
     ensures table { seat.new.table_id ≡ seat.old.table_id }
     ensures after { seat.new.me ≡ (Holder (after_release (pen_at seat.old.me)), []) }
 {

@@ -3,6 +3,7 @@ ghost use Rattle.std.specs.Prelude.{◌≡◌, ◌+◌, ◌<◌, ◌≤◌, ◌�
 ghost use Rattle.pq_types.specs.declared.journal.TheConstants.{GREATEST_NUMBER};
 ghost use Rattle.pq_book.specs.Book.{IsRoom};
 ghost use Rattle.pq_book.specs.Pages.{IsLongPage, room_keeping};
+ghost use Rattle.desk_core.specs.Home.{home_of};
 ghost use Rattle.desk_core.specs.Desk.{volume};
 ghost use Rattle.desk_core.specs.Layout.{word_count};
 ghost use Rattle.desk_core.specs.declared.model.View.TheVariants.{Dealer};
@@ -109,7 +110,7 @@ fn opened<S: Store<Entry<P>>, P: Part>(
     places: u16,
     lines: u64,
 ) -> Result<(Desk<S, P>, Vec<Pen<S, P>>), AllocError>
-    requires book { book ≡ volume lines [] }
+    requires book { home_of book ≡ volume lines [] }
     requires lines { lines ≤ GREATEST_NUMBER }
     ensures { IfOk result (λ r. Opens places lines r.0 r.1.items) }
 {
@@ -130,7 +131,7 @@ pub fn laid_out<S: Store<Entry<P>>, A: Allocator + Copy, P: Part>(
     places: u16,
     lines: u64,
 ) -> Result<(DeskTable<S, A, P>, Vec<Pen<S, P>, A>), AllocError>
-    requires book { book ≡ volume lines [] }
+    requires book { home_of book ≡ volume lines [] }
     requires lines { lines ≤ GREATEST_NUMBER }
     ensures desk { IfOk result (λ r. IsDesk r.0.shared.table_id r.0.shared.key.places r.0.shared.key.room places lines) }
     ensures counted { IfOk result (λ r. length r.1.items ≡ places) }

@@ -22,7 +22,7 @@ returns-clause-memory g c =
     let due = due_found _ c.args.place _ _ c.in-Some.serial c.in-Some.request h in
     let next = c.give_answer.ensures.after c.in-Some.serial due in
     let e = c.apply-answer.ensures in
-    λ all. serves_another _ c.args.place c.args.seat.now.me c.read_request.new.seat.me c.give_answer.new.seat.me c.in-Some.serial c.in-Some.request c.apply-answer.result h next c.args.book.now c.apply-answer.new.self c.requires.book e.room e.journal e.answer
+    λ all. serves_another _ c.args.place c.args.seat.now.me c.read_request.new.seat.me c.give_answer.new.seat.me c.in-Some.serial c.in-Some.request c.apply-answer.result h next c.args.book.now c.apply-answer.new.self c.requires.book e.terms e.allowed e.journal e.answer
     (e.memory (subst (AllHaveRoom _) (sym (ap (λ (b : Home). b.room) c.requires.book)) all))
 
 pub returns-clause-spare : goal.returns-clause-spare
@@ -31,7 +31,7 @@ returns-clause-spare g c =
     let due = due_found _ c.args.place _ _ c.in-Some.serial c.in-Some.request h in
     let next = c.give_answer.ensures.after c.in-Some.serial due in
     let e = c.apply-answer.ensures in
-    λ all. serves_another _ c.args.place c.args.seat.now.me c.read_request.new.seat.me c.give_answer.new.seat.me c.in-Some.serial c.in-Some.request c.apply-answer.result h next c.args.book.now c.apply-answer.new.self c.requires.book e.room e.journal e.answer
+    λ all. serves_another _ c.args.place c.args.seat.now.me c.read_request.new.seat.me c.give_answer.new.seat.me c.in-Some.serial c.in-Some.request c.apply-answer.result h next c.args.book.now c.apply-answer.new.self c.requires.book e.terms e.allowed e.journal e.answer
     (e.spare (subst (λ (b : Home). AllHaveRoom g.S.Store.room (length (left b.journal) + 1)) (sym c.requires.book) all))
 
 pub returns-in_default-clause-spare : goal.returns-in_default-clause-spare
@@ -49,4 +49,4 @@ returns-clause-hand g c =
     let due = due_found _ c.args.place _ _ c.in-Some.serial c.in-Some.request h in
     let next = c.give_answer.ensures.after c.in-Some.serial due in
     let e = c.apply-answer.ensures in
-    serves_hand _ c.args.place c.args.seat.now.me c.read_request.new.seat.me c.give_answer.new.seat.me c.in-Some.serial c.in-Some.request c.apply-answer.result h next c.args.book.now c.apply-answer.new.self c.requires.book e.room e.journal
+    serves_hand _ c.args.place c.args.seat.now.me c.read_request.new.seat.me c.give_answer.new.seat.me c.in-Some.serial c.in-Some.request c.apply-answer.result h next c.args.book.now c.apply-answer.new.self c.requires.book e.terms e.journal

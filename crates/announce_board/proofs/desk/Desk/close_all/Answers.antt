@@ -1,6 +1,6 @@
 use Rattle.std.proofs.Common.{ap, refl, subst, sym, ◌∙◌}
 use Rattle.std.specs.Prelude.{IsSome}
-use Rattle.desk_core.specs.Home.{Home}
+use Rattle.pq_book.specs.Book.{Volume}
 use Rattle.announce_board.specs.Tokens.{Running}
 use Rattle.announce_board.specs.Testimonies.{Testified}
 use Rattle.announce_board.specs.Opening.{IsHomeWithAll, AllKnow, LinesAreOfThese}
@@ -38,7 +38,7 @@ returns-clause-only g c =
     (testimony_is c.testimony.inside.badge.views _ _ _ c.testimony.invariant c.into_seat.ensures.2 (ap (λ (x : Testified). x.pens) c.testimony.view_is) (ap (λ (x : Testified). x.licences) c.testimony.view_is))
     c.close_with-closed.ensures.values.2 c.take-slot.ensures.value (sym c.self.invariant.room_is ∙ ap (λ (d : Running). d.room) c.self.view_is)
     (sym c.self.invariant.places_are ∙ ap (λ (d : Running). d.places) c.self.view_is) c.requires.all in
-    subst (λ (b : Home). LinesAreOfThese c.args.testimony.pens b.journal) (book_got t.0 c.unwrap.result _ t.1 c.unwrap.ensures ∙ sym c.into_book.ensures) t.2.only
+    subst (λ (b : Volume). LinesAreOfThese c.args.testimony.pens b.journal) (book_got t.0 c.unwrap.result _ t.1 c.unwrap.ensures ∙ sym c.into_book.ensures) t.2.only
 
 pub returns-clause-placed : goal.returns-clause-placed
 returns-clause-placed g c =

@@ -24,12 +24,13 @@ use std::marker::Model;
 use std::snapshot::Snapshot;
 
 /// A desk that threads share through a `&`: a lock, a publication record for each place, and a
-/// Book. A contract sees of it its table, the number of its places, and the room of its journal.
+/// Book. A contract sees of it its table, the number of its places, the room of its journal, and its bound.
 #[derive(Drop)]
 pub struct Desk<S: Store<Entry<P>>, P: Part = u32> {
     pub(crate) table: DeskTable<S, Global, P>,
     pub(crate) places: u16,
     pub(crate) room: u64,
+    pub(crate) bound: u64,
 }
 
 impl<S: Store<Entry<P>>, P: Part> Model for Desk<S, P> {
@@ -37,9 +38,10 @@ impl<S: Store<Entry<P>>, P: Part> Model for Desk<S, P> {
 
     ghost Value = { Running };
 
-    ghost view = { λ d. record { table = d.table.shared.table_id; places = d.places; room = d.room } };
+    ghost view = { λ d. record { table = d.table.shared.table_id; places = d.places; room = d.room; bound = d.bound } };
 
-    ghost invariant = { λ d. IsDesk d.table.shared.table_id d.table.shared.key.places d.table.shared.key.room d.places d.room };
+    ghost invariant = { λ d. IsDesk d.table.shared.table_id d.table.shared.key.places d.table.shared.key.room d.table.shared.key.bound
+        d.places d.room d.bound };
 }
 
 impl<S: Store<Entry<P>>, P: Part> Desk<S, P> {
@@ -55,6 +57,13 @@ impl<S: Store<Entry<P>>, P: Part> Desk<S, P> {
         ensures { result ≡ self.now.room }
     {
         self.room
+    }
+
+    /// The most items that pushes may leave in its queue.
+    pub fn bound(&self) -> u64
+        ensures { result ≡ self.now.bound }
+    {
+        self.bound
     }
 
     /// The idle pen stores an item in its cell, a step for each of its words. A post that follows
@@ -106,15 +115,16 @@ impl<S: Store<Entry<P>>, P: Part> Desk<S, P> {
     }
 
     /// The pen tries the lock, in one step of the machine: a load that reads it held, or else a compare_exchange behind the load.
-    /// `None` where another pen leads.
+    /// `None` where another pen leads. The Book of the lead has the desk's bound.
     pub fn try_lead(&self, pen: &mut Pen<S, P>) -> Option<Lead<S, P>>
         requires table { pen.old.table ≡ self.now.table }
         ensures table { pen.new.table ≡ pen.old.table }
         ensures lead { IfSome result (λ lead. IsLeadOf pen.new lead) }
         ensures wins { IfSome result (λ lead. Wins pen.old.state lead.book pen.new.state) }
+        ensures bound { IfSome result (λ lead. lead.book.bound ≡ self.now.bound) }
         ensures misses { IfNone result (pen.new.state ≡ after_miss pen.old.state) }
     {
-        let book = win_book(&self.table.shared, &mut pen.seat)?;
+        let book = win_book(&self.table.shared, &mut pen.seat, self.bound)?;
         let seat = Snapshot::of(&pen.seat);
         Some(Lead { book, seat })
     }
@@ -148,6 +158,7 @@ impl<S: Store<Entry<P>>, P: Part> Desk<S, P> {
     pub fn release(&self, pen: &mut Pen<S, P>, lead: Lead<S, P>)
         requires table { pen.old.table ≡ self.now.table }
         requires lead { IsLeadOf pen.old lead }
+        requires bound { lead.book.bound ≡ self.now.bound }
         ensures { pen.new ≡ record pen.old { state = after_release pen.old.state } }
     {
         put_home(&self.table.shared, &mut pen.seat, lead.into_boxed());

@@ -14,7 +14,7 @@ use crate::boxed_book::BoxedBook;
 use crate::desk::Desk;
 use crate::error::DeskError;
 use crate::laws::law_opening_and_end;
-use crate::rule::{Board, BoardSeat, DeskTable, NextPen, Plan};
+use crate::rule::{Board, BoardSeat, DeskTable, NextPen, Plan, Slot};
 use crate::tokens::Pen;
 use crate::words::words_of;
 use atomic_table::{Refused, Table};
@@ -37,6 +37,7 @@ impl<S: Store<Entry<P>>, P: Part> Desk<S, P> {
     ) -> Result<(Desk<S, P>, Vec<Pen<S, P>>), DeskError>
         requires empty { S.content store ≡ [] }
         ensures ok { IfOk result (λ r. Opens places lines r.0 r.1.items) }
+        ensures bound { IfOk result (λ r. r.0.bound ≡ lines + 1) }
         ensures in_range { IfOk result (λ _. IsRoom lines) }
         ensures out_of_range { IsErrOf result DeskError.LinesOutOfRange ↔ (¬ (IsRoom lines)) }
     {
@@ -66,7 +67,8 @@ impl<S: Store<Entry<P>>, P: Part> Desk<S, P> {
     ) -> Result<(Desk<S, P>, Vec<Pen<S, P>>), AllocError>
         requires empty { S.content store ≡ [] }
         requires kept { IsLongPage kept }
-        ensures { IfOk result (λ r. Opens places (room_keeping kept) r.0 r.1.items) }
+        ensures ok { IfOk result (λ r. Opens places (room_keeping kept) r.0 r.1.items) }
+        ensures bound { IfOk result (λ r. r.0.bound ≡ room_keeping kept + 1) }
     {
         let room = room_keeping(kept);
         // So many lines are in the range, so that memory alone can be missing.
@@ -96,6 +98,7 @@ impl Desk<Leftist<Entry, Global>> {
         DeskError,
     >
         ensures ok { IfOk result (λ r. Opens places lines r.0 r.1.items) }
+        ensures bound { IfOk result (λ r. r.0.bound ≡ lines + 1) }
         ensures in_range { IfOk result (λ _. IsRoom lines) }
         ensures out_of_range { IsErrOf result DeskError.LinesOutOfRange ↔ (¬ (IsRoom lines)) }
     {
@@ -112,13 +115,16 @@ fn opened<S: Store<Entry<P>>, P: Part>(
 ) -> Result<(Desk<S, P>, Vec<Pen<S, P>>), AllocError>
     requires book { home_of book ≡ volume lines [] }
     requires lines { lines ≤ GREATEST_NUMBER }
-    ensures { IfOk result (λ r. Opens places lines r.0 r.1.items) }
+    ensures ok { IfOk result (λ r. Opens places lines r.0 r.1.items) }
+    ensures bound { IfOk result (λ r. r.0.bound ≡ book.bound) }
 {
+    let bound = book.boxed.bound();
     let (table, pens) = laid_out(alloc, book, places, lines)?;
     let desk = Desk {
         table,
         places,
         room: lines,
+        bound,
     };
     Ok((desk, pens))
 }
@@ -133,16 +139,19 @@ pub fn laid_out<S: Store<Entry<P>>, A: Allocator + Copy, P: Part>(
 ) -> Result<(DeskTable<S, A, P>, Vec<Pen<S, P>, A>), AllocError>
     requires book { home_of book ≡ volume lines [] }
     requires lines { lines ≤ GREATEST_NUMBER }
-    ensures desk { IfOk result (λ r. IsDesk r.0.shared.table_id r.0.shared.key.places r.0.shared.key.room places lines) }
+    ensures desk { IfOk result (λ r. IsDesk r.0.shared.table_id r.0.shared.key.places r.0.shared.key.room r.0.shared.key.bound
+        places lines book.bound) }
     ensures counted { IfOk result (λ r. length r.1.items ≡ places) }
     ensures dealt { IfOk result (λ r. ArePens r.0.shared.table_id lines r.1.items) }
 {
     law_opening_and_end::<S, P>();
+    let bound = book.boxed.bound();
     let mut slots = Vec::with_capacity(alloc, 1)?;
-    slots.push_reserved(Some(book));
+    slots.push_reserved(Slot::with(book));
     let words = vec![in alloc; 0u64; words_of(places)]?;
     let plan = Plan {
         room: lines,
+        bound,
         places,
     };
     let (table, dealer) = match Table::new(alloc, &words, slots, &plan) {

@@ -8,5 +8,12 @@ use Rattle.announce_board.proofs.desk.Desk.close.Goals as goal
 pub returns-clause-ok : goal.returns-clause-ok
 returns-clause-ok g c =
     IfOk-weaker c.book_of.result _ _
-    (λ book h. subst (λ r. IsHomeBook r book) (sym c.self.invariant.room_is ∙ ap (λ (d : Running). d.room) c.self.view_is) (closes _ _ c.law_opening_and_end.ensures.ends _ _ _ _ _ _ c.close-closed.ensures.values.2 c.word-lock.ensures c.take-slot.ensures.value book h))
+    (λ book h. subst (λ r. IsHomeBook r book) (sym c.self.invariant.room_is ∙ ap (λ (d : Running). d.room) c.self.view_is) (closes _ _ c.law_opening_and_end.ensures.ends _ _ _ _ _ _ _ c.close-closed.ensures.values.2 c.word-lock.ensures c.take-slot.ensures.value book h).0)
+    c.book_of.ensures.ok
+
+pub returns-clause-bound : goal.returns-clause-bound
+returns-clause-bound g c =
+    IfOk-weaker c.book_of.result _ _
+    (λ book h. (closes _ _ c.law_opening_and_end.ensures.ends _ _ _ _ _ _ _ c.close-closed.ensures.values.2 c.word-lock.ensures c.take-slot.ensures.value book h).1
+    ∙ (sym c.self.invariant.bound_is ∙ ap (λ (d : Running). d.bound) c.self.view_is))
     c.book_of.ensures.ok

@@ -20,7 +20,8 @@ use Rattle.desk_core.specs.declared.model.PenState.{PenState}
 use Rattle.desk_core.specs.declared.model.View.{View}
 use Rattle.desk_core.specs.declared.model.View.TheVariants.{Dealer, Holder, Testimony}
 use Rattle.announce_board.specs.Rule.{Keeps, Seated, desk_of, book_at_home}
-use Rattle.announce_board.specs.Slots.{Slotted, with_book, book_of}
+use Rattle.announce_board.specs.declared.terms.Terms.{Terms}
+use Rattle.announce_board.specs.Slots.{MeetsTerms, Slotted, with_book, book_of}
 use Rattle.announce_board.specs.Steps.{pen_at}
 use Rattle.announce_board.specs.Opening.{OpeningKept, DealingAllowed, EndsAreTold, IsHomeBook, IsHomeWith, IsHeldWith, HasAll, ClosedByAll}
 use Rattle.announce_board.proofs.Allows.{book_there, one_book}
@@ -44,7 +45,7 @@ opened_with places room home =
     }
 
 pub opening_kept : (wide : Bool) (roomy : ℕ → Type 0) → OpeningsMeetRule → ZerosAreFresh → OpeningKept wide roomy
-opening_kept wide roomy opens zeros room bound places book small empty is = record {
+opening_kept wide roomy opens zeros room terms places book small empty is = record {
   held = false;
   control = λ _. Nothing;
   cells = λ _. item 0 0;
@@ -55,11 +56,11 @@ opening_kept wide roomy opens zeros room bound places book small empty is = reco
   duties = quiet_more [] (Dealer 0 room) none_yet (dealer_quiet 0 room);
   weight = (let a = weighs_more places [] (Dealer 0 room) in omega (arith, a));
   memory = λ all place e. absurd (cc e);
-  bounded = λ b at. ap (λ (x : Volume). x.bound) (one_book book b at) ∙ is;
+  bounded = λ b at. subst (MeetsTerms terms) (sym (one_book book b at)) is;
 }
 
 pub dealing_allowed : (wide : Bool) (roomy : ℕ → Type 0) → MovesReach → DealingKeepsRule → DealingAllowed wide roomy
-dealing_allowed wide roomy goes deals room bound places id place known lt s k at = record {
+dealing_allowed wide roomy goes deals room terms places id place known lt s k at = record {
   held = k.held;
   control = k.control;
   cells = k.cells;
@@ -90,7 +91,7 @@ leads_alone d chief seat p places one has (held, home, (q, there, leads)) =
 
 pub ends_are_told : (wide : Bool) (roomy : ℕ → Type 0) → WordsAreReadBack → HomeIsKnown → PensAreSeated → EveryDealtRunIsLinearizable → EveryDealtRunIsTimed
     → EndsAreTold wide roomy
-ends_are_told wide roomy read known seated linear timed room bound places s k =
+ends_are_told wide roomy read known seated linear timed room terms places s k =
     let back = read wide places s.words k.held k.control k.cells k.words in
     let d : Desk = desk_of room places k.held k.control k.cells s.homes s.views in
     let journal = k.meets.0 in
@@ -159,36 +160,36 @@ with_pen_at room book id m is all other h same e at =
     record { desk = h.desk; reached = h.reached; meets = h.meets; at_home = h.at_home ∙ ap (λ (b : Volume). Some (home_of b)) e; room_is = ap (λ (b : Volume). b.room) (sym e) ∙ h.room_is; seat = id; has = seat_of id m h.desk.views all is same at }
 
 -- the Book that was in the slot of a table which was closed without a seat
-pub closes : (wide : Bool) (roomy : ℕ → Type 0) → EndsAreTold wide roomy → (room bound places : ℕ) (words : List ℕ) (slots : List Slotted) (lock : ℕ) (slot : Slotted)
-    → Final (Keeps wide roomy room bound places) words slots → get_elem? words 0 ≡ some lock → get_elem? slots 0 ≡ some slot
-    → (book : Volume) → (lock ≡ 0) × (slot ≡ with_book book) → IsHomeBook room book × (book.bound ≡ bound)
-closes wide roomy ends room bound places words slots lock slot (s, keeps, same, long, values) first last book h =
+pub closes : (wide : Bool) (roomy : ℕ → Type 0) → EndsAreTold wide roomy → (room : ℕ) (terms : Terms) (places : ℕ) (words : List ℕ) (slots : List Slotted) (lock : ℕ) (slot : Slotted)
+    → Final (Keeps wide roomy room terms places) words slots → get_elem? words 0 ≡ some lock → get_elem? slots 0 ≡ some slot
+    → (book : Volume) → (lock ≡ 0) × (slot ≡ with_book book) → IsHomeBook room book × MeetsTerms terms book
+closes wide roomy ends room terms places words slots lock slot (s, keeps, same, long, values) first last book h =
     let n : slice_index s.words lock_at ≡ 0 = word_first s.words lock (ap (λ y. get_elem? y 0) same ∙ first) ∙ h.0 in
-    let t = (ends room bound places s keeps).free n in
+    let t = (ends room terms places s keeps).free n in
     let there = values 0 (with_book t.0) t.1 in
     let f : some (with_book t.0) ≡ some (with_book book) = sym there ∙ (last ∙ ap some h.1) in
     let g : t.0 ≡ book = cc in
-    (subst (IsHomeBook room) g t.2, subst (λ (b : Volume). b.bound ≡ bound) g t.5)
+    (subst (IsHomeBook room) g t.2, subst (MeetsTerms terms) g t.5)
 
 -- the Book that was in the slot of a table which was closed with the seat of a pen
-pub closes_with : (wide : Bool) (roomy : ℕ → Type 0) → EndsAreTold wide roomy → (room bound places id : ℕ) (m : Seated) (words : List ℕ) (slots : List Slotted) (lock : ℕ) (slot : Slotted) → m.0 ≡ Holder (pen_at m)
-    → Final (Seen (Keeps wide roomy room bound places) id m.0) words slots → get_elem? words 0 ≡ some lock → get_elem? slots 0 ≡ some slot
-    → (book : Volume) → (lock ≡ 0) × (slot ≡ with_book book) → IsHomeWith room (pen_at m) book × Knows (pen_at m).room (pen_at m) book.journal × ((pen_at m).leading ≡ false) × (book.bound ≡ bound)
-closes_with wide roomy ends room bound places id m words slots lock slot is (s, seen, same, long, values) first last book h =
+pub closes_with : (wide : Bool) (roomy : ℕ → Type 0) → EndsAreTold wide roomy → (room : ℕ) (terms : Terms) (places id : ℕ) (m : Seated) (words : List ℕ) (slots : List Slotted) (lock : ℕ) (slot : Slotted) → m.0 ≡ Holder (pen_at m)
+    → Final (Seen (Keeps wide roomy room terms places) id m.0) words slots → get_elem? words 0 ≡ some lock → get_elem? slots 0 ≡ some slot
+    → (book : Volume) → (lock ≡ 0) × (slot ≡ with_book book) → IsHomeWith room (pen_at m) book × Knows (pen_at m).room (pen_at m) book.journal × ((pen_at m).leading ≡ false) × MeetsTerms terms book
+closes_with wide roomy ends room terms places id m words slots lock slot is (s, seen, same, long, values) first last book h =
     let n : slice_index s.words lock_at ≡ 0 = word_first s.words lock (ap (λ y. get_elem? y 0) same ∙ first) ∙ h.0 in
-    let t = (ends room bound places s seen.0).free n in
+    let t = (ends room terms places s seen.0).free n in
     let there = values 0 (with_book t.0) t.1 in
     let f : some (with_book t.0) ≡ some (with_book book) = sym there ∙ (last ∙ ap some h.1) in
     let g : t.0 ≡ book = cc in
     let told = t.4 id m is seen.1 in
-    (with_pen_at room book id m is s.views t.0 t.2 t.3 g seen.1, subst (λ (b : Volume). Knows (pen_at m).room (pen_at m) b.journal) g told.0, told.1, subst (λ (b : Volume). b.bound ≡ bound) g t.5)
+    (with_pen_at room book id m is s.views t.0 t.2 t.3 g seen.1, subst (λ (b : Volume). Knows (pen_at m).room (pen_at m) b.journal) g told.0, told.1, subst (MeetsTerms terms) g t.5)
 
 -- the Book that was in the slot of a table which was closed with a testimony of all pens
-pub closes_all : (wide : Bool) (roomy : ℕ → Type 0) → EndsAreTold wide roomy → (room bound places id : ℕ) (v : View) (pens : List PenState) (words : List ℕ) (slots : List Slotted) (slot : Slotted)
-    → (n : ℕ) → v ≡ Testimony pens n → Final (Seen (Keeps wide roomy room bound places) id v) words slots → HasAll places pens n → get_elem? slots 0 ≡ some slot
-    → (book : Volume) × (slot ≡ with_book book) × ClosedByAll room bound places pens book
-closes_all wide roomy ends room bound places id v pens words slots slot n is (s, seen, same, long, values) all last =
-    let t = (ends room bound places s seen.0).all id pens n (seen.1 ∙ ap some is) all in
+pub closes_all : (wide : Bool) (roomy : ℕ → Type 0) → EndsAreTold wide roomy → (room : ℕ) (terms : Terms) (places id : ℕ) (v : View) (pens : List PenState) (words : List ℕ) (slots : List Slotted) (slot : Slotted)
+    → (n : ℕ) → v ≡ Testimony pens n → Final (Seen (Keeps wide roomy room terms places) id v) words slots → HasAll places pens n → get_elem? slots 0 ≡ some slot
+    → (book : Volume) × (slot ≡ with_book book) × ClosedByAll room terms places pens book
+closes_all wide roomy ends room terms places id v pens words slots slot n is (s, seen, same, long, values) all last =
+    let t = (ends room terms places s seen.0).all id pens n (seen.1 ∙ ap some is) all in
     let there = values 0 (with_book t.0) t.1 in
     let f : some (with_book t.0) ≡ some slot = sym there ∙ last in
     let g : slot ≡ with_book t.0 = cc in
@@ -199,26 +200,26 @@ pub book_got : (book got : Volume) (slot : Slotted) → slot ≡ with_book book 
 book_got book got slot e f = let g : Some got ≡ Some book = f ∙ ap book_of e in sym (let h : got ≡ book = cc in h)
 
 -- the same, named otherwise
-pub closes_all_as : (wide : Bool) (roomy : ℕ → Type 0) → EndsAreTold wide roomy → (room room' bound bound' places places' id : ℕ) (v : View) (pens : List PenState) (words : List ℕ) (slots : List Slotted) (slot : Slotted)
-    → (n : ℕ) → v ≡ Testimony pens n → Final (Seen (Keeps wide roomy room bound places) id v) words slots → get_elem? slots 0 ≡ some slot → room ≡ room' → bound ≡ bound' → places ≡ places'
-    → HasAll places' pens n → (book : Volume) × (slot ≡ with_book book) × ClosedByAll room' bound' places' pens book
-closes_all_as wide roomy ends room room' bound bound' places places' id v pens words slots slot n is final last e b f all =
-    let t = closes_all wide roomy ends room bound places id v pens words slots slot n is final (subst (λ k. HasAll k pens n) (sym f) all) last in
-    (t.0, t.1, subst (λ r. ClosedByAll r bound' places' pens t.0) e (subst (λ x. ClosedByAll room x places' pens t.0) b (subst (λ k. ClosedByAll room bound k pens t.0) f t.2)))
+pub closes_all_as : (wide : Bool) (roomy : ℕ → Type 0) → EndsAreTold wide roomy → (room room' : ℕ) (terms terms' : Terms) (places places' id : ℕ) (v : View) (pens : List PenState) (words : List ℕ) (slots : List Slotted) (slot : Slotted)
+    → (n : ℕ) → v ≡ Testimony pens n → Final (Seen (Keeps wide roomy room terms places) id v) words slots → get_elem? slots 0 ≡ some slot → room ≡ room' → terms ≡ terms' → places ≡ places'
+    → HasAll places' pens n → (book : Volume) × (slot ≡ with_book book) × ClosedByAll room' terms' places' pens book
+closes_all_as wide roomy ends room room' terms terms' places places' id v pens words slots slot n is final last e b f all =
+    let t = closes_all wide roomy ends room terms places id v pens words slots slot n is final (subst (λ k. HasAll k pens n) (sym f) all) last in
+    (t.0, t.1, subst (λ r. ClosedByAll r terms' places' pens t.0) e (subst (λ x. ClosedByAll room x places' pens t.0) b (subst (λ k. ClosedByAll room terms k pens t.0) f t.2)))
 
 -- the lock word of a table that was closed with the seat of a pen, where it was not 0
-pub closes_held : (wide : Bool) (roomy : ℕ → Type 0) → EndsAreTold wide roomy → (room bound places id : ℕ) (m : Seated) (words : List ℕ) (slots : List Slotted) (lock : ℕ) → m.0 ≡ Holder (pen_at m)
-    → Final (Seen (Keeps wide roomy room bound places) id m.0) words slots → get_elem? words 0 ≡ some lock → lock ≢ 0 → IsHeldWith room (pen_at m)
-closes_held wide roomy ends room bound places id m words slots lock is (s, seen, same, long, values) first held =
-    let t = (ends room bound places s seen.0).held (λ e. held (sym (word_first s.words lock (ap (λ y. get_elem? y 0) same ∙ first)) ∙ e)) in
+pub closes_held : (wide : Bool) (roomy : ℕ → Type 0) → EndsAreTold wide roomy → (room : ℕ) (terms : Terms) (places id : ℕ) (m : Seated) (words : List ℕ) (slots : List Slotted) (lock : ℕ) → m.0 ≡ Holder (pen_at m)
+    → Final (Seen (Keeps wide roomy room terms places) id m.0) words slots → get_elem? words 0 ≡ some lock → lock ≢ 0 → IsHeldWith room (pen_at m)
+closes_held wide roomy ends room terms places id m words slots lock is (s, seen, same, long, values) first held =
+    let t = (ends room terms places s seen.0).held (λ e. held (sym (word_first s.words lock (ap (λ y. get_elem? y 0) same ∙ first)) ∙ e)) in
     let h = t.1 in
     record { desk = h.desk; reached = h.reached; meets = h.meets; held = h.held; room_is = h.room_is; seat = id; has = seat_of id m h.desk.views s.views is t.2 seen.1 }
 
 -- the lock word of a table of one place that was closed with the seat of its pen
-pub closes_alone : (wide : Bool) (roomy : ℕ → Type 0) → EndsAreTold wide roomy → (room bound places id : ℕ) (m : Seated) (words : List ℕ) (slots : List Slotted) (lock : ℕ) → m.0 ≡ Holder (pen_at m)
-    → Final (Seen (Keeps wide roomy room bound places) id m.0) words slots → get_elem? words 0 ≡ some lock → lock ≢ 0 → places ≡ 1 → (pen_at m).leading ≡ true
-closes_alone wide roomy ends room bound places id m words slots lock is (s, seen, same, long, values) first held one =
-    (ends room bound places s seen.0).alone (λ e. held (sym (word_first s.words lock (ap (λ y. get_elem? y 0) same ∙ first)) ∙ e)) one id m is seen.1
+pub closes_alone : (wide : Bool) (roomy : ℕ → Type 0) → EndsAreTold wide roomy → (room : ℕ) (terms : Terms) (places id : ℕ) (m : Seated) (words : List ℕ) (slots : List Slotted) (lock : ℕ) → m.0 ≡ Holder (pen_at m)
+    → Final (Seen (Keeps wide roomy room terms places) id m.0) words slots → get_elem? words 0 ≡ some lock → lock ≢ 0 → places ≡ 1 → (pen_at m).leading ≡ true
+closes_alone wide roomy ends room terms places id m words slots lock is (s, seen, same, long, values) first held one =
+    (ends room terms places s seen.0).alone (λ e. held (sym (word_first s.words lock (ap (λ y. get_elem? y 0) same ∙ first)) ∙ e)) one id m is seen.1
 
 -- the same, named otherwise
 pub home_as : (room room' : ℕ) (p p' : PenState) (book : Volume) → room ≡ room' → p ≡ p' → IsHomeWith room p book → IsHomeWith room' p' book

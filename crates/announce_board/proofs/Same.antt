@@ -201,7 +201,7 @@ same_applied now p q r a b may may' e =
     ∙ ap (λ j. applied p (gained (p.posts + 1) r b) (told_full_by p.told_full b) j now) e)
 
 abbrev journal_in : Slotted → List Line
-journal_in (says n) = []
+journal_in (says terms) = []
 journal_in (with_book b) = b.journal
 
 abbrev first_journal : List (ℕ × Slotted) → List Line

@@ -30,7 +30,8 @@ use Rattle.desk_core.specs.declared.model.Due.{Due}
 use Rattle.desk_core.specs.declared.model.PenState.{PenState}
 use Rattle.desk_core.specs.declared.model.View.TheVariants.{Holder}
 use Rattle.announce_board.specs.Rule.{Seated, pen_of}
-use Rattle.announce_board.specs.Slots.{Slotted, with_book, says}
+use Rattle.announce_board.specs.declared.terms.Terms.{Terms}
+use Rattle.announce_board.specs.Slots.{MeetsTerms, Slotted, with_book, says}
 
 -- the pen has a seat at a desk that is at the end of some run of the machine, and meets the rule
 pub record StandsAt (d : Desk) (p : PenState) : Type 0 where
@@ -77,18 +78,18 @@ LockRead st before word after =
     (word ≡ 0 → after ≡ before) × (word ≢ 0 → (word ≡ 1) × Becomes before (after_miss (pen_at before)) after)
 
 -- The lock was tried. Where its word was 0 the pen, which did not lead, has the slot with the Book,
--- and knows of its journal what a pen knows of the one at home; and the Book has the bound that the step says. Else its word was 1.
-pub record LockWon (bound : ℕ) (before after : Seated) : Type 0 where
+-- and knows of its journal what a pen knows of the one at home; and the Book meets the terms that the step says. Else its word was 1.
+pub record LockWon (terms : Terms) (before after : Seated) : Type 0 where
   pub book : Volume
   pub room : book.room ≡ (pen_at before).room
-  pub bounded : book.bound ≡ bound
+  pub bounded : MeetsTerms terms book
   pub knows : Knows (pen_at before).room (pen_at before) book.journal
   pub led_not : (pen_at before).leading ≡ false
   pub next : ◌≡◌ {A = Seated} after (Holder (after_lead (pen_at before) book.journal), (0, with_book book) ∷ before.1)
 
 abbrev pub LockTried : Step Slotted → Seated → ℕ → Seated → Type 0
 LockTried st before word after =
-    (word ≡ 0 → (bound : ℕ) → st.said ≡ some (says bound) → LockWon bound before after) × (word ≢ 0 → (word ≡ 1) × Becomes before (after_miss (pen_at before)) after)
+    (word ≡ 0 → (terms : Terms) → st.said ≡ some (says terms) → LockWon terms before after) × (word ≢ 0 → (word ≡ 1) × Becomes before (after_miss (pen_at before)) after)
 
 -- the leader read this control of a desk
 pub record ControlRead (place : ℕ) (before : Seated) (word : ℕ) (after : Seated) : Type 0 where

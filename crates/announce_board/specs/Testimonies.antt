@@ -3,6 +3,7 @@ use Rattle.std.specs.Prelude.{◌≡◌, ℕ, ◌+◌, Bool, false, List, [], �
 use mathlib.Core.Option.{none}
 use Rattle.atomic_table.specs.Seated.{TableId}
 use Rattle.atomic_table.specs.Table.{Step, Allows, Splits, Joins, step}
+use Rattle.announce_board.specs.declared.terms.Terms.{Terms}
 use Rattle.announce_board.specs.Slots.{Slotted}
 use Rattle.desk_core.specs.Layout.{lock_at}
 use Rattle.desk_core.specs.Testimonies.{after_retiring}
@@ -73,21 +74,21 @@ Compared st before word after = (◌≡◌ {A = Seated} after before) × ((room 
 
 -- each pen may give testimony
 abbrev pub TestifyAllowed : Bool → (ℕ → Type 0) → Type 0
-TestifyAllowed wide roomy = AtEachPen (λ room bound places slots id m.
-    Splits (Keeps wide roomy room bound places) id m.0 m.0 (testimony_of m.0))
+TestifyAllowed wide roomy = AtEachPen (λ room terms places slots id m.
+    Splits (Keeps wide roomy room terms places) id m.0 m.0 (testimony_of m.0))
 
 -- and each that does not lead may retire
 abbrev pub RetireAllowed : Bool → (ℕ → Type 0) → Type 0
-RetireAllowed wide roomy = AtEachPen (λ room bound places slots id m. (pen_at m).leading ≡ false
-    → Splits (Keeps wide roomy room bound places) id m.0 (retiree m.0) (last_testimony m.0))
+RetireAllowed wide roomy = AtEachPen (λ room terms places slots id m. (pen_at m).leading ≡ false
+    → Splits (Keeps wide roomy room terms places) id m.0 (retiree m.0) (last_testimony m.0))
 
 -- any two testimonies may be put together
 abbrev pub GatherAllowed : Bool → (ℕ → Type 0) → Type 0
-GatherAllowed wide roomy = (room bound places id : ℕ) (v : View) (other : ℕ) (w : View)
+GatherAllowed wide roomy = (room : ℕ) (terms : Terms) (places id : ℕ) (v : View) (other : ℕ) (w : View)
     → v ≡ testimony_at v → w ≡ testimony_at w
-    → Joins (Keeps wide roomy room bound places) id v other w (both_testify v w) (Testimony [] 0)
+    → Joins (Keeps wide roomy room terms places) id v other w (both_testify v w) (Testimony [] 0)
 
 -- and the pens of each may be compared
 abbrev pub CompareAllowed : Bool → (ℕ → Type 0) → Type 0
-CompareAllowed wide roomy = (room bound places slots id : ℕ) (m : Seated) → m.0 ≡ testimony_at m.0
-    → Allows (Keeps wide roomy room bound places) slots id m lock_at (λ n. n) (Compared (step slots lock_at 0 0 none) m)
+CompareAllowed wide roomy = (room : ℕ) (terms : Terms) (places slots id : ℕ) (m : Seated) → m.0 ≡ testimony_at m.0
+    → Allows (Keeps wide roomy room terms places) slots id m lock_at (λ n. n) (Compared (step slots lock_at 0 0 none) m)

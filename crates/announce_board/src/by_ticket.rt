@@ -14,7 +14,7 @@ ghost use Rattle.desk_core.specs.Knows.{NoneAbove};
 ghost use Rattle.desk_core.specs.Layout.{lock_at};
 ghost use Rattle.desk_core.specs.Pen.{IsIdle, after_release_by_ticket};
 ghost use Rattle.announce_board.specs.Asking.{IsAnswerBy, IsAboveAll, IsFullFor};
-ghost use Rattle.announce_board.specs.Slots.{out};
+ghost use Rattle.announce_board.specs.Slots.{MeetsTerms, out};
 ghost use Rattle.announce_board.specs.Steps.{pen_at};
 ghost use Rattle.announce_board.specs.Tokens.{IsLeadOf, is_idle};
 
@@ -51,7 +51,7 @@ fn put_home_by_ticket<S: TicketStore<Entry<P>>, P: Part>(
     requires few { serial ≤ GREATEST_NUMBER }
     requires used { NoneAbove (pen_at seat.old.me).place (pen_at seat.old.me).posts (pen_at seat.old.me).hand }
     requires book { home_of book ≡ volume (pen_at seat.old.me).room (pen_at seat.old.me).hand }
-    requires bound { book.bound ≡ board.now.key.bound }
+    requires terms { MeetsTerms board.now.key.terms book }
     ensures table { seat.new.table_id ≡ seat.old.table_id }
     ensures may { MayDo (limits_of book) (pen_at seat.old.me).hand (ByTicket ticketed) result }
     ensures answers { IsAnswerBy (pen_at seat.old.me).room (ByTicket ticketed) result }
@@ -87,7 +87,7 @@ impl<S: TicketStore<Entry<P>>, P: Part> Desk<S, P> {
     ) -> Answer<Item<P>>
         requires table { pen.old.table ≡ self.now.table }
         requires lead { IsLeadOf pen.old lead }
-        requires bound { lead.book.bound ≡ self.now.bound }
+        requires terms { MeetsTerms self.now.terms lead.book }
         requires due { pen.old.state.due ≡ None }
         requires idle { is_idle pen.old.state.standing ≡ true }
         requires few { pen.old.state.posts < GREATEST_NUMBER }

@@ -2,7 +2,7 @@
 ghost use Rattle.std.specs.Prelude.{◌≡◌, ◌≢◌, true, false, IfOk, IfErr};
 ghost use Rattle.pq_book.specs.Book.{Volume};
 ghost use Rattle.desk_core.specs.Knows.{Knows};
-ghost use Rattle.announce_board.specs.Slots.{with_book};
+ghost use Rattle.announce_board.specs.Slots.{MeetsTerms, with_book};
 ghost use Rattle.announce_board.specs.Opening.{IsHomeBook, IsHomeWith, IsHeld, IsHeldWith};
 ghost use Rattle.announce_board.specs.Opening.{HasAll, IsHomeWithAll, AllKnow, LinesAreOfThese, HavePlaces};
 
@@ -38,7 +38,7 @@ impl<S: Store<Entry<P>>, P: Part> Desk<S, P> {
     /// only where a pen leads, or kept the Book for good.
     pub fn close(self) -> Result<Book<S, Global, P>, LockHeld>
         ensures ok { IfOk result (λ book. IsHomeBook self.room book) }
-        ensures bound { IfOk result (λ book. book.bound ≡ self.bound) }
+        ensures terms { IfOk result (λ book. MeetsTerms self.terms book) }
         ensures err { IfErr result (λ _. IsHeld self.room) }
     {
         law_opening_and_end::<S, P>();
@@ -46,7 +46,7 @@ impl<S: Store<Entry<P>>, P: Part> Desk<S, P> {
             table,
             places: _,
             room: _,
-            bound: _,
+            terms: _,
         } = self;
         let mut closed = table.close();
         let lock = closed.word(LOCK);
@@ -62,7 +62,7 @@ impl<S: Store<Entry<P>>, P: Part> Desk<S, P> {
     pub fn close_with(self, pen: Pen<S, P>) -> Result<Book<S, Global, P>, LockHeld>
         requires table { pen.table ≡ self.table }
         ensures ok { IfOk result (λ book. IsHomeWith self.room pen.state book) }
-        ensures bound { IfOk result (λ book. book.bound ≡ self.bound) }
+        ensures terms { IfOk result (λ book. MeetsTerms self.terms book) }
         ensures knows { IfOk result (λ book. Knows pen.state.room pen.state book.journal) }
         ensures led_not { IfOk result (λ _. pen.state.leading ≡ false) }
         ensures err { IfErr result (λ _. IsHeldWith self.room pen.state) }
@@ -73,7 +73,7 @@ impl<S: Store<Entry<P>>, P: Part> Desk<S, P> {
             table,
             places: _,
             room: _,
-            bound: _,
+            terms: _,
         } = self;
         let Pen { seat, .. } = pen;
         let mut closed = table.close_with(seat);
@@ -91,7 +91,7 @@ impl<S: Store<Entry<P>>, P: Part> Desk<S, P> {
         requires table { testimony.table ≡ self.table }
         requires all { HasAll self.places testimony.pens testimony.licences }
         ensures home { IsHomeWithAll self.room testimony.pens result }
-        ensures bound { result.bound ≡ self.bound }
+        ensures terms { MeetsTerms self.terms result }
         ensures knows { AllKnow testimony.pens result }
         ensures only { LinesAreOfThese testimony.pens result.journal }
         ensures placed { HavePlaces self.places testimony.pens }
@@ -101,7 +101,7 @@ impl<S: Store<Entry<P>>, P: Part> Desk<S, P> {
             table,
             places: _,
             room: _,
-            bound: _,
+            terms: _,
         } = self;
         let Testimony { badge } = testimony;
         let mut closed = table.close_with(badge.into_seat());

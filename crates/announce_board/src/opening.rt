@@ -8,6 +8,7 @@ ghost use Rattle.desk_core.specs.Desk.{volume};
 ghost use Rattle.desk_core.specs.Layout.{word_count};
 ghost use Rattle.desk_core.specs.declared.model.View.TheVariants.{Dealer};
 ghost use Rattle.announce_board.specs.Opening.{Opens, ArePens, pen_of_place};
+ghost use Rattle.announce_board.specs.Slots.{terms_of, plain_terms};
 ghost use Rattle.announce_board.specs.Tokens.{IsDesk};
 
 use crate::boxed_book::BoxedBook;
@@ -37,7 +38,7 @@ impl<S: Store<Entry<P>>, P: Part> Desk<S, P> {
     ) -> Result<(Desk<S, P>, Vec<Pen<S, P>>), DeskError>
         requires empty { S.content store ≡ [] }
         ensures ok { IfOk result (λ r. Opens places lines r.0 r.1.items) }
-        ensures bound { IfOk result (λ r. r.0.bound ≡ lines + 1) }
+        ensures terms { IfOk result (λ r. r.0.terms ≡ plain_terms lines) }
         ensures in_range { IfOk result (λ _. IsRoom lines) }
         ensures out_of_range { IsErrOf result DeskError.LinesOutOfRange ↔ (¬ (IsRoom lines)) }
     {
@@ -68,7 +69,7 @@ impl<S: Store<Entry<P>>, P: Part> Desk<S, P> {
         requires empty { S.content store ≡ [] }
         requires kept { IsLongPage kept }
         ensures ok { IfOk result (λ r. Opens places (room_keeping kept) r.0 r.1.items) }
-        ensures bound { IfOk result (λ r. r.0.bound ≡ room_keeping kept + 1) }
+        ensures terms { IfOk result (λ r. r.0.terms ≡ plain_terms (room_keeping kept)) }
     {
         let room = room_keeping(kept);
         // So many lines are in the range, so that memory alone can be missing.
@@ -98,7 +99,7 @@ impl Desk<Leftist<Entry, Global>> {
         DeskError,
     >
         ensures ok { IfOk result (λ r. Opens places lines r.0 r.1.items) }
-        ensures bound { IfOk result (λ r. r.0.bound ≡ lines + 1) }
+        ensures terms { IfOk result (λ r. r.0.terms ≡ plain_terms lines) }
         ensures in_range { IfOk result (λ _. IsRoom lines) }
         ensures out_of_range { IsErrOf result DeskError.LinesOutOfRange ↔ (¬ (IsRoom lines)) }
     {
@@ -116,15 +117,15 @@ fn opened<S: Store<Entry<P>>, P: Part>(
     requires book { home_of book ≡ volume lines [] }
     requires lines { lines ≤ GREATEST_NUMBER }
     ensures ok { IfOk result (λ r. Opens places lines r.0 r.1.items) }
-    ensures bound { IfOk result (λ r. r.0.bound ≡ book.bound) }
+    ensures terms { IfOk result (λ r. r.0.terms ≡ terms_of book) }
 {
-    let bound = book.boxed.bound();
+    let terms = book.terms();
     let (table, pens) = laid_out(alloc, book, places, lines)?;
     let desk = Desk {
         table,
         places,
         room: lines,
-        bound,
+        terms,
     };
     Ok((desk, pens))
 }
@@ -139,19 +140,19 @@ pub fn laid_out<S: Store<Entry<P>>, A: Allocator + Copy, P: Part>(
 ) -> Result<(DeskTable<S, A, P>, Vec<Pen<S, P>, A>), AllocError>
     requires book { home_of book ≡ volume lines [] }
     requires lines { lines ≤ GREATEST_NUMBER }
-    ensures desk { IfOk result (λ r. IsDesk r.0.shared.table_id r.0.shared.key.places r.0.shared.key.room r.0.shared.key.bound
-        places lines book.bound) }
+    ensures desk { IfOk result (λ r. IsDesk r.0.shared.table_id r.0.shared.key.places r.0.shared.key.room r.0.shared.key.terms
+        places lines (terms_of book)) }
     ensures counted { IfOk result (λ r. length r.1.items ≡ places) }
     ensures dealt { IfOk result (λ r. ArePens r.0.shared.table_id lines r.1.items) }
 {
     law_opening_and_end::<S, P>();
-    let bound = book.boxed.bound();
+    let terms = book.terms();
     let mut slots = Vec::with_capacity(alloc, 1)?;
     slots.push_reserved(Slot::with(book));
     let words = vec![in alloc; 0u64; words_of(places)]?;
     let plan = Plan {
         room: lines,
-        bound,
+        terms,
         places,
     };
     let (table, dealer) = match Table::new(alloc, &words, slots, &plan) {

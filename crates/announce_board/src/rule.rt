@@ -8,6 +8,7 @@ ghost use Rattle.announce_board.specs.Steps.{AnswerStored, Applied, Released, Re
 ghost use Rattle.desk_core.specs.declared.model.View.TheVariants.{Dealer};
 
 use crate::boxed_book::BoxedBook;
+use crate::terms::Terms;
 use atomic_table::{Play, Seat, Shared, Split, Table, TableRule};
 use desk_core::View;
 use leftist_heap::Store;
@@ -16,20 +17,19 @@ use pq_types::Part;
 use std::marker::{Model, PhantomData};
 use std::snapshot::Snapshot;
 
-/// What a desk is made for: the room of its journal, the most items that pushes may leave, and the number of its places.
+/// What a desk is made for: the room of its journal, its terms, and the number of its places.
 #[derive(Drop)]
 pub struct Plan {
     pub room: u64,
-    pub bound: u64,
+    pub terms: Terms,
     pub places: u16,
 }
 
-/// What lies in the slot of a desk's table: the Book, but while a pen leads. In a proof alone a step says a number by one that has
-/// none.
+/// What lies in the slot of a desk's table: the Book, but while a pen leads. In a proof alone a step says terms by one that has none.
 #[derive(Drop)]
 pub struct Slot<S: Store<Entry<P>>, P: Part = u32> {
     book: Option<BoxedBook<S, P>>,
-    said: Snapshot<u64>,
+    said: Snapshot<Terms>,
 }
 
 impl<S: Store<Entry<P>>, P: Part> Model for Slot<S, P> {
@@ -46,9 +46,13 @@ impl<S: Store<Entry<P>>, P: Part> Slot<S, P> {
     pub fn with(book: BoxedBook<S, P>) -> Self
         ensures { result ≡ with_book book }
     {
+        let nothing = Terms {
+            bound: 0,
+            allowed: 0,
+        };
         Slot {
             book: Some(book),
-            said: Snapshot::of(&0),
+            said: Snapshot::of(&nothing),
         }
     }
 
@@ -57,17 +61,20 @@ impl<S: Store<Entry<P>>, P: Part> Slot<S, P> {
     pub fn out() -> Self
         ensures { result ≡ out }
     {
-        Slot::saying(0)
+        Slot::saying(Terms {
+            bound: 0,
+            allowed: 0,
+        })
     }
 
-    /// One without a Book that says this number.
+    /// One without a Book that says these terms.
     #[inline(always)]
-    pub fn saying(number: u64) -> Self
-        ensures { result ≡ says number }
+    pub fn saying(terms: Terms) -> Self
+        ensures { result ≡ says terms }
     {
         Slot {
             book: None,
-            said: Snapshot::of(&number),
+            said: Snapshot::of(&terms),
         }
     }
 
@@ -88,7 +95,7 @@ pub struct DeskRule<P: Part> {
 }
 
 impl<S: Store<Entry<P>>, P: Part> TableRule<Slot<S, P>, View, Plan> for DeskRule<P> {
-    ghost holds = { λ plan. Keeps P.wide (AllHaveRoom S.room) plan.room plan.bound plan.places };
+    ghost holds = { λ plan. Keeps P.wide (AllHaveRoom S.room) plan.room plan.terms plan.places };
 
     ghost first = { λ plan. Dealer 0 plan.room };
 }
@@ -134,7 +141,7 @@ impl<S: Store<Entry<P>>, P: Part> Play<Slot<S, P>, View> for ReadLock {
     ghost then = { LockRead };
 }
 
-/// The lock is tried, at a desk of the bound that is said.
+/// The lock is tried, at a desk of the terms that are said.
 pub struct TryLock;
 
 impl<S: Store<Entry<P>>, P: Part> Play<Slot<S, P>, View> for TryLock {

@@ -12,4 +12,4 @@ load-requires g c = (c.requires.here, c.requires.lock, c.law_steps_are_allowed.e
 pub compare_exchange_with-requires : goal.compare_exchange_with-requires
 compare_exchange_with-requires g c =
     let same = c.load.ensures.2.0 c.if-load-ne0.false in
-    (c.load.ensures.0 ∙ c.requires.here, c.requires.lock, c.law_steps_are_allowed.ensures.try_lock _ _ _ _ _ _ (subst (λ (m : Seated). m.0 ≡ Holder (pen_at m)) (sym same) c.requires.is) _ (ap some (c.saying-said.ensures ∙ ap says c.requires.bound)))
+    (c.load.ensures.0 ∙ c.requires.here, c.requires.lock, c.law_steps_are_allowed.ensures.try_lock _ _ _ _ _ _ (subst (λ (m : Seated). m.0 ≡ Holder (pen_at m)) (sym same) c.requires.is) _ (ap some (c.saying-said.ensures ∙ ap says c.requires.terms)))

@@ -2,13 +2,14 @@ use Rattle.std.proofs.Common.{sym, ◌∷◌, ◌+◌, ◌<◌, length, ◌∙�
 use Rattle.pq_types.specs.Operation.{Asked}
 use Rattle.atomic_table.specs.Table.{rest}
 use Rattle.announce_board.specs.Rule.{Seated}
+use Rattle.announce_board.specs.Slots.{MeetsTerms}
 use Rattle.announce_board.specs.Steps.{pen_at}
 use Rattle.announce_board.specs.Asking.{IsFullFor}
 use Rattle.announce_board.proofs.ItemSteps.{wider_request}
 use Rattle.pq_types.specs.History.{left, last_serial}
-use Rattle.pq_book.specs.Book.{Volume, AllHaveRoom}
+use Rattle.pq_book.specs.Book.{AllHaveRoom}
 use Rattle.desk_core.specs.Home.{Home, home_of}
-use Rattle.announce_board.proofs.Homes.{may_tell, carried_out, release_with_owes, released_with}
+use Rattle.announce_board.proofs.Homes.{may_tell, still_meets, carried_out, release_with_owes, released_with}
 use Rattle.announce_board.proofs.ToldLemmas.{above_the_last, own_answer_fits, own_behind, own_full, own_barred}
 use Rattle.announce_board.proofs.own_request.put_home_with.Goals as goal
 
@@ -23,7 +24,7 @@ store-requires g c =
       h.lock,
       release_with_owes _ _ c.law_steps_are_allowed.ensures.release_with _ _ _ _ _ c.args.seat.now.me _ c.apply-answer.new.self (Asked c.args.request) c.apply-answer.result h.is h.leads h.due h.idle
           (omega (arith, h.serial, h.few)) proper may
-          (carried_out c.args.seat.now.me c.args.place c.args.serial c.deref_mut.result.now c.apply-answer.new.self (Asked c.args.request) c.apply-answer.result there h.place h.serial e.terms e.journal) (e.terms.1 ∙ (ap (λ (v : Volume). v.bound) (c.deref_mut.ensures.value ∙ c.book.view_is) ∙ h.bound)) (c.exchange.ensures.3 ∙ ap (λ s. (c.args.seat.now.me.0, (0, s) ∷ rest c.args.seat.now.me.1)) c.with.ensures),
+          (carried_out c.args.seat.now.me c.args.place c.args.serial c.deref_mut.result.now c.apply-answer.new.self (Asked c.args.request) c.apply-answer.result there h.place h.serial e.terms e.journal) (still_meets _ _ _ e.terms e.allowed (subst (MeetsTerms _) (sym (c.deref_mut.ensures.value ∙ c.book.view_is)) h.terms)) (c.exchange.ensures.3 ∙ ap (λ s. (c.args.seat.now.me.0, (0, s) ∷ rest c.args.seat.now.me.1)) c.with.ensures),
     )
 
 pub returns-clause-after : goal.returns-clause-after

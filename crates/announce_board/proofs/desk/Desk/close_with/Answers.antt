@@ -1,6 +1,7 @@
 use Rattle.std.proofs.Common.{◌≡◌, true, false, ap, subst, sym, ◌∙◌}
 use Rattle.std.proofs.lemmas.Result.{IfOk-weaker, IfErr-weaker}
 use Rattle.desk_core.specs.Knows.{Knows}
+use Rattle.announce_board.specs.Slots.{MeetsTerms}
 use Rattle.announce_board.specs.Tokens.{AtDesk, Running}
 use Rattle.announce_board.proofs.Ends.{closes_with, closes_held, closes_alone, home_as, held_as}
 use Rattle.announce_board.proofs.desk.Desk.close_with.Goals as goal
@@ -39,9 +40,8 @@ returns-clause-alone g c =
     (sym c.self.invariant.places_are ∙ (ap (λ (d : Running). d.places) c.self.view_is ∙ one))))
     c.book_of.ensures.err
 
-pub returns-clause-bound : goal.returns-clause-bound
-returns-clause-bound g c =
+pub returns-clause-terms : goal.returns-clause-terms
+returns-clause-terms g c =
     IfOk-weaker c.book_of.result _ _
-    (λ book h. (closes_with _ _ c.law_opening_and_end.ensures.ends _ _ _ _ c.pen.inside.seat.me _ _ _ _ c.pen.invariant.at.is c.close_with-closed.ensures.values.2 c.word-lock.ensures c.take-slot.ensures.value book h).3
-    ∙ (sym c.self.invariant.bound_is ∙ ap (λ (d : Running). d.bound) c.self.view_is))
+    (λ book h. subst (λ u. MeetsTerms u book) (sym c.self.invariant.terms_are ∙ ap (λ (d : Running). d.terms) c.self.view_is) (closes_with _ _ c.law_opening_and_end.ensures.ends _ _ _ _ c.pen.inside.seat.me _ _ _ _ c.pen.invariant.at.is c.close_with-closed.ensures.values.2 c.word-lock.ensures c.take-slot.ensures.value book h).3)
     c.book_of.ensures.ok

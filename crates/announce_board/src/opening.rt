@@ -16,6 +16,7 @@ use crate::desk::Desk;
 use crate::error::DeskError;
 use crate::laws::law_opening_and_end;
 use crate::rule::{Board, BoardSeat, DeskTable, NextPen, Plan, Slot};
+use crate::terms::Terms;
 use crate::tokens::Pen;
 use crate::words::words_of;
 use atomic_table::{Refused, Table};
@@ -72,8 +73,30 @@ impl<S: Store<Entry<P>>, P: Part> Desk<S, P> {
         ensures terms { IfOk result (λ r. r.0.terms ≡ plain_terms (room_keeping kept)) }
     {
         let room = room_keeping(kept);
+        let plain = Terms {
+            bound: room + 1,
+            allowed: room,
+        };
+        Desk::limited(alloc, store, places, kept, plain)
+    }
+
+    /// The same, with a queue of these terms. As many lines as are kept are allowed in one that refuses rather than forget a line
+    /// that is not archived; all in one that forgets.
+    pub fn limited(
+        alloc: Global,
+        store: S,
+        places: u16,
+        kept: usize,
+        terms: Terms,
+    ) -> Result<(Desk<S, P>, Vec<Pen<S, P>>), AllocError>
+        requires empty { S.content store ≡ [] }
+        requires kept { IsLongPage kept }
+        ensures ok { IfOk result (λ r. Opens places (room_keeping kept) r.0 r.1.items) }
+        ensures terms { IfOk result (λ r. r.0.terms ≡ terms) }
+    {
+        let room = room_keeping(kept);
         // So many lines are in the range, so that memory alone can be missing.
-        let Ok(book) = Book::lasting(alloc, store, room) else {
+        let Ok(book) = Book::limited(alloc, store, room, terms.bound, terms.allowed) else {
             return Err(AllocError);
         };
         let Ok(boxed) = Box::new(alloc, book) else {

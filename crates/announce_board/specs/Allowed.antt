@@ -75,7 +75,7 @@ AsLook wide roomy room terms places slots id m i f then =
     × then (slice_index s.words i) (w, carried_after m.1 a)
 
 -- what follows holds of every desk, and of each seat of it that is a pen's
-abbrev pub AtEachPen : (ℕ → ℕ → ℕ → ℕ → Seated → Type 0) → Type 0
+abbrev pub AtEachPen : (ℕ → Terms → ℕ → ℕ → ℕ → Seated → Type 0) → Type 0
 AtEachPen F = (room : ℕ) (terms : Terms) (places slots id : ℕ) (m : Seated) → m.0 ≡ Holder (pen_at m) → F room terms places slots id m
 
 abbrev pub DraftAllowedBy : Form → Bool → (ℕ → Type 0) → Type 0

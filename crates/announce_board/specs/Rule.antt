@@ -54,10 +54,10 @@ NoneIsRefused control = (place : ℕ) → control place ≢ answered NoMemory
 -- The words of the table show some lock, controls and item cells; there is one slot; and the desk
 -- of these, with the Book of the slot and the views of the seats, is at the end of some run of the
 -- machine from its opening with a dealer, and so meets the rule of desks. Where
--- the Book is at home it has the desk's room, as that rule says, and meets the desk's terms. Retired pens stand in testimonies, and stay as they were; sleeping
--- pens are as new. The pens that act, the retired ones and the licences are no more than the places. `roomy n` says that every store of
--- the desk's kind has room for n items: where that is so of the journal's lines, no record says
--- NoMemory. The items of the desk are wide or narrow.
+-- the Book is at home it has the desk's room, as that rule says, and meets the desk's terms. Retired pens stand in
+-- testimonies, and stay as they were; sleeping pens are as new. The pens that act, the retired ones and the licences are no
+-- more than the places. `roomy n` says that every store of the desk's kind has room for n items: where that is so of the
+-- journal's lines, no record says NoMemory. The items of the desk are wide or narrow.
 pub record Keeps (wide : Bool) (roomy : ℕ → Type 0) (room : ℕ) (terms : Terms) (places : ℕ) (s : State Slotted View) : Type 0 where
   pub held : Bool
   pub control : ℕ → Control

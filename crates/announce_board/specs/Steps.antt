@@ -78,7 +78,8 @@ LockRead st before word after =
     (word ≡ 0 → after ≡ before) × (word ≢ 0 → (word ≡ 1) × Becomes before (after_miss (pen_at before)) after)
 
 -- The lock was tried. Where its word was 0 the pen, which did not lead, has the slot with the Book,
--- and knows of its journal what a pen knows of the one at home; and the Book meets the terms that the step says. Else its word was 1.
+-- and knows of its journal what a pen knows of the one at home; and the Book meets the terms that the step
+-- says. Else its word was 1.
 pub record LockWon (terms : Terms) (before after : Seated) : Type 0 where
   pub book : Volume
   pub room : book.room ≡ (pen_at before).room

@@ -121,3 +121,6 @@ returns-clause-limits g c =
     (carried_out c.args.seat.now.me c.args.place c.args.serial c.deref_mut.result.now c.apply-answer.new.self (Asked c.args.request) c.apply-answer.result there h.place h.serial e.terms e.journal) (c.exchange.ensures.3 ∙ ap (λ s. (c.args.seat.now.me.0, (0, s) ∷ rest c.args.seat.now.me.1)) c.with.ensures) c.load.ensures.2 in
     ap limits_of (same_held c.take_back.result c.apply-answer.new.self c.load.new.seat.me.1 c.take_back.ensures.book (ap (λ (m : Seated). m.1) told.0.1))
     ∙ (same_limits c.deref_mut.result.now c.apply-answer.new.self e.terms e.allowed ∙ ap limits_of (c.deref_mut.ensures.value ∙ c.book.view_is))
+
+pub exchange-requires : goal.exchange-requires
+exchange-requires g c = (c.requires.here, (out, c.requires.slot ∙ ap (λ l. (0, out) ∷ rest l) (sym c.requires.slot)))

@@ -2,7 +2,7 @@ use Rattle.std.proofs.Common.{sym, ◌∷◌, ◌+◌, ◌<◌, length, ◌∙�
 use Rattle.pq_types.specs.Operation.{Asked}
 use Rattle.atomic_table.specs.Table.{rest}
 use Rattle.announce_board.specs.Rule.{Seated}
-use Rattle.announce_board.specs.Slots.{MeetsTerms}
+use Rattle.announce_board.specs.Slots.{MeetsTerms, out}
 use Rattle.announce_board.specs.Steps.{pen_at}
 use Rattle.announce_board.specs.Asking.{IsFullFor}
 use Rattle.announce_board.proofs.ItemSteps.{wider_request}
@@ -24,7 +24,7 @@ store-requires g c =
       h.lock,
       release_with_owes _ _ c.law_steps_are_allowed.ensures.release_with _ _ _ _ _ c.args.seat.now.me _ c.apply-answer.new.self (Asked c.args.request) c.apply-answer.result h.is h.leads h.due h.idle
           (omega (arith, h.serial, h.few)) proper may
-          (carried_out c.args.seat.now.me c.args.place c.args.serial c.deref_mut.result.now c.apply-answer.new.self (Asked c.args.request) c.apply-answer.result there h.place h.serial e.terms e.journal) (still_meets _ _ _ e.terms e.allowed (subst (MeetsTerms _) (sym (c.deref_mut.ensures.value ∙ c.book.view_is)) h.terms)) (c.exchange.ensures.3 ∙ ap (λ s. (c.args.seat.now.me.0, (0, s) ∷ rest c.args.seat.now.me.1)) c.with.ensures),
+          (carried_out c.args.seat.now.me c.args.place c.args.serial c.deref_mut.result.now c.apply-answer.new.self (Asked c.args.request) c.apply-answer.result there h.place h.serial e.terms e.journal) (still_meets c.args.board.now.key.terms c.deref_mut.result.now c.apply-answer.new.self e.terms e.allowed (subst (MeetsTerms c.args.board.now.key.terms) (sym (c.deref_mut.ensures.value ∙ c.book.view_is)) h.terms)) (c.exchange.ensures.3 ∙ ap (λ s. (c.args.seat.now.me.0, (0, s) ∷ rest c.args.seat.now.me.1)) c.with.ensures),
     )
 
 pub returns-clause-after : goal.returns-clause-after
@@ -87,3 +87,6 @@ pub returns-clause-spare : goal.returns-clause-spare
 returns-clause-spare g c =
     let there = ap home_of (c.deref_mut.ensures.value ∙ c.book.view_is) ∙ c.requires.book in
     λ all. c.apply-answer.ensures.spare (subst (λ (b : Home). AllHaveRoom g.S.Store.room (length (left b.journal) + 1)) (sym there) all)
+
+pub exchange-requires : goal.exchange-requires
+exchange-requires g c = (c.requires.here, (out, c.requires.slot ∙ ap (λ l. (0, out) ∷ rest l) (sym c.requires.slot)))

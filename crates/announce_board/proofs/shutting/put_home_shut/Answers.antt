@@ -2,7 +2,7 @@ use Rattle.std.proofs.Common.{sym, ◌∷◌, ◌+◌, ◌<◌, ◌∙◌, subst
 use Rattle.pq_types.specs.Operation.{Shuts}
 use Rattle.atomic_table.specs.Table.{rest}
 use Rattle.announce_board.specs.Rule.{Seated}
-use Rattle.announce_board.specs.Slots.{MeetsTerms}
+use Rattle.announce_board.specs.Slots.{MeetsTerms, out}
 use Rattle.announce_board.specs.Steps.{pen_at}
 use Rattle.announce_board.specs.Asking.{IsFullFor}
 use Rattle.pq_types.specs.History.{last_serial}
@@ -21,7 +21,7 @@ store-requires g c =
       h.lock,
       release_with_owes _ _ c.law_steps_are_allowed.ensures.release_with _ _ _ _ _ c.args.seat.now.me _ c.apply_shut-answer.new.self Shuts c.apply_shut-answer.result h.is h.leads h.due h.idle
           (omega (arith, h.serial, h.few)) tt may
-          (carried_out c.args.seat.now.me c.args.place c.args.serial c.deref_mut.result.now c.apply_shut-answer.new.self Shuts c.apply_shut-answer.result there h.place h.serial e.terms e.journal) (still_meets _ _ _ e.terms e.allowed (subst (MeetsTerms _) (sym (c.deref_mut.ensures.value ∙ c.book.view_is)) h.terms)) (c.exchange.ensures.3 ∙ ap (λ s. (c.args.seat.now.me.0, (0, s) ∷ rest c.args.seat.now.me.1)) c.with.ensures),
+          (carried_out c.args.seat.now.me c.args.place c.args.serial c.deref_mut.result.now c.apply_shut-answer.new.self Shuts c.apply_shut-answer.result there h.place h.serial e.terms e.journal) (still_meets c.args.board.now.key.terms c.deref_mut.result.now c.apply_shut-answer.new.self e.terms e.allowed (subst (MeetsTerms c.args.board.now.key.terms) (sym (c.deref_mut.ensures.value ∙ c.book.view_is)) h.terms)) (c.exchange.ensures.3 ∙ ap (λ s. (c.args.seat.now.me.0, (0, s) ∷ rest c.args.seat.now.me.1)) c.with.ensures),
     )
 
 pub returns-clause-after : goal.returns-clause-after
@@ -79,3 +79,6 @@ apply_shut-answer-requires g c =
     let lt : last_serial p.place p.hand < p.posts + 1 = above_the_last p.place (p.posts + 1) p.hand (omega arith, omega (arith, h.serial, h.few)) h.used in
     subst (λ (b : Home). last_serial c.args.place b.journal < c.args.serial) (sym there)
     (subst (λ k. last_serial k p.hand < c.args.serial) (sym h.place) (subst (λ s. last_serial p.place p.hand < s) (sym h.serial) lt))
+
+pub exchange-requires : goal.exchange-requires
+exchange-requires g c = (c.requires.here, (out, c.requires.slot ∙ ap (λ l. (0, out) ∷ rest l) (sym c.requires.slot)))

@@ -19,7 +19,6 @@ use Rattle.pq_types.specs.Queue.{IsProperRequestOf}
 use Rattle.pq_types.specs.Control.{kind_of, request_item, answer_item, notice_has_item, posted, answered}
 use Rattle.desk_core.specs.Answering.{MayTellOf, MayTell}
 use Rattle.pq_types.specs.Mail.{control_word}
-use Rattle.pq_book.specs.Book.{Volume}
 use Rattle.desk_core.specs.Desk.{Desk}
 use Rattle.desk_core.specs.Looking.{Looked, sights_of}
 use Rattle.desk_core.specs.Steps.{Event, Releases, actor, Step}

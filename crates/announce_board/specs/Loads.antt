@@ -1,5 +1,5 @@
 -- What the loads of a call have found, told of the seat before and after them.
-use Rattle.std.specs.Prelude.{◌≡◌, ℕ, Bool, true, false, ◌∷◌, Option, Some, None}
+use Rattle.std.specs.Prelude.{◌≡◌, ℕ, Bool, true, false, ◌∷◌, Option, Some}
 use Rattle.pq_types.specs.Item.{Item}
 use Rattle.pq_types.specs.Asked.{Request}
 use Rattle.pq_types.specs.declared.control.Notice.{Notice}

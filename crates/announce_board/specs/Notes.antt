@@ -1,6 +1,6 @@
 -- Notes, by which one pen tells another what it knows of the journal: what a contract sees of one, and what the writing and the
 -- hearing of one make of the pens.
-use Rattle.std.specs.Prelude.{◌≡◌, ℕ, Bool, List, [], ◌∷◌, Option}
+use Rattle.std.specs.Prelude.{◌≡◌, ℕ, Bool, List, [], ◌∷◌}
 use mathlib.Core.Option.{none}
 use Rattle.std.specs.List.{AllByRecursion}
 use Rattle.atomic_table.specs.Seated.{TableId}

@@ -1,6 +1,6 @@
 -- How a desk is opened and closed.
 use Rattle.std.specs.Prelude.{◌≡◌, ◌≢◌, ℕ, ◌+◌, ◌<◌, ◌≤◌, Bool, true, false, List, [], ◌∷◌}
-use Rattle.std.specs.Prelude.{length, replicate, slice_get, slice_index, Option, Some}
+use Rattle.std.specs.Prelude.{length, replicate, slice_get, slice_index, Some}
 use mathlib.Core.Option.{some}
 use lib.ListN.{get_elem?}
 use Rattle.std.specs.List.{All}

@@ -90,13 +90,7 @@ impl<S: Store<Entry<P>>, P: Part> Desk<S, P> {
     {
         let serial = pen.posts + 1;
         let book = lead.into_boxed();
-        let answer = put_home_shut(
-            &self.table.shared,
-            &mut pen.seat,
-            pen.place,
-            serial,
-            book,
-        );
+        let answer = put_home_shut(&self.table.shared, &mut pen.seat, pen.place, serial, book);
         pen.posts = serial;
         answer
     }

@@ -1,4 +1,4 @@
-use Rattle.std.proofs.Common.{sym, ◌+◌, ◌<◌, ◌∷◌, [], length, ◌∙◌, subst, ap, arith, None}
+use Rattle.std.proofs.Common.{sym, ◌+◌, ◌<◌, ◌∷◌, [], length, ◌∙◌, subst, ap, arith}
 use Rattle.pq_types.specs.Operation.{Asked}
 use Rattle.atomic_table.specs.Table.{rest}
 use Rattle.announce_board.specs.Rule.{Seated}

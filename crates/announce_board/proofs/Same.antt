@@ -18,7 +18,6 @@ use Rattle.pq_types.specs.Control.{kind_of, request_item, answer_item, reply_ite
 use Rattle.pq_types.specs.Asked.{Line}
 use Rattle.pq_types.specs.History.{line_of, journal_after, journal_by}
 use Rattle.desk_core.specs.Answering.{MayTellOf, MayTell}
-use Rattle.pq_book.specs.Book.{Volume}
 use Rattle.desk_core.specs.Home.{Home}
 use Rattle.desk_core.specs.Calls.{call_of, gained, gained_by}
 use Rattle.desk_core.specs.declared.model.Call.{Call}
@@ -29,6 +28,7 @@ use Rattle.desk_core.specs.declared.model.Standing.TheVariants.{Idle, Waiting}
 use Rattle.desk_core.specs.declared.model.Due.{Due}
 use Rattle.desk_core.specs.declared.model.PenState.{PenState}
 use Rattle.announce_board.specs.Rule.{NoneIsRefused, Seated}
+use Rattle.announce_board.specs.Slots.{Slotted, with_book, says}
 use Rattle.announce_board.specs.Steps.{HasInSlot}
 
 -- a request of a kind, with the item that is known of it
@@ -200,16 +200,16 @@ same_applied now p q r a b may may' e =
     ∙ (ap (λ f. applied p (gained (p.posts + 1) r b) f (journal_after p.hand p.place (p.posts + 1) q a) now) (same_full p.room p.hand p.place (p.posts + 1) (Asked q) (Asked r) a b p.told_full may may' e)
     ∙ ap (λ j. applied p (gained (p.posts + 1) r b) (told_full_by p.told_full b) j now) e)
 
-abbrev journal_in : Option Volume → List Line
-journal_in None = []
-journal_in (Some b) = b.journal
+abbrev journal_in : Slotted → List Line
+journal_in (says terms) = []
+journal_in (with_book b) = b.journal
 
-abbrev first_journal : List (ℕ × Option Volume) → List Line
+abbrev first_journal : List (ℕ × Slotted) → List Line
 first_journal [] = []
 first_journal (x ∷ xs) = journal_in x.1
 
 -- the journal of the one Book in a slot
-pub same_book : (m : Seated) (js ks : List Line) (others more : List (ℕ × Option Volume)) → HasInSlot m js others → HasInSlot m ks more → js ≡ ks
+pub same_book : (m : Seated) (js ks : List Line) (others more : List (ℕ × Slotted)) → HasInSlot m js others → HasInSlot m ks more → js ≡ ks
 same_book m js ks others more (b, b_is, held) (c, c_is, there) =
     let journal : Home → List Line = λ h. h.journal in
     sym (ap journal b_is) ∙ (sym (ap first_journal held) ∙ (ap first_journal there ∙ ap journal c_is))

@@ -13,13 +13,15 @@ use Rattle.desk_core.specs.declared.model.PenState.{PenState}
 use Rattle.desk_core.specs.declared.model.View.{View}
 use Rattle.desk_core.specs.declared.model.View.TheVariants.{Holder}
 use Rattle.announce_board.specs.Rule.{Seated, held_slots, pen_of}
+use Rattle.announce_board.specs.declared.terms.Terms.{Terms}
 use Rattle.announce_board.specs.Steps.{pen_at}
 
--- a desk: its table, the number of its places, and how many lines its journal has room for
+-- a desk: its table, the number of its places, for how many lines its journal has room, and its terms
 pub record Running : Type 0 where
   pub table : TableId
   pub places : ℕ
   pub room : ℕ
+  pub terms : Terms
 
 -- a pen: the table of its desk, and what it has done and seen
 pub record AtDesk : Type 0 where
@@ -50,12 +52,13 @@ abbrev pub is_idle : Standing → Bool
 is_idle (Idle draft) = true
 is_idle (Waiting request) = false
 
--- the table is that of a desk with these places and this room
-pub record IsDesk (table : TableId) (key_places key_room places room : ℕ) : Type 0 where
+-- the table is that of a desk with these places, this room and these terms
+pub record IsDesk (table : TableId) (key_places key_room : ℕ) (key_terms : Terms) (places room : ℕ) (terms : Terms) : Type 0 where
   pub words : table.words ≡ word_count places
   pub slots : table.slots ≡ 1
   pub places_are : places ≡ key_places
   pub room_is : room ≡ key_room
+  pub terms_are : terms ≡ key_terms
 
 -- the seat is that of a pen at this place, whose record has words in the table
 pub record IsAt (table : TableId) (m : Seated) (place : ℕ) : Type 0 where

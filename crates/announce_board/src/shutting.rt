@@ -13,13 +13,14 @@ ghost use Rattle.desk_core.specs.Knows.{NoneAbove};
 ghost use Rattle.desk_core.specs.Layout.{lock_at};
 ghost use Rattle.desk_core.specs.Pen.{IsIdle, after_release_by};
 ghost use Rattle.announce_board.specs.Asking.{IsAnswerBy, IsAboveAll, IsFullFor};
+ghost use Rattle.announce_board.specs.Slots.{MeetsTerms, out};
 ghost use Rattle.announce_board.specs.Steps.{pen_at};
 ghost use Rattle.announce_board.specs.Tokens.{IsLeadOf, is_idle};
 
 use crate::boxed_book::BoxedBook;
 use crate::desk::Desk;
 use crate::laws::law_steps_are_allowed;
-use crate::rule::{Board, BoardSeat, ReleaseWith};
+use crate::rule::{Board, BoardSeat, ReleaseWith, Slot};
 use crate::tokens::{Lead, Pen};
 use crate::words::LOCK;
 use desk_core::laws::{law_books_deal, law_calls_are_lines};
@@ -38,7 +39,7 @@ fn put_home_shut<S: Store<Entry<P>>, P: Part>(
     requires here { seat.old.table_id ≡ board.now.table_id }
     requires is { seat.old.me.0 ≡ Holder (pen_at seat.old.me) }
     requires lock { lock_at < board.now.table_id.words }
-    requires slot { seat.old.me.1 ≡ (0, None) ∷ [] }
+    requires slot { seat.old.me.1 ≡ (0, out) ∷ [] }
     requires leads { (pen_at seat.old.me).leading ≡ true }
     requires due { (pen_at seat.old.me).due ≡ None }
     requires idle { IsIdle (pen_at seat.old.me).standing }
@@ -47,6 +48,7 @@ fn put_home_shut<S: Store<Entry<P>>, P: Part>(
     requires few { serial ≤ GREATEST_NUMBER }
     requires used { NoneAbove (pen_at seat.old.me).place (pen_at seat.old.me).posts (pen_at seat.old.me).hand }
     requires book { home_of book ≡ volume (pen_at seat.old.me).room (pen_at seat.old.me).hand }
+    requires terms { MeetsTerms board.now.key.terms book }
     ensures table { seat.new.table_id ≡ seat.old.table_id }
     ensures may { MayDo (limits_of book) (pen_at seat.old.me).hand Shuts result }
     ensures answers { IsAnswerBy (pen_at seat.old.me).room Shuts result }
@@ -61,7 +63,7 @@ fn put_home_shut<S: Store<Entry<P>>, P: Part>(
     law_books_deal();
     let mut book = book;
     let answer = book.boxed.apply_shut(place, serial);
-    drop(board.exchange(seat, 0, Some(book)));
+    drop(board.exchange(seat, 0, Slot::with(book)));
     board.store::<ReleaseWith>(seat, LOCK, 0);
     answer
 }
@@ -74,6 +76,7 @@ impl<S: Store<Entry<P>>, P: Part> Desk<S, P> {
     pub fn release_shut(&self, pen: &mut Pen<S, P>, lead: Lead<S, P>) -> Answer<Item<P>>
         requires table { pen.old.table ≡ self.now.table }
         requires lead { IsLeadOf pen.old lead }
+        requires terms { MeetsTerms self.now.terms lead.book }
         requires due { pen.old.state.due ≡ None }
         requires idle { is_idle pen.old.state.standing ≡ true }
         requires few { pen.old.state.posts < GREATEST_NUMBER }

@@ -1,6 +1,8 @@
-use Rattle.std.proofs.Common.{sym, ◌+◌, ◌<◌, ◌∷◌, [], length, ◌∙◌, subst, ap, arith, None}
+use Rattle.std.proofs.Common.{sym, ◌+◌, ◌<◌, ◌∷◌, [], length, ◌∙◌, subst, ap, arith}
 use Rattle.pq_types.specs.Operation.{Asked}
+use Rattle.atomic_table.specs.Table.{rest}
 use Rattle.announce_board.specs.Rule.{Seated}
+use Rattle.announce_board.specs.Slots.{out}
 use Rattle.announce_board.specs.Steps.{pen_at}
 use Rattle.announce_board.specs.Asking.{IsFullFor}
 use Rattle.announce_board.proofs.ItemSteps.{wider_request}
@@ -20,9 +22,9 @@ load-requires g c =
     let may = may_tell c.law_books_deal.ensures (pen_at c.args.seat.now.me).room (pen_at c.args.seat.now.me).hand c.deref_mut.result.now (Asked c.args.request) c.apply-answer.result there e.answer in (
       c.exchange.ensures.0 ∙ h.here,
       h.lock,
-      apply_owes _ _ c.law_steps_are_allowed.ensures.apply _ _ _ _ c.args.seat.now.me _ c.apply-answer.new.self c.args.request c.apply-answer.result h.is h.leads h.idle
+      apply_owes _ _ c.law_steps_are_allowed.ensures.apply _ _ _ _ _ c.args.seat.now.me _ c.apply-answer.new.self c.args.request c.apply-answer.result h.is h.leads h.idle
           (omega (arith, h.serial, h.few)) proper may
-          (carried_out c.args.seat.now.me c.args.place c.args.serial c.deref_mut.result.now c.apply-answer.new.self (Asked c.args.request) c.apply-answer.result there h.place h.serial e.terms e.journal) c.exchange.ensures.3,
+          (carried_out c.args.seat.now.me c.args.place c.args.serial c.deref_mut.result.now c.apply-answer.new.self (Asked c.args.request) c.apply-answer.result there h.place h.serial e.terms e.journal) (c.exchange.ensures.3 ∙ ap (λ s. (c.args.seat.now.me.0, (0, s) ∷ rest c.args.seat.now.me.1)) c.with.ensures),
     )
 
 pub apply-answer-requires : goal.apply-answer-requires
@@ -41,7 +43,7 @@ returns-clause-behind g c =
     let there = ap home_of (c.deref_mut.ensures.value ∙ c.book.view_is) ∙ h.book in
     let may = may_tell c.law_books_deal.ensures (pen_at c.args.seat.now.me).room (pen_at c.args.seat.now.me).hand c.deref_mut.result.now (Asked c.args.request) c.apply-answer.result there e.answer in
     let told = applied c.args.seat.now.me _ c.load.new.seat.me c.load.result c.apply-answer.new.self c.args.request c.apply-answer.result h.slot may
-    (carried_out c.args.seat.now.me c.args.place c.args.serial c.deref_mut.result.now c.apply-answer.new.self (Asked c.args.request) c.apply-answer.result there h.place h.serial e.terms e.journal) c.exchange.ensures.3 c.load.ensures.2 in
+    (carried_out c.args.seat.now.me c.args.place c.args.serial c.deref_mut.result.now c.apply-answer.new.self (Asked c.args.request) c.apply-answer.result there h.place h.serial e.terms e.journal) (c.exchange.ensures.3 ∙ ap (λ s. (c.args.seat.now.me.0, (0, s) ∷ rest c.args.seat.now.me.1)) c.with.ensures) c.load.ensures.2 in
     own_behind c.law_calls_are_lines.ensures.lines (pen_at c.args.seat.now.me) (Asked c.args.request) c.apply-answer.result told.1 h.idle may
 
 pub returns-clause-barred : goal.returns-clause-barred
@@ -51,7 +53,7 @@ returns-clause-barred g c =
     let there = ap home_of (c.deref_mut.ensures.value ∙ c.book.view_is) ∙ h.book in
     let may = may_tell c.law_books_deal.ensures (pen_at c.args.seat.now.me).room (pen_at c.args.seat.now.me).hand c.deref_mut.result.now (Asked c.args.request) c.apply-answer.result there e.answer in
     let told = applied c.args.seat.now.me _ c.load.new.seat.me c.load.result c.apply-answer.new.self c.args.request c.apply-answer.result h.slot may
-    (carried_out c.args.seat.now.me c.args.place c.args.serial c.deref_mut.result.now c.apply-answer.new.self (Asked c.args.request) c.apply-answer.result there h.place h.serial e.terms e.journal) c.exchange.ensures.3 c.load.ensures.2 in
+    (carried_out c.args.seat.now.me c.args.place c.args.serial c.deref_mut.result.now c.apply-answer.new.self (Asked c.args.request) c.apply-answer.result there h.place h.serial e.terms e.journal) (c.exchange.ensures.3 ∙ ap (λ s. (c.args.seat.now.me.0, (0, s) ∷ rest c.args.seat.now.me.1)) c.with.ensures) c.load.ensures.2 in
     own_barred (pen_at c.args.seat.now.me) (Asked c.args.request) c.apply-answer.result told.1 may
 
 pub returns-clause-answers : goal.returns-clause-answers
@@ -74,7 +76,7 @@ take_back-requires-clause-slot g c =
     let there = ap home_of (c.deref_mut.ensures.value ∙ c.book.view_is) ∙ h.book in
     let may = may_tell c.law_books_deal.ensures (pen_at c.args.seat.now.me).room (pen_at c.args.seat.now.me).hand c.deref_mut.result.now (Asked c.args.request) c.apply-answer.result there e.answer in
     let told = applied c.args.seat.now.me _ c.load.new.seat.me c.load.result c.apply-answer.new.self c.args.request c.apply-answer.result h.slot may
-    (carried_out c.args.seat.now.me c.args.place c.args.serial c.deref_mut.result.now c.apply-answer.new.self (Asked c.args.request) c.apply-answer.result there h.place h.serial e.terms e.journal) c.exchange.ensures.3 c.load.ensures.2 in
+    (carried_out c.args.seat.now.me c.args.place c.args.serial c.deref_mut.result.now c.apply-answer.new.self (Asked c.args.request) c.apply-answer.result there h.place h.serial e.terms e.journal) (c.exchange.ensures.3 ∙ ap (λ s. (c.args.seat.now.me.0, (0, s) ∷ rest c.args.seat.now.me.1)) c.with.ensures) c.load.ensures.2 in
     (c.apply-answer.new.self, ap (λ (m : Seated). m.1) told.0.1)
 
 pub returns-clause-after : goal.returns-clause-after
@@ -84,8 +86,8 @@ returns-clause-after g c =
     let there = ap home_of (c.deref_mut.ensures.value ∙ c.book.view_is) ∙ h.book in
     let may = may_tell c.law_books_deal.ensures (pen_at c.args.seat.now.me).room (pen_at c.args.seat.now.me).hand c.deref_mut.result.now (Asked c.args.request) c.apply-answer.result there e.answer in
     let told = applied c.args.seat.now.me _ c.load.new.seat.me c.load.result c.apply-answer.new.self c.args.request c.apply-answer.result h.slot may
-    (carried_out c.args.seat.now.me c.args.place c.args.serial c.deref_mut.result.now c.apply-answer.new.self (Asked c.args.request) c.apply-answer.result there h.place h.serial e.terms e.journal) c.exchange.ensures.3 c.load.ensures.2 in
-    (told.0.0, c.take_back.ensures.after ∙ ap (λ (m : Seated). (m.0, (0, None) ∷ [])) told.0.1)
+    (carried_out c.args.seat.now.me c.args.place c.args.serial c.deref_mut.result.now c.apply-answer.new.self (Asked c.args.request) c.apply-answer.result there h.place h.serial e.terms e.journal) (c.exchange.ensures.3 ∙ ap (λ s. (c.args.seat.now.me.0, (0, s) ∷ rest c.args.seat.now.me.1)) c.with.ensures) c.load.ensures.2 in
+    (told.0.0, c.take_back.ensures.after ∙ ap (λ (m : Seated). (m.0, (0, out) ∷ [])) told.0.1)
 
 pub returns-clause-full : goal.returns-clause-full
 returns-clause-full g c =
@@ -94,8 +96,8 @@ returns-clause-full g c =
     let there = ap home_of (c.deref_mut.ensures.value ∙ c.book.view_is) ∙ h.book in
     let may = may_tell c.law_books_deal.ensures (pen_at c.args.seat.now.me).room (pen_at c.args.seat.now.me).hand c.deref_mut.result.now (Asked c.args.request) c.apply-answer.result there e.answer in
     let told = applied c.args.seat.now.me _ c.load.new.seat.me c.load.result c.apply-answer.new.self c.args.request c.apply-answer.result h.slot may
-    (carried_out c.args.seat.now.me c.args.place c.args.serial c.deref_mut.result.now c.apply-answer.new.self (Asked c.args.request) c.apply-answer.result there h.place h.serial e.terms e.journal) c.exchange.ensures.3 c.load.ensures.2 in
-    λ f. subst (λ (m : Seated). IsFullFor (pen_at m)) (sym (c.take_back.ensures.after ∙ ap (λ (m : Seated). (m.0, (0, None) ∷ [])) told.0.1))
+    (carried_out c.args.seat.now.me c.args.place c.args.serial c.deref_mut.result.now c.apply-answer.new.self (Asked c.args.request) c.apply-answer.result there h.place h.serial e.terms e.journal) (c.exchange.ensures.3 ∙ ap (λ s. (c.args.seat.now.me.0, (0, s) ∷ rest c.args.seat.now.me.1)) c.with.ensures) c.load.ensures.2 in
+    λ f. subst (λ (m : Seated). IsFullFor (pen_at m)) (sym (c.take_back.ensures.after ∙ ap (λ (m : Seated). (m.0, (0, out) ∷ [])) told.0.1))
     (applied_full (pen_at c.args.seat.now.me) c.args.request c.apply-answer.result told.0.0 f)
 
 pub returns-clause-book : goal.returns-clause-book
@@ -105,7 +107,7 @@ returns-clause-book g c =
     let there = ap home_of (c.deref_mut.ensures.value ∙ c.book.view_is) ∙ h.book in
     let may = may_tell c.law_books_deal.ensures (pen_at c.args.seat.now.me).room (pen_at c.args.seat.now.me).hand c.deref_mut.result.now (Asked c.args.request) c.apply-answer.result there e.answer in
     let told = applied c.args.seat.now.me _ c.load.new.seat.me c.load.result c.apply-answer.new.self c.args.request c.apply-answer.result h.slot may
-    (carried_out c.args.seat.now.me c.args.place c.args.serial c.deref_mut.result.now c.apply-answer.new.self (Asked c.args.request) c.apply-answer.result there h.place h.serial e.terms e.journal) c.exchange.ensures.3 c.load.ensures.2 in
+    (carried_out c.args.seat.now.me c.args.place c.args.serial c.deref_mut.result.now c.apply-answer.new.self (Asked c.args.request) c.apply-answer.result there h.place h.serial e.terms e.journal) (c.exchange.ensures.3 ∙ ap (λ s. (c.args.seat.now.me.0, (0, s) ∷ rest c.args.seat.now.me.1)) c.with.ensures) c.load.ensures.2 in
     ap home_of (same_held c.take_back.result c.apply-answer.new.self c.load.new.seat.me.1 c.take_back.ensures.book (ap (λ (m : Seated). m.1) told.0.1))
     ∙ carried_out c.args.seat.now.me c.args.place c.args.serial c.deref_mut.result.now c.apply-answer.new.self (Asked c.args.request) c.apply-answer.result there h.place h.serial e.terms e.journal
 
@@ -116,6 +118,9 @@ returns-clause-limits g c =
     let there = ap home_of (c.deref_mut.ensures.value ∙ c.book.view_is) ∙ h.book in
     let may = may_tell c.law_books_deal.ensures (pen_at c.args.seat.now.me).room (pen_at c.args.seat.now.me).hand c.deref_mut.result.now (Asked c.args.request) c.apply-answer.result there e.answer in
     let told = applied c.args.seat.now.me _ c.load.new.seat.me c.load.result c.apply-answer.new.self c.args.request c.apply-answer.result h.slot may
-    (carried_out c.args.seat.now.me c.args.place c.args.serial c.deref_mut.result.now c.apply-answer.new.self (Asked c.args.request) c.apply-answer.result there h.place h.serial e.terms e.journal) c.exchange.ensures.3 c.load.ensures.2 in
+    (carried_out c.args.seat.now.me c.args.place c.args.serial c.deref_mut.result.now c.apply-answer.new.self (Asked c.args.request) c.apply-answer.result there h.place h.serial e.terms e.journal) (c.exchange.ensures.3 ∙ ap (λ s. (c.args.seat.now.me.0, (0, s) ∷ rest c.args.seat.now.me.1)) c.with.ensures) c.load.ensures.2 in
     ap limits_of (same_held c.take_back.result c.apply-answer.new.self c.load.new.seat.me.1 c.take_back.ensures.book (ap (λ (m : Seated). m.1) told.0.1))
     ∙ (same_limits c.deref_mut.result.now c.apply-answer.new.self e.terms e.allowed ∙ ap limits_of (c.deref_mut.ensures.value ∙ c.book.view_is))
+
+pub exchange-requires : goal.exchange-requires
+exchange-requires g c = (c.requires.here, (out, c.requires.slot ∙ ap (λ l. (0, out) ∷ rest l) (sym c.requires.slot)))

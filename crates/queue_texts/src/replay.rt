@@ -4,6 +4,7 @@ ghost use Rattle.pq_types.specs.Entry.{item_at, taken, reply_by};
 ghost use Rattle.pq_types.specs.History.{entries_of, last_serial, PutsIn};
 ghost use Rattle.pq_types.specs.declared.journal.TheConstants.{GREATEST_NUMBER};
 ghost use Rattle.queue_texts.specs.Audit.{Breaks, IsLawful, breach_by};
+ghost use Rattle.queue_texts.specs.LineText.{HasReplyOfItsKind};
 ghost use Rattle.queue_texts.specs.Replay.{AreLastSerials, Follows, IsCarriedOut, IsReplayed, Leaves, MayFollow, RefusesText, TakesText};
 
 use crate::line_reading::{NumberedLine, read_line};
@@ -11,7 +12,7 @@ use crate::owned::Owned;
 use crate::refusal::{Breach, Unlawful, widened};
 use leftist_heap::TicketStore;
 use pq_book::{Book, Entry};
-use pq_types::laws::law_one_more_line;
+use pq_types::laws::{law_one_more_line, law_shut};
 use pq_types::{
     Answer, Done, GREATEST_NUMBER, Item, Line, Operation, Part, Reply, Request, Ticketed,
 };
@@ -40,7 +41,7 @@ pub(crate) struct PlayedLine<P: Part> {
     pub is_new_place: bool,
 }
 
-/// A journal that is read back from its text: what the lines so far did was carried out on an empty queue, removals and moves too. A contract
+/// A journal that is read back from its text: what the lines so far did was carried out on an empty queue, removals, moves and a shut too. A contract
 /// sees them all as a journal, which is a lawful one. Memory has the items that they leave, the last 65,536 lines, and one serial for
 /// each of 65,536 places.
 #[derive(Drop)]
@@ -56,7 +57,7 @@ impl<S: TicketStore<Entry<P>>, A: Allocator, P: Part> Model for Replay<S, A, P> 
 
     ghost view = { λ r. record { journal = r.book.value.journal } };
 
-    ghost invariant = { λ r. IsReplayed r.book.value.room r.book.value.journal r.last.items };
+    ghost invariant = { λ r. IsReplayed r.book.value r.last.items };
 }
 
 // The reply that the queue of one thread gives to the use of this ticket, behind the lines of the book.
@@ -85,6 +86,7 @@ fn due_reply<S: TicketStore<Entry<P>>, A: Allocator, P: Part>(
         (Done::Least, Some(first)) => Reply::Least(first),
         (Done::Pop | Done::Least, None) => Reply::Empty,
         (Done::Remove(ticket) | Done::Move(_, ticket), _) => due_by_ticket(book, *ticket),
+        (Done::Shut, _) => Reply::Empty,
     }
 }
 
@@ -112,7 +114,8 @@ fn breach_of<S: TicketStore<Entry<P>>, A: Allocator, P: Part>(
     last: &[u64],
     found: &NumberedLine<P>,
 ) -> Option<Breach>
-    requires { AreLastSerials last.now book.now.journal }
+    requires serials { AreLastSerials last.now book.now.journal }
+    requires kind { HasReplyOfItsKind found.now.line }
     ensures some { IfSome result (λ breach. Breaks book.now.journal found.now.number found.now.line breach) }
     ensures none { IfNone result (Follows book.now.journal found.now.number found.now.line) }
 {
@@ -132,6 +135,11 @@ fn breach_of<S: TicketStore<Entry<P>>, A: Allocator, P: Part>(
             last: before,
         });
     }
+    if book.is_shut() && line.operation.ends_at_shut() {
+        return Some(Breach::BehindShut {
+            again: matches!(&line.operation.done, Done::Shut),
+        });
+    }
     let reply = due_reply(book, &line.operation);
     if line.reply != reply {
         return Some(wrong_reply(line, reply));
@@ -145,8 +153,7 @@ fn carried_out<S: TicketStore<Entry<P>>, A: Allocator, P: Part>(
     line: &Line<P>,
 ) -> Answer<Item<P>>
     requires { last_serial line.now.place book.old.journal < line.now.serial }
-    ensures answer { IsCarriedOut book.old.room book.old.journal line.now result book.new.journal }
-    ensures room { book.new.room ≡ book.old.room }
+    ensures { IsCarriedOut book.old line.now result book.new }
 {
     let place = line.place;
     let serial = line.serial;
@@ -158,6 +165,7 @@ fn carried_out<S: TicketStore<Entry<P>>, A: Allocator, P: Part>(
         Done::Move(priority, ticket) => {
             book.apply_by_ticket(place, serial, Ticketed::reschedule(*ticket, *priority))
         }
+        Done::Shut => book.apply_shut(place, serial),
     }
 }
 
@@ -167,18 +175,19 @@ fn entered<S: TicketStore<Entry<P>>, A: Allocator, P: Part>(
     last: &mut Vec<u64, A>,
     line: &Line<P>,
 ) -> Result<(), AllocError>
-    requires kept { IsReplayed book.old.room book.old.journal last.old.items }
+    requires kept { IsReplayed book.old last.old.items }
     requires next { Follows book.old.journal (length book.old.journal + 1) line.now }
     requires room { length book.old.journal < GREATEST_NUMBER }
-    ensures kept { IsReplayed book.new.room book.new.journal last.new.items }
+    ensures kept { IsReplayed book.new last.new.items }
     ensures ok { OnOk result (book.new.journal ≡ book.old.journal ++ line.now ∷ []) }
     ensures err { OnErr result (book.new.journal ≡ book.old.journal) }
     ensures refused { OnErr result (PutsIn line.now.operation) }
 {
     law_one_more_line();
+    law_shut();
     match carried_out(book, line) {
         Answer::Entered(_, _) => {}
-        Answer::BookFull => unreachable!(),
+        Answer::BookFull | Answer::Refused(_) => unreachable!(),
         Answer::NoMemory => return Err(AllocError),
     }
     last[usize::from(line.place)] = line.serial;
@@ -191,8 +200,8 @@ fn played<S: TicketStore<Entry<P>>, A: Allocator, P: Part>(
     last: &mut Vec<u64, A>,
     text: &[u8],
 ) -> Result<PlayedLine<P>, ReplayError>
-    requires { IsReplayed book.old.room book.old.journal last.old.items }
-    ensures kept { IsReplayed book.new.room book.new.journal last.new.items }
+    requires { IsReplayed book.old last.old.items }
+    ensures kept { IsReplayed book.new last.new.items }
     ensures ok { IfOk result (λ played. MayFollow P.wide book.old.journal text.now played.line
         × (book.new.journal ≡ book.old.journal ++ played.line ∷ [])
         × (played.is_new_place ≡ (last_serial played.line.place book.old.journal == 0))) }
@@ -237,8 +246,9 @@ impl<S: TicketStore<Entry<P>>, A: Allocator + Clone, P: Part> Replay<S, A, P> {
 impl<S: TicketStore<Entry<P>>, A: Allocator, P: Part> Replay<S, A, P> {
     /// Reads a text without its line feed as the line that comes next, and carries out what it did. The journal gains that line,
     /// and stays a lawful one; where the text is refused, it is as it was. `Unlawful` says why the text is no line that may
-    /// come next: no line; or one whose number isn't due, whose serial isn't above the last of its place, or whose reply isn't that of
-    /// the queue of one thread. `NoMemory` refuses one that may, a push or a move.
+    /// come next: no line; or one whose number isn't due, whose serial isn't above the last of its place, that is a push or another
+    /// shut where the queue is shut, or whose reply isn't that of the queue of one thread. `NoMemory` refuses one that may, a push or
+    /// a move.
     pub fn play_line(&mut self, text: &[u8]) -> Result<(), ReplayError>
         ensures ok { OnOk result (TakesText P.wide self.old.journal text.now self.new.journal) }
         ensures err { IfErr result (λ error. RefusesText P.wide self.old.journal text.now error) }

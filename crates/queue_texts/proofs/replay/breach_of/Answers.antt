@@ -13,7 +13,7 @@ returns-then-ne-clause-some g c =
     let next : found.number ≡ length journal + 1 = search rules in
     let above : last_serial line.place journal < line.serial = search rules in
     let other : line.reply ≢ c.due_reply-reply.result = search rules in
-    breaks_by journal found.number found.line c.due_reply-reply.result c.wrong_reply.result next
+    breaks_by journal found.number found.line c.due_reply-reply.result c.wrong_reply.result c.requires.kind next
     (subst (λ (l : Line). last_serial l.place journal < l.serial) c.line.view_is above)
     (c.due_reply-reply.ensures ∙ ap (λ (l : Line). reply_by (entries_of journal) l.operation) c.line.view_is)
     (subst (λ (l : Line). l.reply ≢ c.due_reply-reply.result) c.line.view_is other) c.wrong_reply.ensures

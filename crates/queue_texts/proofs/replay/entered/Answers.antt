@@ -12,6 +12,8 @@ returns-clause-kept g c =
     let there : c.from.result ≡ line.place = c.from.ensures ∙ ap (λ (l : Line). l.place) c.line.view_is in
     let within : line.place < PLACES = search rules in
     let law = c.law_one_more_line.ensures in
-    replayed_more law.last_serial law.legal law.rise _ _ _ _ _ _ (line_of line.place line.serial line.operation c.in-Entered.field-1)
-    c.requires.kept within c.requires.next.serial c.in-Entered.ensures.answer.0 c.in-Entered.ensures.room c.in-Entered.ensures.answer.1
+    let carried = c.in-Entered.ensures in
+    replayed_more law.last_serial law.legal law.rise c.law_shut.ensures.heeds _ _ _ _
+    (line_of line.place line.serial line.operation c.in-Entered.field-1)
+    c.requires.kept within c.requires.next.serial carried.answered.2 c.requires.next.heard carried.terms carried.allowed carried.entered
     (ap (λ p. slice_set last p c.line.inside.serial) there ∙ ap (λ (l : Line). slice_set last line.place l.serial) c.line.view_is)

@@ -40,10 +40,10 @@ serial_at (m ∷ before) l behind some h =
 -- no shut refuses a line of a journal that heeds its shut
 heard_at : (before : List Line) (l : Line) (behind : List Line) → HeedsShut (before ++ l ∷ behind) → IsHeard before l.operation
 heard_at [] l behind h = λ ends. refl
-heard_at (m ∷ before) l behind h = λ ends. by (shuts m.operation) refl ends where
-  by : (b : Bool) → shuts m.operation ≡ b → EndsAtShut l.operation → (shuts m.operation || is_shut before) ≡ false
-  by true e ends = absurd (member (λ k. EndsAtShut k.operation → ⊥) before l behind (h.0 e) ends)
-  by false e ends = ap (λ b. b || is_shut before) e ∙ heard_at before l behind h.1 ends
+heard_at (m ∷ before) l behind h = λ ends. by (heard_at before l behind h.1) (shuts m.operation) refl ends where
+  by : IsHeard before l.operation → (b : Bool) → shuts m.operation ≡ b → EndsAtShut l.operation → (shuts m.operation || is_shut before) ≡ false
+  by rest true e ends = absurd (member (λ k. EndsAtShut k.operation → ⊥) before l behind (h.0 e) ends)
+  by rest false e ends = ap (λ b. b || is_shut before) e ∙ rest ends
 
 -- the line may stand behind this journal
 record IsDue (journal : List Line) (l : Line) : Type 0 where
@@ -81,7 +81,7 @@ module _ (wide : Bool) (once : LinesAreReadOnce) where
       → ¬ (Breaks journal number l b)
   no_breach journal number l (WrongNumber told due) is h (t, d, other) = other (t ∙ is ∙ sym d)
   no_breach journal number l (SerialFalls place serial last) is h (m, p, s, at, falls) = omega (arith, s, at, falls, h.above)
-  no_breach journal number l (BehindShut again) is h (m, rises, ends, shut, a) = let open_still = h.heard ends in absurd (cc)
+  no_breach journal number l (BehindShut again) is h (m, rises, ends, shut, a) = let unshut : is_shut journal ≡ false = h.heard ends in absurd (cc)
   no_breach journal number l (WrongReply told due) is h (m, rises, t, (q, o, d), other) =
       other (t ∙ h.reply ∙ ap (λ x. reply_by (entries_of journal) x) o ∙ sym d)
   no_breach journal number l (WrongRemoval ticket told due) is h (m, rises, o, t, d, other) = other (t ∙ h.reply ∙ sym d)

@@ -6,13 +6,13 @@ use Rattle.std.specs.List.{AllByRecursion}
 use Rattle.std.proofs.lemmas.Bool.Decides.{nat_tests}
 use Rattle.std.proofs.Math.ListN.{length-set}
 use Rattle.std.proofs.lemmas.List.{get_or-set_same, get_or-set_other, length-replicate, get_or-replicate}
-use Rattle.pq_types.specs.Asked.{Line, Operation, Reply}
+use Rattle.pq_types.specs.Asked.{Line, Operation, Reply, Answer}
 use Rattle.pq_types.specs.declared.journal.TheConstants.{GREATEST_NUMBER}
 use Rattle.pq_types.specs.declared.answer.Answer.TheVariants.{Refused}
 use Rattle.pq_types.specs.declared.answer.Refusal.{Refusal}
 use Rattle.pq_types.specs.declared.answer.Refusal.TheVariants.{Shut, Unarchived, Full}
 use Rattle.pq_types.specs.Entry.{reply_by}
-use Rattle.pq_types.specs.History.{entries_of, last_serial, IsHeard, MayDo}
+use Rattle.pq_types.specs.History.{entries_of, last_serial, journal_by, is_shut, IsHeard, Limits, MayDo}
 use Rattle.pq_types.specs.Operation.{Asked, ByTicket, Shuts, Remove, Move}
 use Rattle.pq_types.specs.Laws.{SerialOfOneMore, StaysLegal, StillRises, StillHeeds, NoMoreItemsThanLines}
 use Rattle.pq_book.specs.Book.{Volume, limits_of, IsPlain, KeepsTerms}
@@ -85,10 +85,19 @@ replayed_none n book last few e f plain g = record {
 -- a plain Book refuses no operation that no shut does
 pub refuses_none : NoMoreItemsThanLines → (book : Volume) (last : List ℕ) (o : Operation) (why : Refusal) → IsReplayed book last
     → length book.journal < GREATEST_NUMBER → IsHeard book.journal o → ¬ (MayDo (limits_of book) book.journal o (Refused why))
-refuses_none few book last o Shut h room heard (space, ends, is) = let open_still = heard ends in absurd (cc)
+refuses_none few book last o Shut h room heard (space, ends, is) = let unshut : is_shut book.journal ≡ false = heard ends in absurd (cc)
 refuses_none few book last o Unarchived h room heard (space, full, ok) = omega (arith, full, room, h.room_is, h.plain.1)
 refuses_none few book last o Full h room heard (space, kept, adds, full, ok) =
     omega (arith, full, space, h.plain.0, few book.journal)
+
+-- what was carried out is this operation
+pub carried_answer : (limits : Limits) (journal : List Line) (o p : Operation) (a : Answer) → p ≡ o → MayDo limits journal o a
+    → MayDo limits journal p a
+carried_answer limits journal o p a is may = subst (λ x. MayDo limits journal x a) (sym is) may
+
+pub carried_journal : (journal after : List Line) (place serial : ℕ) (o p : Operation) (a : Answer) → p ≡ o
+    → after ≡ journal_by journal place serial o a → after ≡ journal_by journal place serial p a
+carried_journal journal after place serial o p a is e = e ∙ ap (λ x. journal_by journal place serial x a) (sym is)
 
 -- how a line breaks the law that comes next, and has another reply than the due one
 pub breaks_by : (journal : List Line) (number : ℕ) (l : Line) (due : Reply) (b : Breach) → HasReplyOfItsKind l → number ≡ length journal + 1

@@ -1,5 +1,5 @@
 -- What the reader of a journal line finds, step by step, is what the text spells.
-use Rattle.std.proofs.Common.{◌≡◌, ◌↔◌, ◌++◌, IsTrue, Bool, true, false, ℕ, List, [], get_or, codes, Option, Some, None, IfNone}
+use Rattle.std.proofs.Common.{◌≡◌, ◌↔◌, ◌⊎◌, inl, inr, ◌++◌, IsTrue, Bool, true, false, ℕ, List, [], get_or, codes, Option, Some, None, IfNone}
 use Rattle.std.proofs.Common.{Result, Ok, Err, refl, sym, ◌∙◌, ap, subst, arith}
 use Rattle.std.proofs.lemmas.List.{append_cancel_left}
 use Rattle.std.specs.Str.Parse.{IsNumeral, digits_value}
@@ -28,7 +28,7 @@ use Rattle.queue_texts.specs.Command.{PushesText}
 use Rattle.pq_types.specs.History.{line_of}
 use Rattle.pq_types.specs.Control.{kind_of, outcome_of, request_with, reply_with}
 use Rattle.queue_texts.specs.LineText.{Leads, LeadsBoth, LeadsAll, SpellsBoth, SpellsReply, SpellsReplyTo, AsksFirst, SaysFirst, SpellsLine, IsInRange}
-use Rattle.queue_texts.specs.LineText.{MayReplyTo, HasReplyOfItsKind, IsLineText, IsNoLineFor, numbered}
+use Rattle.queue_texts.specs.LineText.{MayReply, MayReplyTo, HasReplyOfItsKind, IsLineText, IsNoLineFor, numbered}
 use Rattle.queue_texts.specs.LineShape.{capped, TellsItem, TellsNone, AsksNone, AreParts, AreNone, HasReply, HasRequest, HasOperation}
 use Rattle.queue_texts.specs.LineShape.{HasShape}
 use Rattle.queue_texts.proofs.Lines.{leads_once, leads_all_once, no_removal, no_move, no_both, says_once, line_once}
@@ -283,6 +283,28 @@ every_line wide text r h n l g = read_once wide text r (Ok (numbered n l)) h g
 
 pub every_refusal : {P : Type 0} (wide : Bool) (text : List ℕ) (r : Result (NumberedLine P) LineError) → IsReadAs wide text r → (e : LineError) → IsNoLineFor wide text e → r ≡ Err e
 every_refusal wide text r h e g = read_once wide text r (Err e) h g
+
+-- a removal is replied to as a pop is
+removal_replied : (n : ℕ) (x : Outcome) (b : Bool) → ((q : Request) (r : Reply) → kind_of q ≡ kind.Pop → outcome_of r ≡ x → IsTrue b ↔ MayReply q r)
+    → (o : Operation) (r : Reply) → HasOperation (named.Remove n) o → outcome_of r ≡ x → IsTrue b ↔ MayReplyTo o r
+removal_replied n x b may (Asked q) r has e = absurd has
+removal_replied n x b may (ByTicket (Remove t)) r has e = may Pop r refl e
+removal_replied n x b may (ByTicket (Move t p)) r has e = absurd has
+removal_replied n x b may Shuts r has e = absurd has
+
+-- and so is a move
+move_replied : (n p : ℕ) (x : Outcome) (b : Bool) → ((q : Request) (r : Reply) → kind_of q ≡ kind.Pop → outcome_of r ≡ x → IsTrue b ↔ MayReply q r)
+    → (o : Operation) (r : Reply) → HasOperation (named.Move n p) o → outcome_of r ≡ x → IsTrue b ↔ MayReplyTo o r
+move_replied n p x b may (Asked q) r has e = absurd has
+move_replied n p x b may (ByTicket (Remove t)) r has e = absurd has
+move_replied n p x b may (ByTicket (Move t to)) r has e = may Pop r refl e
+move_replied n p x b may Shuts r has e = absurd has
+
+pub ticket_replied : (s : Named) (x : Outcome) (b : Bool) → ((n : ℕ) × (s ≡ named.Remove n)) ⊎ ((n : ℕ) × (p : ℕ) × (s ≡ named.Move n p))
+    → ((q : Request) (r : Reply) → kind_of q ≡ kind.Pop → outcome_of r ≡ x → IsTrue b ↔ MayReply q r)
+    → (o : Operation) (r : Reply) → HasOperation s o → outcome_of r ≡ x → IsTrue b ↔ MayReplyTo o r
+ticket_replied s x b (inl (n, is)) may o r has = removal_replied n x b may o r (subst (λ z. HasOperation z o) is has)
+ticket_replied s x b (inr (n, p, is)) may o r has = move_replied n p x b may o r (subst (λ z. HasOperation z o) is has)
 
 -- a shape in range whose reply no such operation has
 pub no_such_reply : {P : Type 0} (wide : Bool) (text : List ℕ) (s : Shape) (found : NumberedLine P) (b : Bool) → (n : ℕ) × (l : Line) × SpellsLine text n l × HasShape s n l

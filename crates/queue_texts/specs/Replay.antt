@@ -1,10 +1,10 @@
 -- What a replay makes of a text that is read as a journal's next line, and what the lines so far leave.
 use Rattle.std.specs.Prelude.{◌≡◌, ℕ, ◌+◌, ◌-◌, ◌<◌, Bool, List, [], ◌∷◌, ◌++◌, length, map, drop, get_or}
-use Rattle.pq_types.specs.Asked.{Line, Answer}
+use Rattle.pq_types.specs.Asked.{Line}
 use Rattle.pq_types.specs.declared.journal.TheConstants.{GREATEST_NUMBER}
 use Rattle.pq_types.specs.Entry.{Entry, item_of, reply_by}
-use Rattle.pq_book.specs.Book.{Volume, limits_of, IsPlain, KeepsTerms}
-use Rattle.pq_types.specs.History.{left, entries_of, last_serial, journal_by, IsHeard, MayDo, PutsIn}
+use Rattle.pq_types.specs.History.{left, entries_of, last_serial, IsHeard, PutsIn}
+use Rattle.pq_book.specs.Book.{Volume, IsPlain}
 use Rattle.pq_book.specs.declared.limit.TheConstants.{LONG_PAGE}
 use Rattle.queue_texts.specs.declared.replay.TheConstants.{PLACES}
 use Rattle.queue_texts.specs.declared.replay.ReplayError.{ReplayError}
@@ -40,13 +40,6 @@ LacksMemory wide journal text = (l : Line) × MayFollow wide journal text l × P
 abbrev pub RefusesText : Bool → List Line → List ℕ → ReplayError → Type 0
 RefusesText wide journal text (Unlawful why) = IsUnlawful wide journal text why
 RefusesText wide journal text NoMemory = LacksMemory wide journal text
-
--- What this Book answers where it carries out what this line did, and what it is then.
-pub record IsCarriedOut (book : Volume) (l : Line) (answer : Answer) (after : Volume) : Type 0 where
-  pub answered : MayDo (limits_of book) book.journal l.operation answer
-  pub entered : after.journal ≡ journal_by book.journal l.place l.serial l.operation answer
-  pub terms : KeepsTerms book after
-  pub allowed : after.allowed ≡ book.allowed
 
 -- What a lawful journal is read back as: the items that it leaves in the queue, how many lines came before those that are
 -- kept, and these, its last 65,536.

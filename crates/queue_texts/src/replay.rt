@@ -1,11 +1,12 @@
 // A replay: each text is read as a journal line, and what it did is carried out on a Book.
-ghost use Rattle.std.specs.Prelude.{◌≡◌, ◌+◌, ◌<◌, ◌++◌, ◌∷◌, ◌==◌, [], length, IfOk, IfErr, IfSome, IfNone, OnOk, OnErr, IsSome};
+ghost use Rattle.std.specs.Prelude.{◌≡◌, ◌+◌, ◌<◌, ◌++◌, ◌∷◌, ◌==◌, [], length, true, IfOk, IfErr, IfSome, IfNone, OnOk, OnErr, IsSome, IsTrue, IsFalse};
 ghost use Rattle.pq_types.specs.Entry.{item_at, taken, reply_by};
-ghost use Rattle.pq_types.specs.History.{entries_of, last_serial, PutsIn};
+ghost use Rattle.pq_types.specs.History.{entries_of, last_serial, journal_by, is_shut, EndsAtShut, IsHeard, MayDo, PutsIn};
+ghost use Rattle.pq_book.specs.Book.{limits_of, KeepsTerms};
 ghost use Rattle.pq_types.specs.declared.journal.TheConstants.{GREATEST_NUMBER};
 ghost use Rattle.queue_texts.specs.Audit.{Breaks, IsLawful, breach_by};
 ghost use Rattle.queue_texts.specs.LineText.{HasReplyOfItsKind};
-ghost use Rattle.queue_texts.specs.Replay.{AreLastSerials, Follows, IsCarriedOut, IsReplayed, Leaves, MayFollow, RefusesText, TakesText};
+ghost use Rattle.queue_texts.specs.Replay.{AreLastSerials, Follows, IsReplayed, Leaves, MayFollow, RefusesText, TakesText};
 
 use crate::line_reading::{NumberedLine, read_line};
 use crate::owned::Owned;
@@ -108,6 +109,36 @@ fn wrong_reply<P: Part>(line: &Line<P>, due: Reply<Item<P>>) -> Breach
     }
 }
 
+// Whether a shut refuses the operation behind the lines of the book.
+fn is_barred<S: TicketStore<Entry<P>>, A: Allocator, P: Part>(
+    book: &Book<S, A, P>,
+    operation: &Operation<P>,
+) -> bool
+    ensures barred { IsTrue result → EndsAtShut operation.now × (is_shut book.now.journal ≡ true) }
+    ensures heard { IsFalse result → IsHeard book.now.journal operation.now }
+{
+    book.is_shut() && operation.ends_at_shut()
+}
+
+// How the line breaks the law by its reply, where nothing else about it does.
+fn reply_breach<S: TicketStore<Entry<P>>, A: Allocator, P: Part>(
+    book: &Book<S, A, P>,
+    found: &NumberedLine<P>,
+) -> Option<Breach>
+    requires kind { HasReplyOfItsKind found.now.line }
+    requires due { found.now.number ≡ length book.now.journal + 1 }
+    requires serial { last_serial found.now.line.place book.now.journal < found.now.line.serial }
+    ensures some { IfSome result (λ breach. Breaks book.now.journal found.now.number found.now.line breach) }
+    ensures none { IfNone result (found.now.line.reply ≡ reply_by (entries_of book.now.journal) found.now.line.operation) }
+{
+    let line = &found.line;
+    let reply = due_reply(book, &line.operation);
+    if line.reply != reply {
+        return Some(wrong_reply(line, reply));
+    }
+    None
+}
+
 // How the line breaks the law behind the lines of the book.
 fn breach_of<S: TicketStore<Entry<P>>, A: Allocator, P: Part>(
     book: &Book<S, A, P>,
@@ -135,29 +166,28 @@ fn breach_of<S: TicketStore<Entry<P>>, A: Allocator, P: Part>(
             last: before,
         });
     }
-    if book.is_shut() && line.operation.ends_at_shut() {
+    if is_barred(book, &line.operation) {
         return Some(Breach::BehindShut {
             again: matches!(&line.operation.done, Done::Shut),
         });
     }
-    let reply = due_reply(book, &line.operation);
-    if line.reply != reply {
-        return Some(wrong_reply(line, reply));
-    }
-    None
+    reply_breach(book, found)
 }
 
-// Carries out what the line did, for its place and under its serial.
+// Carries out what a line did, for its place and under its serial.
 fn carried_out<S: TicketStore<Entry<P>>, A: Allocator, P: Part>(
     book: &mut Book<S, A, P>,
-    line: &Line<P>,
+    place: u16,
+    serial: u64,
+    operation: &Operation<P>,
 ) -> Answer<Item<P>>
-    requires { last_serial line.now.place book.old.journal < line.now.serial }
-    ensures { IsCarriedOut book.old line.now result book.new }
+    requires { last_serial place book.old.journal < serial }
+    ensures answer { MayDo (limits_of book.old) book.old.journal operation.now result }
+    ensures journal { book.new.journal ≡ journal_by book.old.journal place serial operation.now result }
+    ensures terms { KeepsTerms book.old book.new }
+    ensures allowed { book.new.allowed ≡ book.old.allowed }
 {
-    let place = line.place;
-    let serial = line.serial;
-    match &line.operation.done {
+    match &operation.done {
         Done::Push(item) => book.apply(place, serial, Request::Push(*item)),
         Done::Pop => book.apply(place, serial, Request::Pop),
         Done::Least => book.apply(place, serial, Request::Least),
@@ -185,7 +215,7 @@ fn entered<S: TicketStore<Entry<P>>, A: Allocator, P: Part>(
 {
     law_one_more_line();
     law_shut();
-    match carried_out(book, line) {
+    match carried_out(book, line.place, line.serial, &line.operation) {
         Answer::Entered(_, _) => {}
         Answer::BookFull | Answer::Refused(_) => unreachable!(),
         Answer::NoMemory => return Err(AllocError),

@@ -8,14 +8,11 @@ use Rattle.std.proofs.Math.ListN.{length-set}
 use Rattle.std.proofs.lemmas.List.{get_or-set_same, get_or-set_other, length-replicate, get_or-replicate}
 use Rattle.pq_types.specs.Asked.{Line, Operation, Reply, Answer}
 use Rattle.pq_types.specs.declared.journal.TheConstants.{GREATEST_NUMBER}
-use Rattle.pq_types.specs.declared.answer.Answer.TheVariants.{Refused}
-use Rattle.pq_types.specs.declared.answer.Refusal.{Refusal}
-use Rattle.pq_types.specs.declared.answer.Refusal.TheVariants.{Shut, Unarchived, Full}
 use Rattle.pq_types.specs.Entry.{reply_by}
-use Rattle.pq_types.specs.History.{entries_of, last_serial, journal_by, is_shut, IsHeard, Limits, MayDo}
+use Rattle.pq_types.specs.History.{entries_of, last_serial, journal_by, IsHeard, Limits, MayDo}
 use Rattle.pq_types.specs.Operation.{Asked, ByTicket, Shuts, Remove, Move}
-use Rattle.pq_types.specs.Laws.{SerialOfOneMore, StaysLegal, StillRises, StillHeeds, NoMoreItemsThanLines}
-use Rattle.pq_book.specs.Book.{Volume, limits_of, IsPlain, KeepsTerms}
+use Rattle.pq_types.specs.Laws.{SerialOfOneMore, StaysLegal, StillRises, StillHeeds}
+use Rattle.pq_book.specs.Book.{Volume, IsPlain, KeepsTerms}
 use Rattle.queue_texts.specs.declared.replay.TheConstants.{PLACES}
 use Rattle.queue_texts.specs.declared.refusal.Breach.{Breach}
 use Rattle.queue_texts.specs.LineText.{MayReplyTo, HasReplyOfItsKind}
@@ -81,14 +78,6 @@ replayed_none n book last few e f plain g = record {
   serials =
       subst (λ x. AreLastSerials x book.journal) (sym g) (subst (λ x. AreLastSerials (replicate n 0) x) (sym f) (none_yet n few));
 }
-
--- a plain Book refuses no operation that no shut does
-pub refuses_none : NoMoreItemsThanLines → (book : Volume) (last : List ℕ) (o : Operation) (why : Refusal) → IsReplayed book last
-    → length book.journal < GREATEST_NUMBER → IsHeard book.journal o → ¬ (MayDo (limits_of book) book.journal o (Refused why))
-refuses_none few book last o Shut h room heard (space, ends, is) = let unshut : is_shut book.journal ≡ false = heard ends in absurd (cc)
-refuses_none few book last o Unarchived h room heard (space, full, ok) = omega (arith, full, room, h.room_is, h.plain.1)
-refuses_none few book last o Full h room heard (space, kept, adds, full, ok) =
-    omega (arith, full, space, h.plain.0, few book.journal)
 
 -- what was carried out is this operation
 pub carried_answer : (limits : Limits) (journal : List Line) (o p : Operation) (a : Answer) → p ≡ o → MayDo limits journal o a

@@ -1,7 +1,7 @@
 // The text of a journal line, read back.
 ghost use Rattle.pq_types.specs.Item.{Item as ItemSeen};
 ghost use Rattle.pq_types.specs.Asked.{Line as LineSeen};
-ghost use Rattle.std.specs.Prelude.{◌≡◌, ◌<◌, ◌≤◌, ◌^◌, ◌↔◌, ◌++◌, codes, ℕ, List, [], IfOk, IfErr, IfSome, IfNone, IsTrue, IsFalse, Ok, Err};
+ghost use Rattle.std.specs.Prelude.{◌≡◌, ◌<◌, ◌≤◌, ◌^◌, ◌↔◌, ◌++◌, codes, ℕ, List, [], IfOk, IfErr, IfSome, IfNone, IsTrue, Ok, Err};
 ghost use Rattle.std.specs.Str.Parse.{IsNumeral, digits_value};
 ghost use Rattle.pq_types.specs.Asked.{Request};
 ghost use Rattle.pq_types.specs.Asked.{Reply};

@@ -23,7 +23,9 @@ pub enum Breach {
         last: u64,
     },
     /// It is a push, and the queue is shut; or another shut.
-    BehindShut { again: bool },
+    BehindShut {
+        again: bool,
+    },
     /// Its reply to a request isn't the one that the queue of one thread gives there. Either is told as one of wide
     /// items, whatever the width of the journal's.
     WrongReply {

@@ -42,9 +42,9 @@ pub(crate) struct PlayedLine<P: Part> {
     pub is_new_place: bool,
 }
 
-/// A journal that is read back from its text: what the lines so far did was carried out on an empty queue, removals, moves and a shut too. A contract
-/// sees them all as a journal, which is a lawful one. Memory has the items that they leave, the last 65,536 lines, and one serial for
-/// each of 65,536 places.
+/// A journal that is read back from its text: what the lines so far did was carried out on an empty queue, removals, moves and
+/// a shut too. A contract sees them all as a journal, which is a lawful one. Memory has the items that they leave, the last
+/// 65,536 lines, and one serial for each of 65,536 places.
 #[derive(Drop)]
 pub struct Replay<S: TicketStore<Entry<P>>, A: Allocator, P: Part = u32> {
     book: Owned<Book<S, A, P>>,
@@ -276,9 +276,8 @@ impl<S: TicketStore<Entry<P>>, A: Allocator + Clone, P: Part> Replay<S, A, P> {
 impl<S: TicketStore<Entry<P>>, A: Allocator, P: Part> Replay<S, A, P> {
     /// Reads a text without its line feed as the line that comes next, and carries out what it did. The journal gains that line,
     /// and stays a lawful one; where the text is refused, it is as it was. `Unlawful` says why the text is no line that may
-    /// come next: no line; or one whose number isn't due, whose serial isn't above the last of its place, that is a push or another
-    /// shut where the queue is shut, or whose reply isn't that of the queue of one thread. `NoMemory` refuses one that may, a push or
-    /// a move.
+    /// come next: no line; or one whose number isn't due, whose serial isn't above the last of its place, or whose reply isn't that of
+    /// the queue of one thread; or a push, or another shut, where the queue is shut. `NoMemory` refuses one that may, a push or a move.
     pub fn play_line(&mut self, text: &[u8]) -> Result<(), ReplayError>
         ensures ok { OnOk result (TakesText P.wide self.old.journal text.now self.new.journal) }
         ensures err { IfErr result (λ error. RefusesText P.wide self.old.journal text.now error) }

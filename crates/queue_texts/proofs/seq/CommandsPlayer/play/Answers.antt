@@ -1,6 +1,5 @@
 use Rattle.std.proofs.Common.{arith, ap, sym, inr, ◌+◌, ◌∙◌}
 use Rattle.pq_types.specs.History.{journal_after}
-use Rattle.queue_texts.specs.SeqText.{TakesCommands}
 use Rattle.queue_texts.proofs.Results.{failed}
 use Rattle.queue_texts.proofs.SeqLemmas.{still_ready, answered_plainly}
 use Rattle.queue_texts.proofs.seq.CommandsPlayer.play.Goals as goal

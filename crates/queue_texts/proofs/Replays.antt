@@ -6,10 +6,10 @@ use Rattle.std.specs.List.{AllByRecursion}
 use Rattle.std.proofs.lemmas.Bool.Decides.{nat_tests}
 use Rattle.std.proofs.Math.ListN.{length-set}
 use Rattle.std.proofs.lemmas.List.{get_or-set_same, get_or-set_other, length-replicate, get_or-replicate}
-use Rattle.pq_types.specs.Asked.{Line, Operation, Reply, Answer}
+use Rattle.pq_types.specs.Asked.{Line, Operation, Reply}
 use Rattle.pq_types.specs.declared.journal.TheConstants.{GREATEST_NUMBER}
 use Rattle.pq_types.specs.Entry.{reply_by}
-use Rattle.pq_types.specs.History.{entries_of, last_serial, journal_by, IsHeard, Limits, MayDo}
+use Rattle.pq_types.specs.History.{entries_of, last_serial, IsHeard}
 use Rattle.pq_types.specs.Operation.{Asked, ByTicket, Shuts, Remove, Move}
 use Rattle.pq_types.specs.Laws.{SerialOfOneMore, StaysLegal, StillRises, StillHeeds}
 use Rattle.pq_book.specs.Book.{Volume, IsPlain, KeepsTerms}
@@ -78,15 +78,6 @@ replayed_none n book last few e f plain g = record {
   serials =
       subst (λ x. AreLastSerials x book.journal) (sym g) (subst (λ x. AreLastSerials (replicate n 0) x) (sym f) (none_yet n few));
 }
-
--- what was carried out is this operation
-pub carried_answer : (limits : Limits) (journal : List Line) (o p : Operation) (a : Answer) → p ≡ o → MayDo limits journal o a
-    → MayDo limits journal p a
-carried_answer limits journal o p a is may = subst (λ x. MayDo limits journal x a) (sym is) may
-
-pub carried_journal : (journal after : List Line) (place serial : ℕ) (o p : Operation) (a : Answer) → p ≡ o
-    → after ≡ journal_by journal place serial o a → after ≡ journal_by journal place serial p a
-carried_journal journal after place serial o p a is e = e ∙ ap (λ x. journal_by journal place serial x a) (sym is)
 
 -- how a line breaks the law that comes next, and has another reply than the due one
 pub breaks_by : (journal : List Line) (number : ℕ) (l : Line) (due : Reply) (b : Breach) → HasReplyOfItsKind l → number ≡ length journal + 1

@@ -18,7 +18,7 @@ use Rattle.desk_core.specs.declared.model.PenState.{PenState}
 use Rattle.announce_board.specs.Asking.{IsFullFor}
 use Rattle.announce_board.specs.Serving.{Wins}
 use Rattle.announce_board.specs.Tokens.{is_idle}
-use Rattle.flat_queue.specs.Members.{Joined, StaysAtPlace}
+use Rattle.flat_queue.specs.Members.{Joined, HasTerms, StaysAtPlace}
 use Rattle.flat_queue.specs.Limits.{most_posts}
 use Rattle.flat_queue.specs.Calling.{StaysMember}
 use Rattle.flat_queue.specs.OwnRequest.{SweepsWhereBy}
@@ -85,6 +85,7 @@ pub record ReleasesBatch (before : Joined) (told : List Told) (is_next : Request
   pub ended : PenState
   pub limits : Limits
   pub room : limits.room ≡ before.pen.room
+  pub terms : HasTerms before.queue.terms limits
   pub first : batch.first ≡ length before.pen.hand + 1
   pub applies : AppliesBatch limits (most_posts before.queue.room) is_next before.pen told batch.refused ended
   pub after_is : after ≡ record before { pen = after_release ended }

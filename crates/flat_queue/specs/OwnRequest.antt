@@ -10,7 +10,7 @@ use Rattle.pq_book.specs.Book.{Volume}
 use Rattle.desk_core.specs.Pen.{after_release_by}
 use Rattle.announce_board.specs.Asking.{IsAboveAll, IsFullFor}
 use Rattle.announce_board.specs.Serving.{Wins}
-use Rattle.flat_queue.specs.Members.{Joined, StaysAtPlace}
+use Rattle.flat_queue.specs.Members.{Joined, HasTerms, StaysAtPlace}
 use Rattle.flat_queue.specs.TrailSweeping.{IsTrailSweptBy}
 use Rattle.flat_queue.specs.Turns.{FindsLockHeld, Misses}
 use Rattle.flat_queue.specs.Calling.{ended, PostsAndWaitsBy}
@@ -28,6 +28,7 @@ SweepsWhereBy words false before after = after ≡ before
 pub record ReleasesOperation (before : Joined) (operation : Operation) (answer : Answer) (after : Joined) : Type 0 where
   pub limits : Limits
   pub room : limits.room ≡ before.pen.room
+  pub terms : HasTerms before.queue.terms limits
   pub may : MayDo limits before.pen.hand operation answer
   pub behind : (number : ℕ) (reply : Reply) → answer ≡ Entered number reply → IsAboveAll number before.pen.mine
   pub full : answer ≡ BookFull → IsFullFor after.pen

@@ -6,6 +6,7 @@ ghost use Rattle.pq_types.specs.History.{left};
 ghost use Rattle.pq_book.specs.Book.{AllHaveRoom, limits_of};
 ghost use Rattle.leftist_heap.specs.Store.{first_of};
 ghost use Rattle.desk_core.specs.Words.{word_number};
+ghost use Rattle.announce_board.specs.Slots.{MeetsTerms};
 ghost use Rattle.announce_board.specs.Tokens.{IsLeadOf, is_idle};
 ghost use Rattle.flat_queue.specs.Members.{HasRoomForAll, pen_of};
 ghost use Rattle.flat_queue.specs.Turns.{FindsLockHeld};
@@ -79,6 +80,7 @@ impl<S: Store<Entry<P>>, P: Part> Queue<S, P> {
 
     // The idle leader pushes the items, behind the posts of the others, until one is refused, and releases the lock. It counts as
     // many who wait for an item and may be woken.
+    #[tactic(auto, using(crate::proofs::Together::releases_batch))]
     fn push_and_release(
         &self,
         member: &mut Member<S, P>,
@@ -88,6 +90,7 @@ impl<S: Store<Entry<P>>, P: Part> Queue<S, P> {
     ) -> Batch
         requires queue { member.old.queue ≡ self.now }
         requires lead { IsLeadOf (pen_of member.old) lead }
+        requires terms { MeetsTerms self.now.terms lead.book }
         requires idle { is_idle member.old.pen.standing ≡ true }
         ensures releases { ReleasesBatch member.old (pushes_of (take result.done items.now)) (IsPushAt items.now result.done)
             result member.new }
@@ -185,6 +188,7 @@ impl<S: Store<Entry<P>>, P: Part> Queue<S, P> {
 
     // The idle leader takes the first items out, behind the posts of the others, looks at the next one, and releases the lock.
     // Where the journal has no line left, it counts all who wait for an item.
+    #[tactic(auto, using(crate::proofs::Together::releases_batch))]
     fn pop_and_release(
         &self,
         member: &mut Member<S, P>,
@@ -195,6 +199,7 @@ impl<S: Store<Entry<P>>, P: Part> Queue<S, P> {
     ) -> Popped<Item<P>>
         requires queue { member.old.queue ≡ self.now }
         requires lead { IsLeadOf (pen_of member.old) lead }
+        requires terms { MeetsTerms self.now.terms lead.book }
         requires idle { is_idle member.old.pen.standing ≡ true }
         ensures slots { length into.new ≡ length into.old }
         ensures releases { ReleasesBatch member.old (pops_of (take result.batch.done into.new)) IsPop result.batch member.new }

@@ -4,6 +4,7 @@ ghost use Rattle.pq_types.specs.declared.journal.TheConstants.{GREATEST_NUMBER};
 ghost use Rattle.pq_types.specs.Operation.{ByTicket};
 ghost use Rattle.desk_core.specs.Words.{word_number};
 ghost use Rattle.announce_board.specs.Asking.{IsAnswerBy};
+ghost use Rattle.announce_board.specs.Slots.{MeetsTerms};
 ghost use Rattle.announce_board.specs.Tokens.{IsLeadOf, is_idle};
 ghost use Rattle.flat_queue.specs.Members.{pen_of, HasRoomForAll};
 ghost use Rattle.flat_queue.specs.Memory.{HasSpareRoom};
@@ -135,6 +136,7 @@ impl<S: TicketStore<Entry<P>>, P: Part> Queue<S, P> {
 
     // The idle leader, to which nothing is due, releases the lock with the use of a ticket, behind the requests of the others.
     // Behind a move it counts one who waits for an item and may be woken, as behind a push.
+    #[tactic(auto, using(crate::proofs::OwnRequests::releases_of))]
     fn release_by_ticket(
         &self,
         member: &mut Member<S, P>,
@@ -144,6 +146,7 @@ impl<S: TicketStore<Entry<P>>, P: Part> Queue<S, P> {
     ) -> Answer<Item<P>>
         requires queue { member.old.queue ≡ self.now }
         requires lead { IsLeadOf (pen_of member.old) lead }
+        requires terms { MeetsTerms self.now.terms lead.book }
         requires due { member.old.pen.due ≡ None }
         requires idle { is_idle member.old.pen.standing ≡ true }
         requires few { member.old.pen.posts < GREATEST_NUMBER }

@@ -17,8 +17,8 @@
 //!   posted.
 //! - `Desk::apply` carries out a request of the leader's own, which posts nothing, and goes on leading: the Book in its hand has
 //!   its line, and the pen its answer. `Desk::release_with` frees the lock with one: the Book that goes home has its line.
-//!   `Desk::release_by_ticket` frees it so with a removal or a move of an item by its ticket, and `Desk::release_shut` with a shut
-//!   of the queue.
+//!   `Desk::release_by_ticket` frees it so with a removal or a move of an item by its ticket, and `Desk::release_shut`
+//!   with a shut of the queue.
 //! - Whether an operation is refused, and why, the Book decides under the lock: what `Desk::serve`, `Desk::apply` and the
 //!   releases answer is what the journal in hand and the limits of the Book in the lead say. Only `Lead::archived` changes
 //!   these limits. The Book of each lead meets the desk's terms: it has their bound, and allows as many lines as they do, or

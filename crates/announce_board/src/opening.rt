@@ -80,8 +80,8 @@ impl<S: Store<Entry<P>>, P: Part> Desk<S, P> {
         Desk::limited(alloc, store, places, kept, plain)
     }
 
-    /// The same, with a queue of these terms. As many lines as are kept are allowed in one that refuses rather than forget a line
-    /// that is not archived; all in one that forgets.
+    /// The same, with a queue of these terms. As many lines as are kept are allowed in one that refuses rather than forget a
+    /// line that is not archived; all in one that forgets.
     pub fn limited(
         alloc: Global,
         store: S,

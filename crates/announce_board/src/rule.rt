@@ -25,7 +25,8 @@ pub struct Plan {
     pub places: u16,
 }
 
-/// What lies in the slot of a desk's table: the Book, but while a pen leads. In a proof alone a step says terms by one that has none.
+/// What lies in the slot of a desk's table: the Book, but while a pen leads. In a proof alone a step says terms by one that
+/// has none.
 #[derive(Drop)]
 pub struct Slot<S: Store<Entry<P>>, P: Part = u32> {
     book: Option<BoxedBook<S, P>>,

@@ -69,10 +69,10 @@ fn put_home_shut<S: Store<Entry<P>>, P: Part>(
 }
 
 impl<S: Store<Entry<P>>, P: Part> Desk<S, P> {
-    /// The idle leader, to which nothing is due, has the Book shut the queue, puts the Book home and then frees the lock, in one
-    /// step. From then on each push is refused, and each further shut; what waits stays. The line of the shut is behind those of
-    /// the pen's calls before. It is refused where the journal is full, where the queue is shut, and where its line would make
-    /// memory forget one that is not archived; never for memory, which it does not take.
+    /// The idle leader, to which nothing is due, has the Book shut the queue, puts the Book home and then frees the lock, in
+    /// one step. From then on each push is refused, and each further shut; what waits stays. The line of the shut is behind
+    /// those of the pen's calls before. It is refused where the journal is full, where the queue is shut, and where its line
+    /// would make memory forget one that is not archived; never for memory, which it does not take.
     pub fn release_shut(&self, pen: &mut Pen<S, P>, lead: Lead<S, P>) -> Answer<Item<P>>
         requires table { pen.old.table ≡ self.now.table }
         requires lead { IsLeadOf pen.old lead }

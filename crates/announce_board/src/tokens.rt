@@ -129,8 +129,9 @@ impl<S: Store<Entry<P>>, P: Part> Lead<S, P> {
         self.book.boxed.allowed()
     }
 
-    /// The first so many lines are archived, of those that there are: from now on the journal of the Book may have as many more
-    /// as memory keeps. Nothing else changes, and no step is made: the lead stays its pen's own (`leading::law_leads_stay`).
+    /// The first so many lines are archived, of those that there are: from now on the journal of the Book may have as many
+    /// more as memory keeps. Nothing else changes, and no step is made: the lead stays its pen's own
+    /// (`leading::law_leads_stay`).
     pub fn archived(&mut self, lines: u64)
         ensures { self.new ≡ allowing self.old (max self.old.book.allowed
             (min lines (length self.old.book.journal) + page_of self.old.book.room)) }

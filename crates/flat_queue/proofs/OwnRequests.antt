@@ -52,10 +52,10 @@ pub terms_kept : (terms : Terms) (old new : Volume) → limits_of new ≡ limits
 terms_kept terms old new e h = (ap (λ (l : Limits). l.bound) e ∙ h.0, subst (λ n. terms.allowed ≤ n) (sym (ap (λ (l : Limits). l.allowed) e)) h.1)
 
 -- a release by an operation, as the lead's Book may answer it
-pub releases_of : (before after : Joined) (operation : Operation) (answer : Answer) (book : Volume) (now : ℕ) → home_of book ≡ volume before.pen.room before.pen.hand → MeetsTerms before.queue.terms book
-    → MayDo (limits_of book) before.pen.hand operation answer → ((number : ℕ) (reply : Reply) → answer ≡ Entered number reply → IsAboveAll number before.pen.mine) → (answer ≡ answer.BookFull → IsFullFor after.pen)
-    → after ≡ record before { pen = after_release_by before.pen operation answer now } → ReleasesOperation before operation answer after
-releases_of before after operation answer book now home meets may behind full is =
+pub releases_of : (before after : Joined) (operation : Operation) (x : Answer) (book : Volume) (now : ℕ) → home_of book ≡ volume before.pen.room before.pen.hand → MeetsTerms before.queue.terms book
+    → MayDo (limits_of book) before.pen.hand operation x → ((number : ℕ) (reply : Reply) → x ≡ Entered number reply → IsAboveAll number before.pen.mine) → (x ≡ answer.BookFull → IsFullFor after.pen)
+    → after ≡ record before { pen = after_release_by before.pen operation x now } → ReleasesOperation before operation x after
+releases_of before after operation x book now home meets may behind full is =
     record { limits = limits_of book; room = ap (λ (h : Home). h.room) home; terms = book_terms before.queue.terms book meets; may = may; behind = behind; full = full; now = now; after_is = is }
 
 -- a place that was served leaves nothing due

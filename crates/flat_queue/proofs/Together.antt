@@ -42,7 +42,7 @@ pub applies_more : (limits : Limits) (p q : PenState) (ts : List Told) (t : Told
     → AppliesEach limits p (ts ++ t ∷ []) (after_apply q t.0 (Entered (length q.hand + 1) t.1) now)
 applies_more limits p q [] t now h may =
     (now, subst (λ (z : PenState). MayAnswer limits z.hand t.0 (Entered (length z.hand + 1) t.1)) h may, ap (λ (z : PenState). after_apply z t.0 (Entered (length z.hand + 1) t.1) now) h)
-applies_more limits p q (s ∷ ts) t now h may = (h.0, h.1, applies_more (after_apply p s.0 (Entered (length p.hand + 1) s.1) h.0) q ts t now h.2 may)
+applies_more limits p q (s ∷ ts) t now h may = (h.0, h.1, applies_more limits (after_apply p s.0 (Entered (length p.hand + 1) s.1) h.0) q ts t now h.2 may)
 
 -- the next push of so many
 pushes_more : (limits : Limits) (p q : PenState) (xs : List Item) (k : ℕ) (x : Item) (n : ℕ) (r : Reply) (now : ℕ) → k < length xs → x ≡ get_or xs k x → AppliesEach limits p (pushes_of (take k xs)) q

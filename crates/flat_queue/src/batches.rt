@@ -80,7 +80,6 @@ impl<S: Store<Entry<P>>, P: Part> Queue<S, P> {
 
     // The idle leader pushes the items, behind the posts of the others, until one is refused, and releases the lock. It counts as
     // many who wait for an item and may be woken.
-    #[tactic(auto, using(crate::proofs::Together::releases_batch))]
     fn push_and_release(
         &self,
         member: &mut Member<S, P>,
@@ -188,7 +187,6 @@ impl<S: Store<Entry<P>>, P: Part> Queue<S, P> {
 
     // The idle leader takes the first items out, behind the posts of the others, looks at the next one, and releases the lock.
     // Where the journal has no line left, it counts all who wait for an item.
-    #[tactic(auto, using(crate::proofs::Together::releases_batch))]
     fn pop_and_release(
         &self,
         member: &mut Member<S, P>,

@@ -156,7 +156,6 @@ impl<S: Store<Entry<P>>, P: Part> Queue<S, P> {
     // The idle leader, to which nothing is due, releases the lock with a request of its own, behind those of the others.
     // Behind a push it counts one who waits for an item and may be woken.
     #[inline(always)]
-    #[tactic(auto, using(crate::proofs::OwnRequests::releases_of))]
     pub(crate) fn release_with(
         &self,
         member: &mut Member<S, P>,

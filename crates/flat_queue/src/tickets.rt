@@ -136,7 +136,6 @@ impl<S: TicketStore<Entry<P>>, P: Part> Queue<S, P> {
 
     // The idle leader, to which nothing is due, releases the lock with the use of a ticket, behind the requests of the others.
     // Behind a move it counts one who waits for an item and may be woken, as behind a push.
-    #[tactic(auto, using(crate::proofs::OwnRequests::releases_of))]
     fn release_by_ticket(
         &self,
         member: &mut Member<S, P>,

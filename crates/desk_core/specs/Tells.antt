@@ -6,13 +6,11 @@ use Rattle.pq_types.specs.Asked.{Request, Operation}
 use Rattle.pq_types.specs.declared.request.Request.TheVariants.{Push}
 use Rattle.pq_types.specs.Asked.{Reply}
 use Rattle.pq_types.specs.Asked.{Answer}
-use Rattle.pq_types.specs.declared.answer.Answer.TheVariants.{Entered, BookFull, Refused}
-use Rattle.pq_types.specs.declared.answer.Refusal.TheVariants.{Shut}
-use Rattle.pq_types.specs.Operation.{Asked}
+use Rattle.pq_types.specs.declared.answer.Answer.TheVariants.{Entered, BookFull}
 use Rattle.pq_types.specs.declared.control.Kind.{Kind}
 use Rattle.pq_types.specs.declared.control.Control.TheVariants.{Posted}
 use Rattle.pq_types.specs.Control.{answer_item, reply_item, posted, answered, is_posted, is_answer, has_item}
-use Rattle.pq_types.specs.History.{journal_by, journal_after, EndsAtShut, IsHeard, is_shut}
+use Rattle.pq_types.specs.History.{journal_by, journal_after}
 use Rattle.desk_core.specs.Calls.{call, gained, gained_by}
 use Rattle.desk_core.specs.Pen.{due_to}
 use Rattle.desk_core.specs.Desk.{Desk, Has, volume}
@@ -123,7 +121,6 @@ pub record AfterAnswer (d d' : Desk) (answer : Answer) (p p' : PenState) : Type 
   pub waits : (i : ℕ) × (q : PenState) × Has d.views i q × (q.place ≡ due.place) × (q.posts ≡ due.serial)
       × (q.standing ≡ Waiting request)
   pub full : (answer ≡ BookFull) ↔ (length p.hand ≡ d.room)
-  pub shut : (answer ≡ Refused Shut) ↔ ((length p.hand < d.room) × EndsAtShut (Asked request) × (is_shut p.hand ≡ true))
   pub stands : d'.control due.place ≡ answered answer
   pub hand : p'.hand ≡ journal_after p.hand due.place due.serial request answer
   pub done : p'.due ≡ None
@@ -142,7 +139,6 @@ pub record AfterApply (d d' : Desk) (request : Request) (answer : Answer) (p p' 
   pub leading : p'.leading ≡ true
   pub hand : p'.hand ≡ journal_after p.hand p.place p'.posts request answer
   pub full : (answer ≡ BookFull) ↔ (length p.hand ≡ d.room)
-  pub shut : (answer ≡ Refused Shut) ↔ ((length p.hand < d.room) × EndsAtShut (Asked request) × (is_shut p.hand ≡ true))
   pub posts : p'.posts ≡ p.posts + 1
   pub mine : p'.mine ≡ p.mine ++ gained p'.posts request answer
   pub below : AllByRecursion (λ c. c.serial < p'.posts) p.mine
@@ -179,7 +175,6 @@ pub record AfterReleaseBy (d d' : Desk) (operation : Operation) (answer : Answer
   pub known : p'.known ≡ journal_by p.hand p.place p'.posts operation answer
   pub home : d'.home ≡ Some (volume d.room p'.known)
   pub full : (answer ≡ BookFull) ↔ (length p.hand ≡ d.room)
-  pub shut : (answer ≡ Refused Shut) ↔ ((length p.hand < d.room) × EndsAtShut operation × (is_shut p.hand ≡ true))
   pub posts : p'.posts ≡ p.posts + 1
   pub mine : p'.mine ≡ p.mine ++ gained_by p'.posts operation answer
   pub below : AllByRecursion (λ c. c.serial < p'.posts) p.mine

@@ -185,7 +185,6 @@ pub ends_idle : (Turns : Joined → Request → Result (ℕ × Reply) CallError 
 ends_idle Turns before after (Ok t) i k = (k.ok.member.stays.queue, ap is_idle k.ok.member.standing)
 ends_idle Turns before after (Err error.NoMemory) i k = absurd k.err.0
 ends_idle Turns before after (Err error.BookFull) i k = (k.err.stays.queue, ap is_idle k.err.standing)
-ends_idle Turns before after (Err (error.Refused why)) i k = (k.err.1.stays.queue, ap is_idle k.err.1.standing)
 ends_idle Turns before after (Err error.Spent) i k = (ap (λ (z : Joined). z.queue) k.err.1, ap (λ (z : Joined). is_idle z.pen.standing) k.err.1 ∙ i)
 ends_idle Turns before after (Err error.GaveUp) i k = absurd k.err.0
 

@@ -3,9 +3,9 @@ ghost use Rattle.std.specs.Prelude.{◌≡◌, ℕ};
 ghost use Rattle.pq_types.specs.Item.{item};
 ghost use Rattle.pq_types.specs.Control.{reply_item};
 ghost use Rattle.queue_c.specs.Plain.{request_of, reply_number, operation_number, operation_item, operation_ticket};
-ghost use Rattle.queue_c.specs.Plain.{or_zeros, told, told_item, told_answer, told_line, refusal_number};
+ghost use Rattle.queue_c.specs.Plain.{or_zeros, told, told_item, told_answer, told_line};
 
-use pq_types::{Answer, Done, Item, Line, Operation, Refusal, Reply, Request};
+use pq_types::{Answer, Done, Item, Line, Operation, Reply, Request};
 
 /// An item.
 #[repr(C)]
@@ -76,7 +76,6 @@ pub fn told_operation(operation: &Operation<u64>) -> (u32, Item<u64>, u64)
         Done::Least => (2, no_item(), 0),
         Done::Remove(ticket) => (3, no_item(), *ticket),
         Done::Move(priority, ticket) => (4, Item::of_parts(*priority, 0), *ticket),
-        Done::Shut => (5, no_item(), 0),
     }
 }
 
@@ -91,18 +90,6 @@ pub fn answer_parts(answer: Answer<Item<u64>>) -> (u32, u64, Item<u64>)
         }
         Answer::BookFull => (4, 0, no_item()),
         Answer::NoMemory => (5, 0, no_item()),
-        Answer::Refused(refusal) => (refusal_number(refusal), 0, no_item()),
-    }
-}
-
-// The kind of an answer by which the queue's rules refuse.
-fn refusal_number(refusal: Refusal) -> u32
-    ensures { result ≡ refusal_number refusal }
-{
-    match refusal {
-        Refusal::Shut => 6,
-        Refusal::Unarchived => 7,
-        Refusal::Full => 8,
     }
 }
 

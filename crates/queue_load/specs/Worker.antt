@@ -12,7 +12,7 @@ use Rattle.queue_load.specs.Points.{IsWithin}
 use Rattle.program_words.specs.Plan.{part_factor, priorities, requests_of, all_requests}
 use Rattle.queue_load.specs.Tally.{counted, tally_of}
 use Rattle.queue_load.specs.declared.load_faults.WorkerError.{WorkerError}
-use Rattle.queue_load.specs.declared.load_faults.WorkerError.TheVariants.{NoMemory, BookFull, GaveUp, Refused}
+use Rattle.queue_load.specs.declared.load_faults.WorkerError.TheVariants.{NoMemory, BookFull, GaveUp}
 use Rattle.program_words.specs.declared.plan.Plan.{Plan}
 use Rattle.queue_load.specs.declared.points.Point.{Point}
 use Rattle.queue_load.specs.declared.tally.Tally.{Tally}
@@ -77,7 +77,6 @@ abbrev pub IsReason : (may_give_up has_room : Type 0) → WorkerError → Type 0
 IsReason may_give_up has_room NoMemory = ¬ has_room
 IsReason may_give_up has_room BookFull = Unit {0}
 IsReason may_give_up has_room GaveUp = may_give_up
-IsReason may_give_up has_room (Refused why) = Unit {0}
 
 -- The worker of this number has come so far: it has made so many whole rounds, and a part of the next, each request of which was
 -- entered in the journal.

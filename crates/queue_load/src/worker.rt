@@ -106,9 +106,6 @@ fn ask_by<'q, S: Store<Entry<P>>, R: Wait, G: Gate, P: Part>(
         Called::Refused(handle, CallError::BookFull) => {
             Err((handle.into_member(), WorkerError::BookFull))
         }
-        Called::Refused(handle, CallError::Refused(refusal)) => {
-            Err((handle.into_member(), WorkerError::Refused(refusal)))
-        }
         Called::Refused(_, CallError::Spent | CallError::GaveUp) => unreachable!(),
         Called::Pending(pending) => Err((pending.into_member(), WorkerError::GaveUp)),
     }
@@ -135,9 +132,6 @@ fn ask_at_once<'q, S: Store<Entry<P>>, R: Wait, P: Part>(
         }
         Err(CallError::NoMemory) => Err((handle.into_member(), WorkerError::NoMemory)),
         Err(CallError::BookFull) => Err((handle.into_member(), WorkerError::BookFull)),
-        Err(CallError::Refused(refusal)) => {
-            Err((handle.into_member(), WorkerError::Refused(refusal)))
-        }
         Err(CallError::Spent | CallError::GaveUp) => unreachable!(),
     }
 }

@@ -128,20 +128,27 @@ static void refuses_what_may_not_come_next(void) {
         is_refused(unlawful[i], 3);
     }
     is_refused("3 3 5 pop got 5 1\n3 3 6 pop got 6 2\n", 4);
-    CHECK(reads("1\n", 2, &journal, &line) == PQ_NOT_LAWFUL && line == 1);
+    CHECK(reads("1\n", 2, &journal, &line) == PQ_NOT_LAWFUL && line == 1 && reads("\n", 1, &journal, &line) == PQ_NOT_LAWFUL && line == 1);
 }
 
-/* What is lawful: the last place, numbers that are 0, and a member whose first request has no entry, as memory for it was refused. */
+/* What is lawful: the last place, numbers that are 0, and serials that requests had to which memory was refused, before a place's first entry and
+   while as many items wait as ever. With fewer items no push asks for memory, and a serial that is left out is refused. */
 static void accepts_what_may_come_next(void) {
-    const char *const lawful[] = { "3 2079 1 pop got 5 1\n", "3 0 1 pop got 5 1\n", "3 3 5 push 0 0 pushed\n", "3 4 2 pop got 5 1\n" };
+    const char *const lawful[] = { "3 2079 1 pop got 5 1\n", "3 0 1 pop got 5 1\n", "3 3 5 push 0 0 pushed\n", "3 4 99 pop got 5 1\n", "3 3 9 pop got 5 1\n",
+        "3 3 9 pop got 5 1\n4 4 99 pop got 6 2\n", "3 3 5 least least 5 1\n4 3 9 pop got 5 1\n", "3 3 5 move 1 9 got 5 1\n4 3 9 pop got 6 2\n",
+        "3 3 5 remove 9 empty\n4 3 9 pop got 5 1\n", "3 3 5 pop got 5 1\n4 3 6 push 1 1 pushed\n5 3 9 pop got 1 1\n" };
     for (size_t i = 0; i < sizeof lawful / sizeof *lawful; i++) {
         char text[1000];
         pq_journal *journal;
         uint64_t line;
         size_t length = (size_t)snprintf(text, sizeof text, PUSHED "%s", lawful[i]);
-        CHECK(reads(text, length, &journal, &line) == PQ_OK && line == 3);
+        CHECK(reads(text, length, &journal, &line) == PQ_OK);
         pq_journal_free(journal);
     }
+    is_refused("3 3 5 pop got 5 1\n4 3 9 pop got 6 2\n", 4);
+    is_refused("3 3 5 remove 1 got 5 1\n4 3 9 pop got 6 2\n", 4);
+    is_refused("3 3 5 pop got 5 1\n4 3 6 move 2 7 got 6 2\n5 3 9 pop got 7 2\n", 5);
+    is_refused("3 3 5 pop got 5 1\n4 3 6 pop got 6 2\n5 3 7 pop empty\n6 3 9 push 1 1 pushed\n", 6);
 }
 
 enum { LINES = 6 };

@@ -108,7 +108,9 @@ void use_members(int joined);
 void give_back(int which);
 void while_refused(pq_code (*does)(int which, const uint64_t *numbers), int which, const uint64_t *numbers); /* for the archive */
 
-/* check.c, journal.c: what holds whenever nobody can run, and at the end of each execution. */
+/* check.c, journal.c: what holds whenever nobody can run, and at the end of each execution. LEAVES_NONE: a batch that had room for more, whose last
+   entry this is, and this its bound. */
+enum { LEAVES_NONE = PQ_RESCHEDULE + 1 };
 typedef struct done {
     uint32_t request;
     pq_code code;

@@ -132,11 +132,22 @@ static void check_returned(const pq_entry *entry, const done *all, int count) {
     }
 }
 
+/* A batch that ended with this entry, though it had room, has left no item up to its bound. */
+static void check_batch(const pq_entry *entry, const done *all, int count) {
+    for (int i = 0; i < count; i++) {
+        if (all[i].request == LEAVES_NONE && all[i].number == entry->number && size > 0
+            && model[place_of(entry)].item.priority <= all[i].item.priority) {
+            fail("a batch ended with entry %llu, and the next item was due", (unsigned long long)entry->number);
+        }
+    }
+}
+
 void check_journal(const pq_journal *journal, const done *all, int count, int heard_end) {
     size = 0;
     check_archive(journal);
     for (size_t i = 0; i < entry_count; i++) {
         follow(i + 1, &entries[i]);
+        check_batch(&entries[i], all, count);
         if (count < MOST_DONE) {
             check_returned(&entries[i], all, count);
         }

@@ -159,13 +159,17 @@ static void pop_due(int which, const uint64_t *numbers) {
 /* As many items up to this priority. */
 static void pop_many(int which, const uint64_t *numbers) {
     enum { MOST = 8 };
-    pq_item items[MOST];
+    pq_item items[MOST], bound = { numbers[0], 0 };
+    const size_t room = numbers[1] < MOST ? numbers[1] : MOST;
     uint64_t entry = 0;
     size_t carried = 0;
     check_call_begins(CALLS, PQ_FOREVER, 0);
-    (void)!pq_pop_due_many(used[which], numbers[0], items, numbers[1] < MOST ? numbers[1] : MOST, PQ_FOREVER, &carried, &entry);
+    (void)!pq_pop_due_many(used[which], numbers[0], items, room, PQ_FOREVER, &carried, &entry);
     for (size_t i = 0; i < carried; i++) {
         check_call_ends(PQ_POP, PQ_OK, items[i], entry + i);
+    }
+    if (carried > 0 && carried < room) {
+        check_call_ends(LEAVES_NONE, PQ_OK, bound, entry + carried - 1);
     }
     check_call_begins(NO_CALL, PQ_FOREVER, 0);
 }

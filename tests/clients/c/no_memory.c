@@ -229,8 +229,8 @@ static void goes_on_without_memory(uint32_t keeping, uint32_t entries) {
     pq_give_back(member);
     pq_give_back(other);
     AT_LAST(asked, pq_close(queue, &journal), journal == NULL && out == had && is_open(queue));
-    /* The first two pushes, to which memory was refused, had the serials 1 and 2. */
-    CHECK(asked > 0 && pq_count(journal, NULL) == PUSHES + 7 && pq_read(journal, 0, &entry) == PQ_OK && entry.item.value == 1 && entry.serial == 3);
+    CHECK(asked > 0 && pq_count(journal, NULL) == PUSHES + 7 && pq_read(journal, 0, &entry) == PQ_OK && entry.item.value == 1);
+    CHECK(entry.serial == 3); /* two pushes were refused before */
     pq_free(queue, NULL, NULL);
     read_back_at_last(journal);
     CHECK(pq_take_left(journal, &item) == PQ_OK && is_item(item, 6, PUSHES - 6));

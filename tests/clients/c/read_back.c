@@ -107,48 +107,39 @@ static void keeps_the_last(void) {
 /* As an earlier version wrote it. */
 #define PUSHED "1 3 1 push 5 1 pushed\n2 3 4 push 6 2 pushed\n"
 
-static void is_refused(const char *last, uint64_t number) {
+/* After these lines this text is lawful, or its last line refused. */
+static void is_read(const char *last, pq_code expected) {
     char text[1000];
+    const size_t length = (size_t)snprintf(text, sizeof text, PUSHED "%s", last);
     pq_journal *journal;
     uint64_t line;
-    size_t length = (size_t)snprintf(text, sizeof text, PUSHED "%s", last);
-    CHECK(reads(text, length, &journal, &line) == PQ_NOT_LAWFUL && line == number);
+    CHECK(reads(text, length, &journal, &line) == expected && length_of(text, length, line) == length);
+    pq_journal_free(journal);
 }
 
-static void refuses_what_may_not_come_next(void) {
+/* Lawful are the last place, numbers that are 0, and serials that are left out, as requests had them to which memory was refused: before a place's
+   first entry, and while as many items wait as ever. With fewer items no push asks for memory. */
+static void reads_what_may_come_next(void) {
+    const char *const lawful[] = { "3 2079 1 pop got 5 1\n", "3 0 1 pop got 5 1\n", "3 3 5 push 0 0 pushed\n", "3 4 99 pop got 5 1\n",
+        "3 3 9 pop got 5 1\n4 4 99 pop got 6 2\n", "3 3 5 least least 5 1\n4 3 9 pop got 5 1\n", "3 3 5 move 1 9 got 5 1\n4 3 9 pop got 6 2\n",
+        "3 3 5 remove 9 empty\n4 3 9 pop got 5 1\n", "3 3 5 pop got 5 1\n4 3 6 push 1 1 pushed\n5 3 9 pop got 1 1\n" };
     const char *const unlawful[] = { "4 3 5 pop got 5 1\n", "2 3 5 pop got 5 1\n", "3 3 4 pop got 5 1\n", "3 3 3 pop got 5 1\n",
         "3 3 5 pop got 6 2\n", "3 3 5 pop empty\n", "3 3 5 least least 5 2\n", "garbage\n", "\n", "3 3 5 pop got 5 1 \n",
         "3 3 5 pop got 5 1\r\n", "3 3 5 pop\n", "3 70000 1 pop got 5 1\n", "3,3,5,pop,5,1\n", "{\"number\": 3}\n",
         "3 3 5 push 18446744073709551616 1 pushed\n", "03 3 5 pop got 5 1\n", "3 03 5 pop got 5 1\n", "3 3 05 pop got 5 1\n",
         "3 3 5 pop got 05 1\n", "3 3 5 pop got 5 01\n", "3 3 5 push 00 1 pushed\n", "3 2080 1 pop got 5 1\n",
-        "3 3 5 pop got 5 1 3e767fbf\n" };
+        "3 3 5 pop got 5 1 3e767fbf\n", "3 3 5 pop got 5 1\n3 3 6 pop got 6 2\n", "3 3 5 pop got 5 1\n4 3 9 pop got 6 2\n",
+        "3 3 5 remove 1 got 5 1\n4 3 9 pop got 6 2\n", "3 4 1 pop got 5 1\n4 4 9 push 1 1 pushed\n",
+        "3 3 5 pop got 5 1\n4 3 6 move 2 7 got 6 2\n5 3 9 pop got 7 2\n" };
     pq_journal *journal;
     uint64_t line;
-    for (size_t i = 0; i < sizeof unlawful / sizeof *unlawful; i++) {
-        is_refused(unlawful[i], 3);
-    }
-    is_refused("3 3 5 pop got 5 1\n3 3 6 pop got 6 2\n", 4);
-    CHECK(reads("1\n", 2, &journal, &line) == PQ_NOT_LAWFUL && line == 1 && reads("\n", 1, &journal, &line) == PQ_NOT_LAWFUL && line == 1);
-}
-
-/* What is lawful: the last place, numbers that are 0, and serials that requests had to which memory was refused, before a place's first entry and
-   while as many items wait as ever. With fewer items no push asks for memory, and a serial that is left out is refused. */
-static void accepts_what_may_come_next(void) {
-    const char *const lawful[] = { "3 2079 1 pop got 5 1\n", "3 0 1 pop got 5 1\n", "3 3 5 push 0 0 pushed\n", "3 4 99 pop got 5 1\n", "3 3 9 pop got 5 1\n",
-        "3 3 9 pop got 5 1\n4 4 99 pop got 6 2\n", "3 3 5 least least 5 1\n4 3 9 pop got 5 1\n", "3 3 5 move 1 9 got 5 1\n4 3 9 pop got 6 2\n",
-        "3 3 5 remove 9 empty\n4 3 9 pop got 5 1\n", "3 3 5 pop got 5 1\n4 3 6 push 1 1 pushed\n5 3 9 pop got 1 1\n" };
     for (size_t i = 0; i < sizeof lawful / sizeof *lawful; i++) {
-        char text[1000];
-        pq_journal *journal;
-        uint64_t line;
-        size_t length = (size_t)snprintf(text, sizeof text, PUSHED "%s", lawful[i]);
-        CHECK(reads(text, length, &journal, &line) == PQ_OK);
-        pq_journal_free(journal);
+        is_read(lawful[i], PQ_OK);
     }
-    is_refused("3 3 5 pop got 5 1\n4 3 9 pop got 6 2\n", 4);
-    is_refused("3 3 5 remove 1 got 5 1\n4 3 9 pop got 6 2\n", 4);
-    is_refused("3 3 5 pop got 5 1\n4 3 6 move 2 7 got 6 2\n5 3 9 pop got 7 2\n", 5);
-    is_refused("3 3 5 pop got 5 1\n4 3 6 pop got 6 2\n5 3 7 pop empty\n6 3 9 push 1 1 pushed\n", 6);
+    for (size_t i = 0; i < sizeof unlawful / sizeof *unlawful; i++) {
+        is_read(unlawful[i], PQ_NOT_LAWFUL);
+    }
+    CHECK(reads("1\n", 2, &journal, &line) == PQ_NOT_LAWFUL && line == 1 && reads("\n", 1, &journal, &line) == PQ_NOT_LAWFUL && line == 1);
 }
 
 enum { LINES = 6 };
@@ -302,8 +293,7 @@ int main(void) {
     is_read_back(0);
     is_read_back(requests(20000));
     keeps_the_last();
-    refuses_what_may_not_come_next();
-    accepts_what_may_come_next();
+    reads_what_may_come_next();
     finds_each_change();
     refuses_a_line_without_a_checksum();
     leaves_a_torn_line_out();

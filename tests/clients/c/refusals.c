@@ -2,8 +2,6 @@
    no_memory.c, forked.c and old_processor.c. */
 #include "refused.h"
 
-#include <string.h>
-
 /* An opening that this code ends, and one with the same that it doesn't. */
 static pq_code opening(uint32_t members, uint32_t keeping, uint32_t entries, uint32_t tickets) {
     pq_options options = { 0, 0, 0, 0, 5, 6, 0 };

@@ -1,10 +1,11 @@
-// A hundred threads call a queue of eight members themselves: each item comes out once, whichever call takes it. A shut queue ends all
-// waits.
+// A hundred threads call a queue of eight members themselves: each item comes out once, whichever call takes it. Jobs push jobs. A shut queue ends
+// all waits.
 #include "../check.h"
 #include "flatpq_tasks.hpp"
 
 #include <algorithm>
 #include <atomic>
+#include <future>
 #include <memory>
 #include <thread>
 #include <vector>
@@ -71,8 +72,27 @@ static void a_shut_queue_ends_all_waits(std::chrono::milliseconds a_while) {
     CHECK(pushed == taken && queue.close()->take().error() == code::empty);
 }
 
+// Jobs that threads run push others, as handlers of an event loop do, with signed keys. The last one shuts the queue.
+static void jobs_push_jobs() {
+    using job = std::packaged_task<void()>;
+    const int jobs = static_cast<int>(requests(1000));
+    flatpq::task_queue<job, int> queue;
+    std::atomic<int> ran{0};
+    const auto ends = [&] { CHECK(++ran < jobs || queue.shut() == code::ok); };
+    for (int i = 0; i < jobs; ++i) {
+        CHECK(queue.push(-i % 7, job([&, i] { CHECK(queue.push(-i % 5, job([&ends, own = std::make_unique<int>(i)] { ends(); }))); })));
+    }
+    run(9, [&](std::uint32_t) {
+        while (auto first = queue.take()) {
+            first->payload();
+        }
+    });
+    CHECK(ran == jobs);
+}
+
 int main() {
     each_item_comes_out_once();
+    jobs_push_jobs();
     for (int i = 0; i < 5; ++i) {
         a_shut_queue_ends_all_waits(std::chrono::milliseconds(i));
     }

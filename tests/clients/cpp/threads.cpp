@@ -72,11 +72,11 @@ static void a_shut_queue_ends_all_waits(std::chrono::milliseconds a_while) {
     CHECK(pushed == taken && queue.close()->take().error() == code::empty);
 }
 
-// Jobs that threads run push others, as handlers of an event loop do, with signed keys. The last one shuts the queue.
+// Jobs push others, as handlers of an event loop do, and more threads wait for them than there are members. The last job shuts the queue.
 static void jobs_push_jobs() {
     using job = std::packaged_task<void()>;
     const int jobs = static_cast<int>(requests(1000));
-    flatpq::task_queue<job, int> queue;
+    flatpq::task_queue<job, int> queue({4});
     std::atomic<int> ran{0};
     const auto ends = [&] { CHECK(++ran < jobs || queue.shut() == code::ok); };
     for (int i = 0; i < jobs; ++i) {

@@ -269,11 +269,10 @@ size_t pq_text(const pq_entry *entry, char text[PQ_TEXT_ROOM]);
 PQ_CHECKED pq_code pq_write(const pq_journal *journal, int file);
 
 /* Reads a journal back from a file descriptor, to the end of the file: the text that pq_write writes, of a journal from entry 1 on. Each line is
-   checked: its checksum, that its number is the next one, that its serial may be its place's next, and that its reply follows from the entries
-   before. A text of an earlier version has no checksums. The journal is as that of a closed queue, and keeps the last 65536 entries. line and
-   bytes may be NULL; else *line is how many lines are read, and *bytes the length of those before a torn or refused one. PQ_OK; PQ_TORN: the
-   last line has no line feed, and is left out; PQ_NOT_LAWFUL: line *line is refused, and *journal is NULL, as of PQ_NOT_READ, PQ_NO_MEMORY and
-   PQ_PROCESSOR. */
+   checked: its checksum, that its number is the next one, and that its reply follows from the entries before. A text of an earlier version has no
+   checksums. The journal is as that of a closed queue, and keeps the last 65536 entries. line and bytes may be NULL; else *line is how many lines
+   are read, and *bytes the length of those before a torn or refused one. PQ_OK; PQ_TORN: the last line has no line feed, and is left out;
+   PQ_NOT_LAWFUL: line *line is refused, and *journal is NULL, as of PQ_NOT_READ, PQ_NO_MEMORY and PQ_PROCESSOR. */
 PQ_CHECKED pq_code pq_journal_read(int file, pq_journal **journal, uint64_t *line, uint64_t *bytes);
 
 /* Takes the first item out that is left in a closed queue. PQ_OK; PQ_EMPTY. */

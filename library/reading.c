@@ -21,11 +21,6 @@ typedef struct reader {
     int is_long;       /* a piece is left out that is longer than a line */
     size_t begin, end; /* where in `text` what is not replayed yet stands */
     char text[64 * PQ_TEXT_ROOM];
-    uint64_t items, peak; /* how many the queue has after the last line, and the most that it has had */
-    uint64_t peak_line;   /* the last line after which it had as many as ever, or 0 */
-    struct {
-        uint64_t line, serial; /* of its last entry, or 0 */
-    } places[PLACES];
 } reader;
 
 /* Reads a block after what is there: how many bytes; 0 at the end of the file, and -1 where the read failed. A thread that was cancelled here
@@ -53,46 +48,14 @@ static size_t without_checksum(const char *line, size_t length) {
     return memcmp(word, line + length, sizeof word) == 0 ? length : 0;
 }
 
-static int has_leading_zeros(const char *line, size_t length) {
+/* Whether a line that was replayed is as a queue writes it: the replay also reads numbers with leading zeros, and places of 16 bits. */
+static int is_as_written(const char *line, size_t length) {
     for (size_t i = 0; i + 1 < length; i++) {
         if (line[i] == '0' && line[i + 1] != ' ' && (i == 0 || line[i - 1] == ' ')) {
-            return 1;
+            return 0;
         }
     }
-    return 0;
-}
-
-/* Counts the items after this line, whose request begins here. The reply `empty` alone takes none out. */
-static void count_items(reader *it, const char *request, char last) {
-    if (strncmp(request, " push", 5) == 0) {
-        it->items++;
-    } else if ((strncmp(request, " pop", 4) == 0 || strncmp(request, " remove", 7) == 0) && last != 'y') {
-        it->items--;
-    }
-    if (it->items >= it->peak) {
-        it->peak = it->items;
-        it->peak_line = it->lines;
-    }
-}
-
-/* Whether the place may have this serial next. It leaves those out that it gave to pushes and moves to which memory was refused, any number of them.
-   The heap keeps its room. So it asks for memory only while it has as many items as ever: at first, and after a line since the place's last one. */
-static int may_be_next(const reader *it, uint64_t place, uint64_t serial) {
-    return serial == it->places[place].serial + 1 || it->peak_line >= it->places[place].line;
-}
-
-/* Whether a line that was replayed is as a queue writes it: the replay also reads numbers with leading zeros, places of 16 bits, and all serials
-   that rise. */
-static int is_as_written(reader *it, const char *line, size_t length) {
-    char *at;
-    const uint64_t place = strtoul(line + strcspn(line, " "), &at, 10), serial = strtoul(at, &at, 10);
-    if (has_leading_zeros(line, length) || place >= PLACES || !may_be_next(it, place, serial)) {
-        return 0;
-    }
-    it->places[place].line = it->lines;
-    it->places[place].serial = serial;
-    count_items(it, at, line[length - 1]);
-    return 1;
+    return strtoul(line + strcspn(line, " "), NULL, 10) < PLACES;
 }
 
 /* Earlier versions wrote no checksums. The first line of such a text ends in a word that is none, as an empty queue has no item to return.
@@ -108,7 +71,7 @@ static pq_code replay_line(reader *it, const char *line, size_t length) {
     }
     length = it->has_checksums ? without_checksum(line, length) : length;
     code = LEAVE_OUT(pq_core_replay_line(&it->replay, (const uint8_t *)line, length));
-    return code != PQ_OK || is_as_written(it, line, length) ? code : PQ_NOT_LAWFUL;
+    return code != PQ_OK || is_as_written(line, length) ? code : PQ_NOT_LAWFUL;
 }
 
 /* Replays the whole lines that are there. A piece that is longer than a line is left out: it is refused once its line feed comes. */
@@ -158,18 +121,17 @@ static pq_code read_all(reader *it, core *journal) {
 }
 
 pq_code pq_journal_read(int file, pq_journal **journal, uint64_t *line, uint64_t *bytes) {
-    reader *it = NULL;
+    reader it;
     core ended = NULL;
     pq_journal *made = NULL;
     pq_code code = flatpq_may_read();
+    it.file = file;
+    it.replay = NULL;
+    it.lines = it.bytes = it.begin = it.end = 0;
+    it.has_checksums = it.is_long = 0;
     if (code == PQ_OK) {
-        it = calloc(1, sizeof *it);
         made = flatpq_new_journal();
-        code = PQ_NO_MEMORY;
-    }
-    if (it != NULL && made != NULL) {
-        it->file = file;
-        code = read_all(it, &ended);
+        code = made != NULL ? read_all(&it, &ended) : PQ_NO_MEMORY;
     }
     if (made != NULL) {
         flatpq_fill_journal(made, ended);
@@ -180,11 +142,10 @@ pq_code pq_journal_read(int file, pq_journal **journal, uint64_t *line, uint64_t
     }
     *journal = made;
     if (line != NULL) {
-        *line = it != NULL ? it->lines : 0;
+        *line = it.lines;
     }
     if (bytes != NULL) {
-        *bytes = it != NULL ? it->bytes : 0;
+        *bytes = it.bytes;
     }
-    free(it);
     return code;
 }

@@ -24,6 +24,7 @@ typedef struct fiber {
     uint64_t limit;  /* the deadline of its call */
     uint64_t number; /* the entry of AWAITS; the bound of LISTENS_FOR */
     uint64_t calls;  /* that it has begun */
+    uint64_t begun;  /* when its call began, as check.c counts */
     const void *at;  /* the mutex or the word for which it waits */
     int priority;    /* of a random schedule */
     int is_after_end; /* a take had returned the end before its call began */
@@ -114,7 +115,9 @@ typedef struct done {
     pq_code code;
     pq_item item;
     uint64_t number;
+    uint64_t begun, ended; /* counted as they come */
 } done;
+enum { SIZED = 100 }; /* a request of the size: its item has that, and the peak */
 enum { MOST_DONE = 64 };
 extern pq_queue *queue;
 extern enum ending { STANDS, CLOSED, FREED } ending; /* what the scenario has done to its queue */

@@ -217,9 +217,6 @@ COLD void flatpq_wake_owed(pq_member *member) {
     uint32_t count = claim(member);
     if (count > 0 && __atomic_load_n(&member->queue->alarm_count, SEQ) > 0) {
         count += say_first(member);
-        if (__atomic_load_n(&member->queue->concerned, SEQ) >= PRODUCER) {
-            flatpq_say_room(member->queue); /* these looks may have carried out a pop */
-        }
     }
     flatpq_owe(member->queue, count);
 }

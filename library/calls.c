@@ -285,18 +285,9 @@ pq_code pq_peek(pq_member *member, pq_item *item, uint64_t until, uint64_t *numb
  * Taking the first item out, or looking at it, which has no entry. No other thread does it for this one.
  */
 
-/* A step that has no answer. Where it found the end of a shut queue, it may have carried out the pop of another, which took the last item. */
-static COLD pq_code not_taken(pq_member *it, pq_code code) {
-    const core_answer none = { KIND_EMPTY, 0, 0, { 0, 0 } };
-    if (code == PQ_SHUT) {
-        flatpq_carried_out(it, &none);
-    }
-    return code == LOCK_HELD ? PQ_TIMED_OUT : code;
-}
-
 INLINE pq_code taken(pq_member *it, pq_code code, const core_answer *answer) {
     if (!LIKELY(code == PQ_OK)) {
-        return not_taken(it, code);
+        return code == LOCK_HELD ? PQ_TIMED_OUT : code;
     }
     watch_answer(answer);
     flatpq_carried_out(it, answer);

@@ -25,9 +25,10 @@
  * So notify never runs after a call that ended the listening. No lock is held while notify runs.
  *
  * At a queue that is shut a step that finds no item is the last, unless a push is being posted: then it is made again soon. Those that wait for
- * what will be due there are counted in `concerned`, before they look. A thread that takes an item out reads that count afterwards, and where it is
- * not 0 looks whether the queue is empty. If so it wakes all. One that moves an item, which may be due earlier then, reads the count and wakes
- * all. A member that did not see that the queue is shut was in its list before, and pq_shut wakes it.
+ * what will be due there are counted in `concerned`, before they look. A thread that takes an item out, by itself or by another that carries its
+ * pop out, reads that count afterwards, and where it is not 0 looks whether the queue is empty. If so it wakes all. One that moves an item, which
+ * may be due earlier then, reads the count and wakes all. A member that did not see that the queue is shut was in its list before, and pq_shut
+ * wakes it.
  */
 #include "inside.h"
 

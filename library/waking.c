@@ -217,9 +217,6 @@ COLD void flatpq_wake_owed(pq_member *member) {
     uint32_t count = claim(member);
     if (count > 0 && __atomic_load_n(&member->queue->alarm_count, SEQ) > 0) {
         count += say_first(member);
-        if (__atomic_load_n(&member->queue->concerned, SEQ) >= PRODUCER) {
-            flatpq_say_room(member->queue); /* these looks may have carried out a pop */
-        }
     }
     flatpq_owe(member->queue, count);
 }
@@ -276,7 +273,7 @@ static void wake_drained(pq_member *member, const core_answer *answer) {
     }
 }
 
-/* Whether a queue has room. Where the lock is held for long it may have. To count carries out what is posted, and may so take the last item. */
+/* Whether a queue has room. Where the lock is held for long it may have. To count carries out what is posted, and may so owe wakes. */
 int flatpq_has_room(pq_member *member) {
     const int tries = 32;
     uint64_t count = 0;
@@ -288,9 +285,6 @@ int flatpq_has_room(pq_member *member) {
     }
     if (owes_wake) {
         flatpq_wake_owed(member);
-    }
-    if (code == PQ_OK && count == 0) {
-        wake_drained(member, NULL);
     }
     return code != PQ_OK || count < member->queue->most_items;
 }

@@ -11,11 +11,13 @@ enum ending ending;
 static pq_member *observer;
 static done all[MOST_DONE];
 static int count_done, heard_end;
+static uint64_t events; /* begins and ends of calls */
 
 void check_begin(pq_options options, int is_observed) {
     options.members += options.members != 0 && is_observed;
     ending = STANDS;
     count_done = heard_end = 0;
+    events = 0;
     observer = NULL;
     if (played.wraps != NULL) {
         played.wraps->opens(&options);
@@ -29,6 +31,7 @@ void check_begin(pq_options options, int is_observed) {
 
 void check_call_begins(enum call call, uint64_t limit, uint64_t number) {
     me->calls++;
+    me->begun = ++events;
     me->is_after_end = heard_end;
     me->call = call;
     me->limit = limit;
@@ -40,6 +43,7 @@ void check_call_begins(enum call call, uint64_t limit, uint64_t number) {
 void check_call_ends(uint32_t request, pq_code code, pq_item item, uint64_t number) {
     const int takes = me->call == TAKES || me->call == TAKES_DUE;
     const int gives_up = code == PQ_TIMED_OUT || (takes && (code == PQ_EMPTY || code == PQ_NOT_DUE)) || (me->call == PUSHES && code == PQ_FULL);
+    const int is_look = (takes && code == PQ_EMPTY) || (me->call == PUSHES && code == PQ_FULL); /* it found that, and has no entry */
     if (gives_up && me->limit != PQ_NOW && now < me->limit) {
         fail("a call gives up (%s) at %llu, and its deadline is %llu", pq_code_text(code), (unsigned long long)now, (unsigned long long)me->limit);
     }
@@ -49,8 +53,8 @@ void check_call_ends(uint32_t request, pq_code code, pq_item item, uint64_t numb
     heard_end |= code == PQ_SHUT && request == PQ_POP;
     me->call = NO_CALL;
     me->limit = PQ_FOREVER;
-    if (count_done < MOST_DONE && (code == PQ_OK || number != 0)) {
-        const done it = { request, code, item, number };
+    if (count_done < (is_look ? MOST_DONE / 2 : MOST_DONE) && (code == PQ_OK || number != 0 || is_look)) {
+        const done it = { request, code, item, number, me->begun, ++events };
         all[count_done++] = it;
     }
 }

@@ -24,6 +24,7 @@ typedef struct fiber {
     uint64_t limit;  /* the deadline of its call */
     uint64_t number; /* the entry of AWAITS; the bound of LISTENS_FOR */
     uint64_t calls;  /* that it has begun */
+    uint64_t begun;  /* when its call began, as check.c counts */
     const void *at;  /* the mutex or the word for which it waits */
     int priority;    /* of a random schedule */
     int is_after_end; /* a take had returned the end before its call began */
@@ -108,15 +109,17 @@ void use_members(int joined);
 void give_back(int which);
 void while_refused(pq_code (*does)(int which, const uint64_t *numbers), int which, const uint64_t *numbers); /* for the archive */
 
-/* check.c, journal.c: what holds whenever nobody can run, and at the end of each execution. LEAVES_NONE: a batch that had room for more, whose last
-   entry this is, and this its bound. */
-enum { LEAVES_NONE = PQ_RESCHEDULE + 1 };
+/* check.c, journal.c: what holds whenever nobody can run, and at the end of each execution. */
 typedef struct done {
     uint32_t request;
     pq_code code;
     pq_item item;
     uint64_t number;
+    uint64_t begun, ended; /* counted as they come */
 } done;
+/* SIZED: a request of the size: its item has that, and the peak. LEAVES_NONE: a batch of pops that had room for more, with its last entry and its
+   bound. */
+enum { SIZED = 100, LEAVES_NONE };
 enum { MOST_DONE = 64 };
 extern pq_queue *queue;
 extern enum ending { STANDS, CLOSED, FREED } ending; /* what the scenario has done to its queue */

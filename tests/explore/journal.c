@@ -13,7 +13,10 @@ static struct {
     pq_item item;
     uint64_t ticket;
 } model[MOST_ITEMS];
-static size_t size;
+static size_t size, peak;
+static struct {
+    size_t size, peak;
+} after[MOST_ENTRIES + 1]; /* so many entries */
 
 void journal_begin(void) {
     entry_count = 0;
@@ -142,11 +145,48 @@ static void check_batch(const pq_entry *entry, const done *all, int count) {
     }
 }
 
+static int has_number(const done *it) {
+    return it->number != 0 && it->number != UNNUMBERED && it->request <= PQ_RESCHEDULE;
+}
+
+/* Whether a call that has no entry could return this after so many entries. */
+static int fits(const done *it, size_t at) {
+    if (it->request == SIZED) {
+        return after[at].size == it->item.priority && after[at].peak == it->item.value;
+    }
+    return it->code == PQ_FULL ? after[at].size >= queue->most_items : after[at].size == 0;
+}
+
+/* The order of the journal is that of the calls: one that began after another had ended comes after it, with an entry or without. */
+static void check_order(const done *it, const done *all, int count) {
+    const int is_look = it->number == 0 && (it->request == SIZED || it->code == PQ_EMPTY || it->code == PQ_FULL);
+    size_t from = 0, to = entry_count;
+    for (int i = 0; i < count; i++) {
+        if (has_number(&all[i])) {
+            from = all[i].ended < it->begun && all[i].number > from ? all[i].number : from;
+            to = it->ended < all[i].begun && all[i].number <= to ? all[i].number - 1 : to;
+        }
+    }
+    if (has_number(it) && (it->number <= from || it->number > to)) {
+        fail("entry %llu is of a call that began after entry %zu, or ended before entry %zu", (unsigned long long)it->number, from, to + 1);
+    }
+    while (is_look && from <= to && !fits(it, from)) {
+        from++;
+    }
+    if (from > to) {
+        fail("between its begin and its end what a call returned was not so: %s, size %llu, peak %llu", pq_code_text(it->code),
+             (unsigned long long)it->item.priority, (unsigned long long)it->item.value);
+    }
+}
+
 void check_journal(const pq_journal *journal, const done *all, int count, int heard_end) {
-    size = 0;
+    size = peak = 0;
     check_archive(journal);
     for (size_t i = 0; i < entry_count; i++) {
         follow(i + 1, &entries[i]);
+        peak = size > peak ? size : peak;
+        after[i + 1].size = size;
+        after[i + 1].peak = peak;
         check_batch(&entries[i], all, count);
         if (count < MOST_DONE) {
             check_returned(&entries[i], all, count);
@@ -157,5 +197,6 @@ void check_journal(const pq_journal *journal, const done *all, int count, int he
     }
     for (int i = 0; i < count; i++) {
         check_done(all, i);
+        check_order(&all[i], all, count);
     }
 }

@@ -192,8 +192,11 @@ static void move_first(int which, const uint64_t *numbers) {
 }
 
 static void count_items(int which, const uint64_t *numbers) {
-    uint64_t size;
-    (void)!pq_size(used[which], numbers[0], &size, NULL);
+    pq_item found = none;
+    pq_code code;
+    check_call_begins(CALLS, numbers[0], 0);
+    code = pq_size(used[which], numbers[0], &found.priority, &found.value);
+    check_call_ends(SIZED, code, found, 0);
 }
 
 /*

@@ -4,6 +4,8 @@
 #include <fcntl.h>
 #include <unistd.h>
 
+uint64_t greatest;
+
 /* The queue of one thread: the items in the order in which they come out, with their tickets. */
 typedef struct waiting {
     pq_item item;
@@ -89,10 +91,10 @@ static const char *replayed(const pq_entry *entries, size_t count, const pq_item
     return wrong;
 }
 
-/* A move returns no item. */
+/* A move returns no item. What was returned before the call began has no later entry. */
 static int is_answer(const pq_entry *entry, const answer *it) {
     const int has_item = it->reply == PQ_OK && it->request != PQ_RESCHEDULE;
-    return entry->request == it->request && entry->reply == it->reply && (!has_item || same(entry->item, it->item));
+    return entry->request == it->request && entry->reply == it->reply && (!has_item || same(entry->item, it->item)) && entry->number > it->seen;
 }
 
 /* Finds the entry of an answer, which no other answer has: its index, or count. */
@@ -144,7 +146,7 @@ static const char *answers_wrong(const pq_entry *entries, size_t count, const ou
     for (int has_number = 1; has_number >= 0; has_number--) {
         for (uint32_t i = 0; i < threads && wrong == NULL; i++) {
             wrong = all[i].wrong != NULL                                          ? all[i].wrong
-                  : !finds_answers(entries, count, &all[i], has_number, is_taken) ? "a call returned what the journal does not have"
+                  : !finds_answers(entries, count, &all[i], has_number, is_taken) ? "a call returned what the journal does not have, or not there"
                                                                                   : NULL;
         }
     }
@@ -220,14 +222,14 @@ int finds_faults(void) {
                                  { 2, 1, 1, PQ_PUSH, PQ_OK, 0, { 3, 2 }, 0, 0 },
                                  { 3, 2, 0, PQ_POP, PQ_OK, 0, { 3, 2 }, 0, 0 },
                                  { 4, 3, 0, PQ_RESCHEDULE, PQ_OK, 0, { 5, 1 }, 1, 7 } };
-    const answer of_first[3] = { { 1, PQ_PUSH, PQ_OK, { 5, 1 } }, { 3, PQ_POP, PQ_OK, { 3, 2 } }, { 4, PQ_RESCHEDULE, PQ_OK, { 0, 0 } } };
-    const answer of_second = { 0, PQ_PUSH, PQ_OK, { 3, 2 } };
+    const answer of_first[3] = { { 1, PQ_PUSH, PQ_OK, { 5, 1 }, 0 }, { 3, PQ_POP, PQ_OK, { 3, 2 }, 2 }, { 4, PQ_RESCHEDULE, PQ_OK, { 0, 0 }, 3 } };
+    const answer of_second = { 0, PQ_PUSH, PQ_OK, { 3, 2 }, 1 };
     const pq_item left = { 7, 1 };
     int found = 1;
-    for (int fault = 0; fault <= 11; fault++) {
+    for (int fault = 0; fault <= 12; fault++) {
         pq_entry entries[4];
         answer answers[4] = { of_first[0], of_first[1], of_first[2], of_second };
-        outcome all[2] = { { answers, 3, 3, 0, 3, 1, NULL, 0, NULL }, { &answers[3], 1, 1, 0, 1, 1, NULL, 0, NULL } };
+        outcome all[2] = { { answers, 3, 3, 0, 3, 1, NULL, 0, NULL, 0 }, { &answers[3], 1, 1, 0, 1, 1, NULL, 0, NULL, 0 } };
         memcpy(entries, lawful, sizeof entries);
         entries[1].serial = fault == 1 ? 0 : 1;
         entries[2].item.value = fault == 2 ? 1 : 2;
@@ -241,6 +243,7 @@ int finds_faults(void) {
         all[0].wrong = fault == 9 ? "a fault" : NULL;
         entries[3].ticket = fault == 10 ? 2 : 1;
         entries[3].priority = fault == 11 ? 8 : 7;
+        answers[1].seen = fault == 12 ? 3 : 2;
         found = found && (audited(entries, 4, &left, 1, all, 2, 5) == NULL) == (fault == 0);
     }
     return found && audited(lawful, 4, &left, 0, NULL, 0, 5) != NULL;

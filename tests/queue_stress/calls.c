@@ -178,6 +178,7 @@ static void keeps(caller *own) {
     pq_item item = { 0, 0 };
     while (pq_archive(own->member, 0, PQ_FOREVER, &whole) == PQ_OK && pq_count(whole, NULL) < 2 * LARGE / sizeof(pq_entry)) {
         uint64_t number = 0;
+        begins(&own->outcome);
         pq_code code = pq_push(own->member, item, PQ_FOREVER, &number);
         answered(own, PQ_PUSH, code, number, item);
         pq_journal_free(whole);
@@ -216,6 +217,7 @@ static void *calls(void *at) {
     }
     for (uint32_t made = 0; made < most && own->outcome.wrong == NULL; made++) {
         own->outcome.calls++;
+        begins(&own->outcome);
         if (own->round->archives && own->number == 1 && made % BETWEEN_ARCHIVES == 0) {
             archives(own);
         }
@@ -257,6 +259,7 @@ const char *plays_calls(uint64_t seed, uint32_t number, uint64_t *calls_made) {
     outcome all[MOST_THREADS];
     const char *wrong = NULL;
     memset(callers, 0, sizeof callers);
+    greatest = 0;
     /* Of the members one at least is left for those that share pq_own. */
     for (uint32_t i = 0; i < round.threads; i++) {
         caller *own = &callers[i];

@@ -34,11 +34,13 @@ static inline numbers numbers_of(uint64_t seed, uint64_t stream) {
     return it;
 }
 
-/* The answer to a request: the number of its entry, or 0 where the call doesn't say it, and what the entry has to say. */
+/* The answer to a request: the number of its entry, or 0 where the call doesn't say it, what the entry has to say, and the greatest number that
+   any call had returned when this one began. */
 typedef struct answer {
     uint64_t number;
     uint32_t request, reply;
     pq_item item;
+    uint64_t seen;
 } answer;
 
 /* What a thread did: the answers that it got, in this order; how many of its requests were refused since the journal is full; and
@@ -51,14 +53,25 @@ typedef struct outcome {
     pq_entry *archive;
     size_t archived;
     const char *wrong; /* what a call returned that it may not return */
+    uint64_t seen;     /* when its last call began */
 } outcome;
+
+/* The greatest number that a call has returned in this round. These make no order among threads but for this word. */
+extern uint64_t greatest;
+
+static inline void begins(outcome *it) {
+    it->seen = __atomic_load_n(&greatest, __ATOMIC_RELAXED);
+}
 
 static inline void add(outcome *it, uint64_t number, uint32_t request, uint32_t reply, pq_item item) {
     if (it->count == it->room) {
         it->room = 2 * it->room + 64;
         it->answers = (answer *)realloc(it->answers, it->room * sizeof *it->answers);
     }
-    answer made = { number, request, reply, item };
+    answer made = { number, request, reply, item, it->seen };
+    uint64_t last = __atomic_load_n(&greatest, __ATOMIC_RELAXED);
+    while (last < number && !__atomic_compare_exchange_n(&greatest, &last, number, 0, __ATOMIC_RELAXED, __ATOMIC_RELAXED)) {
+    }
     it->answers[it->count++] = made;
 }
 

@@ -113,6 +113,7 @@ static void *all_taken(void *at) {
     for (uint32_t count = 0; count < own->share;) {
         pq_item item = { 0, 0 };
         uint64_t number = 0;
+        begins(&own->outcome);
         pq_code code = takes(own, &item, &number);
         own->outcome.calls++;
         if (code == PQ_OK) {
@@ -148,6 +149,7 @@ static void *all_pushed(void *at) {
         if (below(&own->drawn, own->round->each > 0 ? 2 : 8) == 0) {
             usleep(below(&own->drawn, 300));
         }
+        begins(&own->outcome);
         code = pushes(own, item, &number);
         own->outcome.calls++;
         if (code == PQ_OK) {
@@ -259,6 +261,7 @@ const char *plays_waits(uint64_t seed, uint32_t number, uint64_t *calls_made) {
     outcome all[MOST_THREADS];
     const char *wrong = NULL;
     memset(waiters, 0, sizeof waiters);
+    greatest = 0;
     wrong = all_run(&round, waiters, &drawn) ? NULL : "an item is left beside those who wait for it, or have";
     for (uint32_t i = 0; i < threads; i++) {
         all[i] = waiters[i].outcome;

@@ -83,26 +83,6 @@ static void some_times_never_ring(pq_queue *queue, pq_member *member) {
     CHECK(is_quiet(&it) && take(&it) == PQ_OK && close(it.timer) == 0);
 }
 
-/* Times are those of the options, to both ends of 64 bits. */
-static void times_are_those_of_the_options(void) {
-    pq_options options = { 2, PQ_FORGETS, 0, 0, 1000, 0, 0 };
-    const uint64_t units = soon() / (7 * MS) + 1;
-    pq_queue *queue = NULL;
-    alarm_of it;
-    options.time_unit = 7 * MS;
-    CHECK(pq_open(&options, &queue) == PQ_OK);
-    it = alarm_by(joined(queue));
-    push(pq_own(queue), UINT64_MAX);
-    CHECK(take(&it) == PQ_NOT_DUE && it.item.priority == UINT64_MAX && is_quiet(&it));
-    push(pq_own(queue), 1000 + units);
-    CHECK(rings(&it) && take(&it) == PQ_NOT_DUE && it.item.priority == 1000 + units);
-    CHECK(rings(&it) && pq_now() >= units * 7 * MS && take(&it) == PQ_OK && it.item.priority == 1000 + units);
-    push(pq_own(queue), 999);
-    CHECK(take(&it) == PQ_OK && it.item.priority == 999 && take(&it) == PQ_NOT_DUE && is_quiet(&it));
-    end(&it);
-    close_and_free(queue);
-}
-
 /* A refusal leaves the item where it was, and the member does not listen. */
 static void it_is_refused(pq_queue *queue, pq_member *member) {
     const int files[] = { -1, eventfd(0, 0), 1 << 20 };
@@ -158,7 +138,6 @@ int main(void) {
     it_is_refused(queue, member);
     pq_give_back(member);
     close_and_free(queue);
-    times_are_those_of_the_options();
     a_lock_that_is_held_costs_little();
     return 0;
 }

@@ -1,5 +1,5 @@
-/* Queues with a bound: a push to a full queue is refused at once or at its deadline. Who is woken for room tests/explore tries; size.c has threads
-   that push and take at a bound. */
+/* Queues with a bound: a push to a full queue is refused at once or at its deadline. Who is woken for room tests/explore tries;
+   linearizable.c has threads that push and take at a bound. */
 #include "../check.h"
 
 static void is_full(pq_queue *queue, pq_member *member, uint64_t until) {

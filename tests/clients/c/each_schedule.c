@@ -140,8 +140,8 @@ static const struct {
     const char *kinds;
     int inside;
 } cases[] = {
-    { "tp", 0 }, { "dp", 0 }, { "tdp", 0 }, { "dos", 0 }, { "tto", 0 }, { "too", 0 }, { "tpos", 0 }, { "ts", 2 }, { "ds", 2 }, { "tp", 2 },
-    { "dp", 2 }, { "to", 2 }, { "tps", 2 }, { "tos", 2 }
+    { "tt", 0 }, { "tp", 0 }, { "dp", 0 }, { "tdp", 0 }, { "dos", 0 }, { "tto", 0 }, { "too", 0 }, { "tpos", 0 }, { "ts", 2 }, { "ds", 2 },
+    { "tp", 2 }, { "dp", 2 }, { "to", 2 }, { "tps", 2 }, { "tos", 2 }
 };
 
 int main(void) {

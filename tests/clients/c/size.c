@@ -1,5 +1,5 @@
-/* pq_size: how many items there are after each call that puts some in or takes some out, and were at most, without an entry; and beside
-   other threads, which push and take at a bound, it is a number that the queue had. */
+/* pq_size: how many items there are after each call that puts some in or takes some out, and were at most, without an entry. linearizable.c has
+   it beside other threads. */
 #include "../check.h"
 
 static void is_of(pq_queue *queue, pq_member *member, uint64_t wanted) {
@@ -59,51 +59,8 @@ static void has_a_peak(void) {
     close_and_free(queue);
 }
 
-enum { SIDES = 4, MOST = 8 };
-static pq_queue *shared;
-static int is_over;
-
-/* One thread of two pushes, and the other pops, as often as they can. */
-static void *push_or_pop(void *own) {
-    const int pushes = *(const int *)own % 2;
-    pq_item item = item_of(1, 1);
-    while (!is_set(&is_over)) {
-        pq_code code = pushes ? pq_push(pq_own(shared), item, pq_after(100000), NULL) : pq_take(pq_own(shared), &item, pq_after(100000), NULL);
-        CHECK(code == PQ_OK || code == PQ_TIMED_OUT || code == (pushes ? PQ_FULL : PQ_EMPTY));
-    }
-    return NULL;
-}
-
-static void is_never_above_the_bound(void) {
-    int sides[SIDES];
-    pthread_t threads[SIDES];
-    pq_options options = { 0, 0, 0, 0, 0, 0, MOST };
-    uint64_t size = 0, seen = 0, peak = 0, seen_peak = 0;
-    CHECK(pq_open(&options, &shared) == PQ_OK);
-    for (int i = 0; i < SIDES; i++) {
-        sides[i] = i;
-        threads[i] = started(push_or_pop, &sides[i]);
-    }
-    for (uint32_t i = 0; i < requests(20000) || seen == 0; i++) {
-        CHECK(pq_size(pq_own(shared), PQ_FOREVER, &size, &peak) == PQ_OK && size <= peak && seen_peak <= peak && peak <= MOST);
-        seen_peak = peak;
-        seen += size > 0;
-    }
-    set(&is_over, 1);
-    for (int i = 0; i < SIDES; i++) {
-        ended(threads[i]);
-    }
-    for (size = size_of(shared); size > 0; size--) {
-        pq_item item;
-        CHECK(size_of(shared) == size && pq_pop(pq_own(shared), &item, PQ_FOREVER, NULL) == PQ_OK);
-    }
-    CHECK(size_of(shared) == 0);
-    pq_free(shared, NULL, NULL);
-}
-
 int main(void) {
     follows_each_call();
     has_a_peak();
-    is_never_above_the_bound();
     return 0;
 }

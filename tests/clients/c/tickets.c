@@ -1,11 +1,10 @@
 /* Removals and moves by ticket: the first item, one in the middle and the last one go out, or elsewhere; a ticket that is gone, was never there or
-   is that of another entry returns PQ_GONE and has an entry; a queue without tickets refuses; moves, removals and pops in threads take each item
-   out once; a removal makes room in a queue with a bound, and a move does not; and a journal with both is read back. Where there is an argument,
-   a journal is written out. Whom a move wakes tests/explore tries. */
+   is that of another entry returns PQ_GONE and has an entry; a queue without tickets refuses; a removal makes room in a queue with a bound, and a
+   move does not; and a journal with both is read back. Where there is an argument, a journal is written out. Whom a move wakes tests/explore
+   tries; linearizable.c has both in threads. */
 #include "../wrapped.h"
 
 #include <malloc.h>
-#include <sched.h>
 #include <string.h>
 #include <sys/mman.h>
 
@@ -148,78 +147,6 @@ static void refuses_for_now(void) {
     close_and_free(queue);
 }
 
-/* Threads that remove each item by its ticket, threads that move each, and threads that pop until there is none: none is missed on its way. */
-enum { ITEMS = 40000 };
-static uint64_t tickets[ITEMS];
-static uint32_t outs[ITEMS], next, moves;
-
-/* Waits until some items were moved, and goes on beside the moves of the others. */
-static void await_moves(void) {
-    while (__atomic_load_n(&moves, __ATOMIC_RELAXED) < requests(ITEMS) / 20) {
-        sched_yield();
-    }
-}
-
-static void *remove_all(void *queue) {
-    uint32_t i;
-    await_moves();
-    while ((i = __atomic_fetch_add(&next, 1, __ATOMIC_RELAXED)) < requests(ITEMS)) {
-        pq_item item;
-        const uint64_t ticket = __atomic_load_n(&tickets[i], __ATOMIC_RELAXED);
-        const pq_code code = pq_remove(pq_own((pq_queue *)queue), ticket, &item, PQ_FOREVER, NULL);
-        CHECK(code == PQ_GONE || (code == PQ_OK && item.priority < 100 && item.value == i));
-        if (code == PQ_OK) {
-            __atomic_fetch_add(&outs[i], 1, __ATOMIC_RELAXED);
-        }
-    }
-    return NULL;
-}
-
-static void *move_all(void *queue) {
-    for (uint32_t i = requests(ITEMS); i-- > 0;) {
-        uint64_t ticket = __atomic_load_n(&tickets[i], __ATOMIC_RELAXED), number;
-        const pq_code code = pq_reschedule(pq_own((pq_queue *)queue), ticket, ticket * 7 % 100, PQ_FOREVER, &number);
-        CHECK(code == PQ_OK || code == PQ_GONE);
-        if (code == PQ_OK) {
-            __atomic_store_n(&tickets[i], number, __ATOMIC_RELAXED);
-            __atomic_fetch_add(&moves, 1, __ATOMIC_RELAXED);
-        }
-    }
-    return NULL;
-}
-
-static void *pop_all(void *queue) {
-    pq_item item;
-    pq_code code;
-    await_moves();
-    while ((code = pq_pop(pq_own((pq_queue *)queue), &item, PQ_FOREVER, NULL)) != PQ_EMPTY) {
-        CHECK(code == PQ_OK);
-        __atomic_fetch_add(&outs[item.value], 1, __ATOMIC_RELAXED);
-    }
-    return NULL;
-}
-
-static void each_goes_out_once(void) {
-    void *(*const works[])(void *) = { move_all, remove_all, pop_all, move_all, remove_all, pop_all };
-    enum { THREADS = sizeof works / sizeof *works };
-    pq_queue *queue = opened_with_tickets(PQ_FORGETS, 0, 0);
-    pthread_t threads[THREADS];
-    for (uint64_t i = 0; i < requests(ITEMS); i++) {
-        tickets[i] = pushed(queue, i % 100, i);
-    }
-    for (int i = 0; i < THREADS; i++) {
-        threads[i] = started(works[i], queue);
-    }
-    for (int i = 0; i < THREADS; i++) {
-        ended(threads[i]);
-    }
-    for (uint32_t i = 0; i < requests(ITEMS); i++) {
-        CHECK(outs[i] == 1);
-    }
-    CHECK(size_of(queue) == 0);
-    close_and_free(queue);
-}
-
 /* A move makes no room, and a queue that is shut lets both through. */
 static void only_a_removal_makes_room(void) {
     pq_queue *queue = opened_with_tickets(PQ_FORGETS, 0, 1);
@@ -312,7 +239,6 @@ int main(int count, char **words) {
     an_item_goes_after_its_equals(PQ_FILLS, 100);
     others_refuse();
     refuses_for_now();
-    each_goes_out_once();
     only_a_removal_makes_room();
     takes_no_more_memory();
     is_read_back(count > 1);

@@ -4,7 +4,6 @@
 
 #include <signal.h>
 #include <string.h>
-#include <sys/resource.h>
 
 static const uint64_t UPPER = (uint64_t)1 << 32;
 static uint64_t entries; /* how many requests there were that have one */
@@ -71,40 +70,6 @@ static void gets_what_comes_later(pq_member *member, pq_member *other) {
     CHECK(pq_now() < until[0]);
 }
 
-/* Pushes one item once the other thread sleeps for long, and stays until that has it. */
-static void *push_and_stay(void *member) {
-    sleep_ms(100);
-    CHECK(pq_push((pq_member *)member, item_of(1, 1), PQ_FOREVER, NULL) == PQ_OK);
-    while (__atomic_load_n(&taken, __ATOMIC_RELAXED) == 0) {
-        sleep_ms(1);
-    }
-    return NULL;
-}
-
-/* How often this thread has slept. */
-static long sleeps(void) {
-    struct rusage used;
-    CHECK(getrusage(RUSAGE_THREAD, &used) == 0);
-    return used.ru_nvcsw;
-}
-
-/* The push wakes it. A thread that looked again every few milliseconds would sleep often: this does not depend on how slow the machine is. */
-static void sleeps_until_it_is_woken(pq_member *member, pq_member *other) {
-    const long few = 5;
-    for (int i = 0; i < 3; i++) {
-        pthread_t thread;
-        long before;
-        taken = 0;
-        thread = started(push_and_stay, other);
-        before = sleeps();
-        entries++;
-        take(member, PQ_FOREVER, 1, 1);
-        CHECK(sleeps() - before <= few);
-        __atomic_store_n(&taken, 1, __ATOMIC_RELAXED);
-        ended(thread);
-    }
-}
-
 static void catch_signal(int number) {
     CHECK(number == SIGUSR1);
 }
@@ -147,8 +112,6 @@ int main(void) {
     a_deadline_may_be_past(own);
     gets_what_comes_later(member, other);
     gets_what_comes_later(own, own);
-    sleeps_until_it_is_woken(member, other);
-    sleeps_until_it_is_woken(own, own);
     signals_do_not_end_it(own, other);
     pq_leave(queue);
     pq_give_back(member);

@@ -253,6 +253,7 @@ pub(crate) fn end_of<P: Part>(came: Came<Item<P>>) -> Result<(u64, Reply<Item<P>
         Came::Answered(Answer::Entered(number, reply)) => Ok((number, reply)),
         Came::Answered(Answer::BookFull) => Err(CallError::BookFull),
         Came::Answered(Answer::NoMemory) => Err(CallError::NoMemory),
+        Came::Answered(Answer::Refused(refusal)) => Err(CallError::Refused(refusal)),
         Came::Spent => Err(CallError::Spent),
         Came::Held | Came::Posted => Err(CallError::GaveUp),
     }

@@ -188,6 +188,7 @@ pub(crate) fn end<P: Part>(
         Some(Answer::Entered(number, reply)) => Ok((number, reply)),
         Some(Answer::BookFull) => Err(CallError::BookFull),
         Some(Answer::NoMemory) => Err(CallError::NoMemory),
+        Some(Answer::Refused(refusal)) => Err(CallError::Refused(refusal)),
     }
 }
 

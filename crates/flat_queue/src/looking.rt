@@ -14,7 +14,7 @@ use crate::settling::law_one_room;
 use announce_board::Lead;
 use leftist_heap::Store;
 use pq_book::Entry;
-use pq_types::{Answer, Item, Part, Reply, Request};
+use pq_types::{Answer, Item, Part, Refusal, Reply, Request};
 
 /// Which items a look takes, by their priorities.
 #[derive(Clone, Copy, Debug, PartialEq, Eq)]
@@ -38,6 +38,8 @@ pub enum Looked<I = Item> {
     Nothing,
     /// The journal has no line left for a pop.
     BookFull,
+    /// The queue's rules refuse a pop.
+    Refused(Refusal),
 }
 
 impl<S: Store<Entry<P>>, P: Part> Queue<S, P> {
@@ -129,5 +131,6 @@ fn looked_by<P: Part>(answer: Answer<Item<P>>) -> Looked<Item<P>>
         Answer::Entered(number, Reply::Got(item)) => Looked::Taken(number, item),
         Answer::Entered(_, _) => Looked::Nothing,
         Answer::BookFull | Answer::NoMemory => Looked::BookFull,
+        Answer::Refused(refusal) => Looked::Refused(refusal),
     }
 }

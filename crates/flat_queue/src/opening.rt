@@ -10,6 +10,7 @@ ghost use Rattle.pq_types.specs.declared.journal.TheConstants.{GREATEST_NUMBER};
 ghost use Rattle.pq_book.specs.Book.{IsRoom, AllHaveRoom};
 ghost use Rattle.pq_book.specs.Pages.{IsLongPage, page_of, room_keeping};
 ghost use Rattle.announce_board.specs.Opening.{ArePens};
+ghost use Rattle.announce_board.specs.Slots.{plain_terms};
 ghost use Rattle.flat_queue.specs.Gathered.{licences_at};
 ghost use Rattle.flat_queue.specs.Members.{HasRoomForAll};
 ghost use Rattle.flat_queue.specs.Opening.{Opens, waiting_of, AreAsleep, is_coming};
@@ -51,6 +52,7 @@ impl<S: Store<Entry>> Queue<S> {
     ) -> Result<(Queue<S>, Vec<Newcomer>), QueueError>
         requires empty { S.content store ≡ [] }
         ensures ok { IfOk result (λ r. Opens ids.now lines r.0 r.1.items) }
+        ensures terms { IfOk result (λ r. r.0.terms ≡ plain_terms lines) }
         ensures stores { IfOk result (λ r. AllHaveRoom S.room lines → HasRoomForAll S.room r.0) }
         ensures opens { OnOk result (OpenGrid ids.now × IsRoom lines) }
         ensures comers { (e : IdError) → (result ≡ Err (QueueError.Comers e)) ↔ IsFault ids.now e }
@@ -76,6 +78,7 @@ impl<S: Store<Entry>> Queue<S> {
     ) -> Result<(Queue<S>, Vec<Newcomer>), QueueError>
         requires empty { S.content store ≡ [] }
         ensures ok { IfOk result (λ r. Opens ids.now GREATEST_NUMBER r.0 r.1.items) }
+        ensures terms { IfOk result (λ r. r.0.terms ≡ plain_terms GREATEST_NUMBER) }
         ensures opens { OnOk result (OpenGrid ids.now) }
         ensures comers { (e : IdError) → (result ≡ Err (QueueError.Comers e)) ↔ IsFault ids.now e }
         ensures lines { result ≢ Err QueueError.LinesOutOfRange }
@@ -94,6 +97,7 @@ impl<S: Store<Entry>> Queue<S> {
     ) -> Result<(Queue<S>, Vec<Newcomer>), QueueError>
         requires empty { S.content store ≡ [] }
         ensures ok { IfOk result (λ r. Opens ids.now (room_keeping kept) r.0 r.1.items) }
+        ensures terms { IfOk result (λ r. r.0.terms ≡ plain_terms (room_keeping kept)) }
         ensures kept { OnOk result (page_of (room_keeping kept) ≡ kept) }
         ensures opens { OnOk result (OpenGrid ids.now × IsLongPage kept) }
         ensures comers { (e : IdError) → (result ≡ Err (QueueError.Comers e)) ↔ IsFault ids.now e }
@@ -115,6 +119,7 @@ impl<S: Store<Entry<u64>>> Queue<S, u64> {
     ) -> Result<(Queue<S, u64>, Vec<Newcomer>), QueueError>
         requires empty { S.content store ≡ [] }
         ensures ok { IfOk result (λ r. Opens ids.now lines r.0 r.1.items) }
+        ensures terms { IfOk result (λ r. r.0.terms ≡ plain_terms lines) }
         ensures stores { IfOk result (λ r. AllHaveRoom S.room lines → HasRoomForAll S.room r.0) }
         ensures opens { OnOk result (OpenGrid ids.now × IsRoom lines) }
         ensures comers { (e : IdError) → (result ≡ Err (QueueError.Comers e)) ↔ IsFault ids.now e }
@@ -134,6 +139,7 @@ impl<S: Store<Entry<u64>>> Queue<S, u64> {
     ) -> Result<(Queue<S, u64>, Vec<Newcomer>), QueueError>
         requires empty { S.content store ≡ [] }
         ensures ok { IfOk result (λ r. Opens ids.now GREATEST_NUMBER r.0 r.1.items) }
+        ensures terms { IfOk result (λ r. r.0.terms ≡ plain_terms GREATEST_NUMBER) }
         ensures opens { OnOk result (OpenGrid ids.now) }
         ensures comers { (e : IdError) → (result ≡ Err (QueueError.Comers e)) ↔ IsFault ids.now e }
         ensures lines { result ≢ Err QueueError.LinesOutOfRange }
@@ -152,6 +158,7 @@ impl<S: Store<Entry<u64>>> Queue<S, u64> {
     ) -> Result<(Queue<S, u64>, Vec<Newcomer>), QueueError>
         requires empty { S.content store ≡ [] }
         ensures ok { IfOk result (λ r. Opens ids.now (room_keeping kept) r.0 r.1.items) }
+        ensures terms { IfOk result (λ r. r.0.terms ≡ plain_terms (room_keeping kept)) }
         ensures kept { OnOk result (page_of (room_keeping kept) ≡ kept) }
         ensures opens { OnOk result (OpenGrid ids.now × IsLongPage kept) }
         ensures comers { (e : IdError) → (result ≡ Err (QueueError.Comers e)) ↔ IsFault ids.now e }
@@ -171,6 +178,7 @@ impl Queue<Leftist<Entry, Global>> {
         lines: u32,
     ) -> Result<(Queue<Leftist<Entry, Global>>, Vec<Newcomer>), QueueError>
         ensures ok { IfOk result (λ r. Opens ids.now lines r.0 r.1.items) }
+        ensures terms { IfOk result (λ r. r.0.terms ≡ plain_terms lines) }
         ensures opens { OnOk result (OpenGrid ids.now × IsRoom lines) }
         ensures comers { (e : IdError) → (result ≡ Err (QueueError.Comers e)) ↔ IsFault ids.now e }
         ensures lines { (result ≡ Err QueueError.LinesOutOfRange) ↔ (OpenGrid ids.now × (¬ (IsRoom lines))) }
@@ -188,6 +196,7 @@ impl Queue<Leftist<Entry<u64>, Global>, u64> {
         lines: u32,
     ) -> Result<(Queue<Leftist<Entry<u64>, Global>, u64>, Vec<Newcomer>), QueueError>
         ensures ok { IfOk result (λ r. Opens ids.now lines r.0 r.1.items) }
+        ensures terms { IfOk result (λ r. r.0.terms ≡ plain_terms lines) }
         ensures opens { OnOk result (OpenGrid ids.now × IsRoom lines) }
         ensures comers { (e : IdError) → (result ≡ Err (QueueError.Comers e)) ↔ IsFault ids.now e }
         ensures lines { (result ≡ Err QueueError.LinesOutOfRange) ↔ (OpenGrid ids.now × (¬ (IsRoom lines))) }
@@ -206,6 +215,7 @@ fn open_short<S: Store<Entry<P>>, P: Part>(
 ) -> Result<(Queue<S, P>, Vec<Newcomer>), QueueError>
     requires empty { S.content store ≡ [] }
     ensures ok { IfOk result (λ r. Opens ids.now lines r.0 r.1.items) }
+    ensures terms { IfOk result (λ r. r.0.terms ≡ plain_terms lines) }
     ensures stores { IfOk result (λ r. AllHaveRoom S.room lines → HasRoomForAll S.room r.0) }
     ensures opens { OnOk result (OpenGrid ids.now × IsRoom lines) }
     ensures comers { (e : IdError) → (result ≡ Err (QueueError.Comers e)) ↔ IsFault ids.now e }
@@ -237,6 +247,7 @@ fn open_long<S: Store<Entry<P>>, P: Part>(
 ) -> Result<(Queue<S, P>, Vec<Newcomer>), QueueError>
     requires empty { S.content store ≡ [] }
     ensures ok { IfOk result (λ r. Opens ids.now (room_keeping kept) r.0 r.1.items) }
+    ensures terms { IfOk result (λ r. r.0.terms ≡ plain_terms (room_keeping kept)) }
     ensures kept { OnOk result (page_of (room_keeping kept) ≡ kept) }
     ensures opens { OnOk result (OpenGrid ids.now × IsLongPage kept) }
     ensures comers { (e : IdError) → (result ≡ Err (QueueError.Comers e)) ↔ IsFault ids.now e }
@@ -273,7 +284,8 @@ fn opened<S: Store<Entry<P>>, P: Part>(
     requires places { desk.places ≡ places_of (length ids.now) }
     requires counted { length pens.items ≡ desk.places }
     requires dealt { ArePens desk.table desk.room pens.items }
-    ensures { IfOk result (λ r. Opens ids.now desk.room r.0 r.1.items) }
+    ensures opens { IfOk result (λ r. Opens ids.now desk.room r.0 r.1.items) }
+    ensures terms { IfOk result (λ r. r.0.terms ≡ desk.terms) }
 {
     let (waiting, licences) = asleep(alloc, &desk, pens)?;
     let tag = tag_of(&desk, &waiting);
@@ -302,10 +314,12 @@ fn tag_of<S: Store<Entry<P>>, P: Part>(desk: &Desk<S, P>, waiting: &[Waiting]) -
     ensures table { result.sample.value.table ≡ desk.now.table }
     ensures room { result.sample.value.state.room ≡ desk.now.room }
     ensures places { result.places ≡ desk.now.places }
+    ensures terms { result.terms ≡ desk.now.terms }
 {
     DeskTag {
         sample: Snapshot::of(&waiting[0].sleeper),
         places: desk.places(),
+        terms: desk.terms(),
     }
 }
 

@@ -74,6 +74,9 @@ fn came_back<'q, S: Store<Entry<P>>, P: Part>(
         }
         Some(Answer::BookFull) => Called::Refused(Handle { queue, member }, CallError::BookFull),
         Some(Answer::NoMemory) => Called::Refused(Handle { queue, member }, CallError::NoMemory),
+        Some(Answer::Refused(refusal)) => {
+            Called::Refused(Handle { queue, member }, CallError::Refused(refusal))
+        }
     }
 }
 

@@ -126,6 +126,7 @@ impl<S: Store<Entry<P>>, P: Part> Queue<S, P> {
             Answer::Entered(line, _) => TakeStepped::Goes(TakeStage::Announces(line)),
             Answer::BookFull => self.refused(CallError::BookFull),
             Answer::NoMemory => self.refused(CallError::NoMemory),
+            Answer::Refused(refusal) => self.refused(CallError::Refused(refusal)),
         }
     }
 

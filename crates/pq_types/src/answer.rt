@@ -14,6 +14,17 @@ pub enum Reply<I = Item> {
     Empty,
 }
 
+/// Why the queue refuses a request by its rules, and not for want of lines or memory.
+#[derive(Clone, Copy, Debug, PartialEq, Eq)]
+pub enum Refusal {
+    /// The journal has a shut line: the queue takes no push, and no other shut.
+    Shut,
+    /// One line more would make memory forget a line that is not archived.
+    Unarchived,
+    /// As many items wait as the queue's bound.
+    Full,
+}
+
 /// What a request is answered.
 #[derive(Clone, Copy, Debug, PartialEq, Eq)]
 pub enum Answer<I = Item> {
@@ -23,4 +34,6 @@ pub enum Answer<I = Item> {
     BookFull,
     /// Memory for a push was refused. The request has no line and changed nothing.
     NoMemory,
+    /// The queue's rules refuse it. The request has no line and changed nothing.
+    Refused(Refusal),
 }

@@ -168,8 +168,11 @@ fn item_of<P: Part>(answer: Answer<Item<P>>) -> Option<Item<P>>
     ensures { result ≡ answer_item answer }
 {
     match answer {
-        Answer::Entered(_, Reply::Got(item)) => Some(item),
-        Answer::Entered(_, Reply::Least(item)) => Some(item),
+        Answer::Entered(_, reply) => match reply {
+            Reply::Got(item) => Some(item),
+            Reply::Least(item) => Some(item),
+            _ => None,
+        },
         _ => None,
     }
 }

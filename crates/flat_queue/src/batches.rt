@@ -358,7 +358,7 @@ fn push_each<S: Store<Entry<P>>, P: Part>(
             Answer::BookFull => return (lead, done, Some(CallError::BookFull)),
             Answer::NoMemory => return (lead, done, Some(CallError::NoMemory)),
             Answer::Refused(refusal) => {
-                return (lead, done, Some(CallError::Refused(refusal)));
+                return (lead, done, Some(CallError::Refused(refusal.why())));
             }
         }
     }
@@ -410,7 +410,7 @@ fn pop_each<S: Store<Entry<P>>, P: Part>(
             Answer::BookFull => return (lead, done, Some(CallError::BookFull)),
             Answer::NoMemory => unreachable!(),
             Answer::Refused(refusal) => {
-                return (lead, done, Some(CallError::Refused(refusal)));
+                return (lead, done, Some(CallError::Refused(refusal.why())));
             }
         };
         match reply {

@@ -250,10 +250,12 @@ pub(crate) fn end_of<P: Part>(came: Came<Item<P>>) -> Result<(u64, Reply<Item<P>
     ensures { result ≡ came_to came }
 {
     match came {
-        Came::Answered(Answer::Entered(number, reply)) => Ok((number, reply)),
-        Came::Answered(Answer::BookFull) => Err(CallError::BookFull),
-        Came::Answered(Answer::NoMemory) => Err(CallError::NoMemory),
-        Came::Answered(Answer::Refused(refusal)) => Err(CallError::Refused(refusal)),
+        Came::Answered(answer) => match answer {
+            Answer::Entered(number, reply) => Ok((number, reply)),
+            Answer::BookFull => Err(CallError::BookFull),
+            Answer::NoMemory => Err(CallError::NoMemory),
+            Answer::Refused(refusal) => Err(CallError::Refused(refusal.why())),
+        },
         Came::Spent => Err(CallError::Spent),
         Came::Held | Came::Posted => Err(CallError::GaveUp),
     }

@@ -185,10 +185,12 @@ pub(crate) fn end<P: Part>(
 {
     match answer {
         None => Err(CallError::GaveUp),
-        Some(Answer::Entered(number, reply)) => Ok((number, reply)),
-        Some(Answer::BookFull) => Err(CallError::BookFull),
-        Some(Answer::NoMemory) => Err(CallError::NoMemory),
-        Some(Answer::Refused(refusal)) => Err(CallError::Refused(refusal)),
+        Some(answer) => match answer {
+            Answer::Entered(number, reply) => Ok((number, reply)),
+            Answer::BookFull => Err(CallError::BookFull),
+            Answer::NoMemory => Err(CallError::NoMemory),
+            Answer::Refused(refusal) => Err(CallError::Refused(refusal.why())),
+        },
     }
 }
 

@@ -128,9 +128,11 @@ fn looked_by<P: Part>(answer: Answer<Item<P>>) -> Looked<Item<P>>
     ensures { result ≡ looked_by answer }
 {
     match answer {
-        Answer::Entered(number, Reply::Got(item)) => Looked::Taken(number, item),
-        Answer::Entered(_, _) => Looked::Nothing,
+        Answer::Entered(number, reply) => match reply {
+            Reply::Got(item) => Looked::Taken(number, item),
+            _ => Looked::Nothing,
+        },
         Answer::BookFull | Answer::NoMemory => Looked::BookFull,
-        Answer::Refused(refusal) => Looked::Refused(refusal),
+        Answer::Refused(refusal) => Looked::Refused(refusal.why()),
     }
 }

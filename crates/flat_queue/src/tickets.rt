@@ -201,7 +201,7 @@ fn end_by_ticket<P: Part>(answer: Answer<Item<P>>) -> Result<(u64, Option<Item<P
         Answer::Entered(number, reply) => Ok((number, found(reply))),
         Answer::BookFull => Err(CallError::BookFull),
         Answer::NoMemory => Err(CallError::NoMemory),
-        Answer::Refused(refusal) => Err(CallError::Refused(refusal)),
+        Answer::Refused(refusal) => Err(CallError::Refused(refusal.why())),
     }
 }
 

@@ -66,12 +66,16 @@ pub struct Book<S: Store<Entry<P>>, A: Allocator, P: Part = u32> {
     room: u64,
     bound: u64,
     allowed: u64,
+    // The lesser of `room` and `allowed`: with so many lines the journal takes no other.
+    line_limit: u64,
+    // The bound, or 0 where the queue is shut: with so many items it takes no push.
+    push_limit: u64,
     shut: bool,
     peak: u64,
 }
 
 impl<S: Store<Entry<P>>, A: Allocator, P: Part> Model for Book<S, A, P> {
-    ghost use Rattle.std.specs.Prelude.{◌≡◌};
+    ghost use Rattle.std.specs.Prelude.{◌≡◌, min, if◌then◌else◌};
     ghost use Rattle.pq_book.specs.Book.{Volume, limits};
     ghost use Rattle.pq_types.specs.History.{is_shut};
     ghost use Rattle.pq_book.specs.Kept.{Kept};
@@ -83,7 +87,8 @@ impl<S: Store<Entry<P>>, A: Allocator, P: Part> Model for Book<S, A, P> {
     ghost view = { λ b. record { room = b.room; bound = b.bound; allowed = b.allowed; journal = all b.journal } };
 
     ghost invariant = { λ b. Kept P.wide (S.content b.store) (all b.journal) (limits b.room b.bound b.allowed)
-        × IsPaged b.room b.journal × IsPeak (all b.journal) b.peak × (b.shut ≡ is_shut (all b.journal)) };
+        × IsPaged b.room b.journal × IsPeak (all b.journal) b.peak × (b.shut ≡ is_shut (all b.journal))
+        × (b.line_limit ≡ min b.room b.allowed) × (b.push_limit ≡ (if b.shut then 0 else b.bound)) };
 }
 
 impl<S: Store<Entry<P>>, A: Allocator, P: Part> Book<S, A, P> {
@@ -143,6 +148,8 @@ impl<S: Store<Entry<P>>, A: Allocator, P: Part> Book<S, A, P> {
             room,
             bound,
             allowed,
+            line_limit: room.min(allowed),
+            push_limit: bound,
             shut: false,
             peak: 0,
         })
@@ -193,8 +200,27 @@ impl<S: Store<Entry<P>>, A: Allocator, P: Part> Book<S, A, P> {
         Answer::Entered(number, reply)
     }
 
-    // What refuses the operation, but for memory: the first of these that is true.
+    // What refuses the operation, but for memory. Where nothing does, two comparisons say so, but of a shut.
+    #[inline(always)]
     fn bar(&self, operation: &Operation<P>) -> Option<Answer<Item<P>>>
+        ensures refused { IfSome result (λ answer. MayDo (limits_of self.now) self.now.journal operation.now answer × IsBar answer) }
+        ensures admitted { IfNone result (IsAdmitted (limits_of self.now) self.now.journal operation.now) }
+    {
+        if self.journal.len() < self.line_limit {
+            if operation.adds() {
+                if (self.store.len() as u64) < self.push_limit {
+                    return None;
+                }
+            } else if !operation.ends_at_shut() {
+                return None;
+            }
+        }
+        self.first_bar(operation)
+    }
+
+    // The same, by the first of these that is true.
+    #[inline(always)]
+    fn first_bar(&self, operation: &Operation<P>) -> Option<Answer<Item<P>>>
         ensures refused { IfSome result (λ answer. MayDo (limits_of self.now) self.now.journal operation.now answer × IsBar answer) }
         ensures admitted { IfNone result (IsAdmitted (limits_of self.now) self.now.journal operation.now) }
     {
@@ -203,13 +229,13 @@ impl<S: Store<Entry<P>>, A: Allocator, P: Part> Book<S, A, P> {
             return Some(Answer::BookFull);
         }
         if self.shut && operation.ends_at_shut() {
-            return Some(Answer::Refused(Refusal::Shut));
+            return Some(Answer::Refused(Refusal::Shut.padded()));
         }
         if lines >= self.allowed {
-            return Some(Answer::Refused(Refusal::Unarchived));
+            return Some(Answer::Refused(Refusal::Unarchived.padded()));
         }
         if operation.adds() && self.store.len() as u64 >= self.bound {
-            return Some(Answer::Refused(Refusal::Full));
+            return Some(Answer::Refused(Refusal::Full.padded()));
         }
         None
     }
@@ -223,6 +249,7 @@ impl<S: Store<Entry<P>>, A: Allocator, P: Part> Book<S, A, P> {
     {
         let archived = lines.min(self.journal.len());
         self.allowed = self.allowed.max(archived + page_of(self.room) as u64);
+        self.line_limit = self.room.min(self.allowed);
     }
 
     /// Whether the queue is shut: whether the journal has a shut line. Enters nothing, and takes no memory.
@@ -365,6 +392,8 @@ impl<S: Store<Entry<P>>, A: Allocator, P: Part> Book<S, A, P> {
             room: _,
             bound: _,
             allowed: _,
+            line_limit: _,
+            push_limit: _,
             shut: _,
             peak: _,
         } = book;
@@ -385,6 +414,8 @@ impl<S: Store<Entry>, A: Allocator> Book<S, A> {
             room: _,
             bound: _,
             allowed: _,
+            line_limit: _,
+            push_limit: _,
             shut: _,
             peak: _,
         } = self;

@@ -141,7 +141,7 @@ impl<P: Part> Answer<Item<P>> {
             Answer::Entered(line, reply) => Notice::Entered(line, reply.outcome()),
             Answer::BookFull => Notice::BookFull,
             Answer::NoMemory => Notice::NoMemory,
-            Answer::Refused(refusal) => Notice::Refused(refusal),
+            Answer::Refused(refusal) => Notice::Refused(refusal.why()),
         }
     }
 }
@@ -155,7 +155,7 @@ impl Notice {
             Notice::Entered(line, outcome) => Answer::Entered(line, outcome.with_item(item)),
             Notice::BookFull => Answer::BookFull,
             Notice::NoMemory => Answer::NoMemory,
-            Notice::Refused(refusal) => Answer::Refused(refusal),
+            Notice::Refused(refusal) => Answer::Refused(refusal.padded()),
         }
     }
 }

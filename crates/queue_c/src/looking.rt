@@ -33,7 +33,7 @@ pub fn told_as(seen: Looked<Item<u64>>) -> Answer<Item<u64>>
         Looked::Stays(item) => Answer::Entered(0, Reply::Least(item)),
         Looked::Nothing => Answer::Entered(0, Reply::Empty),
         Looked::BookFull => Answer::BookFull,
-        Looked::Refused(refusal) => Answer::Refused(refusal),
+        Looked::Refused(refusal) => Answer::Refused(refusal.padded()),
     }
 }
 

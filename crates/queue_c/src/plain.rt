@@ -93,7 +93,7 @@ pub fn answer_parts(answer: Answer<Item<u64>>) -> (u32, u64, Item<u64>)
         }
         Answer::BookFull => (4, 0, no_item()),
         Answer::NoMemory => (5, 0, no_item()),
-        Answer::Refused(refusal) => (refusal_number(refusal), 0, no_item()),
+        Answer::Refused(refusal) => (refusal_number(refusal.why()), 0, no_item()),
     }
 }
 

@@ -66,9 +66,11 @@ fn line_of<P: Part>(answer: &Answer<Item<P>>) -> ArrayVec<u8, LONGEST>
         }
         Answer::BookFull => append(&mut line, b"book full\n"),
         Answer::NoMemory => append(&mut line, b"no memory\n"),
-        Answer::Refused(Refusal::Shut) => append(&mut line, b"queue shut\n"),
-        Answer::Refused(Refusal::Unarchived) => append(&mut line, b"unarchived\n"),
-        Answer::Refused(Refusal::Full) => append(&mut line, b"queue full\n"),
+        Answer::Refused(refusal) => match refusal.why() {
+            Refusal::Shut => append(&mut line, b"queue shut\n"),
+            Refusal::Unarchived => append(&mut line, b"unarchived\n"),
+            Refusal::Full => append(&mut line, b"queue full\n"),
+        },
     }
     line
 }

@@ -46,6 +46,7 @@ impl<S: Store<Entry<P>>, A: Allocator, P: Part> Book<S, A, P> {
             place,
         });
         self.shut = true;
+        self.push_limit = 0;
         Answer::Entered(number, Reply::Empty)
     }
 }

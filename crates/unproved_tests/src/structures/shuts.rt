@@ -42,8 +42,8 @@ fn a_journal_with_a_shut_line_is_written_and_audited(rt: HostRuntime) {
     };
     assert!(rt; book.apply(0, 1, Request::Push(FIVE)) == Answer::Entered(1, Reply::Pushed));
     assert!(rt; book.apply_shut(3, 1) == Answer::Entered(2, Reply::Empty));
-    assert!(rt; book.apply(0, 2, Request::Push(FIVE)) == Answer::Refused(Refusal::Shut));
-    assert!(rt; book.apply_shut(3, 2) == Answer::Refused(Refusal::Shut));
+    assert!(rt; book.apply(0, 2, Request::Push(FIVE)) == Answer::Refused(Refusal::Shut.padded()));
+    assert!(rt; book.apply_shut(3, 2) == Answer::Refused(Refusal::Shut.padded()));
     assert!(rt; book.apply(0, 2, Request::Pop) == Answer::Entered(3, Reply::Got(FIVE)));
     let mut text = Vec::new(alloc);
     write_journal(book.lines().older, &mut text).expect(&rt, "there is memory");
@@ -85,7 +85,7 @@ fn refusals_by_the_rules_have_their_texts(rt: HostRuntime) {
         (Refusal::Full, b"queue full\n"),
     ];
     for (refusal, text) in &TEXTS {
-        let answer: Answer = Answer::Refused(*refusal);
+        let answer: Answer = Answer::Refused(refusal.padded());
         let mut out = Vec::new(rt.alloc());
         write_answer(&answer, &mut out).expect(&rt, "there is memory");
         assert!(rt; out.as_slice() == *text);

@@ -5,6 +5,7 @@ use Rattle.announce_board.specs.Tokens.{AtDesk, is_idle}
 use Rattle.pq_types.specs.declared.request.Request.TheVariants.{Push}
 use Rattle.flat_queue.specs.Batches.{IsPushAt}
 use Rattle.flat_queue.proofs.Together.{pushed_on, next_push, out_of_memory, out_of_lines, ruled_out}
+use Rattle.pq_types.specs.declared.answer.Answer.TheVariants as answer
 use Rattle.flat_queue.proofs.batches.push_each.Goals as goal
 
 pub loop-done-preserved : goal.loop-done-preserved
@@ -51,9 +52,9 @@ returns-in-Refused-clause-applies g c =
     let e = c.apply-next.ensures in
     let limits = limits_of c.args.lead.book in
     let may : MayAnswer limits c.loop-done.pen.state.hand (Push c.index-items-done.result) c.apply-next.result.1 = subst (λ l. MayAnswer l c.loop-done.pen.state.hand (Push c.index-items-done.result) c.apply-next.result.1) i.limits e.may in
-    ruled_out limits c.args.most (IsPushAt c.args.items.now c.loop-done.done) c.args.pen.now.state c.loop-done.pen.state c.apply-next.new.pen.state _ (Push c.index-items-done.result) c.apply-next.result.1 c.in-Refused.refusal e.after.0
+    ruled_out limits c.args.most (IsPushAt c.args.items.now c.loop-done.done) c.args.pen.now.state c.loop-done.pen.state c.apply-next.new.pen.state _ (Push c.index-items-done.result) c.apply-next.result.1 c.why.result e.after.0
     (next_push c.args.items.now c.loop-done.done c.index-items-done.result (omega (arith, c.bounded-end.ensures.within, c.loop-done-test.true)) c.index-items-done.is) i.applies may
-    (ap (λ (a : AtDesk). a.state) e.after.1) c.in-Refused.is
+    (ap (λ (a : AtDesk). a.state) e.after.1) (c.in-Refused.is ∙ ap answer.Refused (sym c.why.ensures))
 
 pub returns-in-NoMemory-clause-memory : goal.returns-in-NoMemory-clause-memory
 returns-in-NoMemory-clause-memory g c =

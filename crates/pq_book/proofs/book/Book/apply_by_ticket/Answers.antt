@@ -22,7 +22,7 @@ invariant_of-self-2 g c =
     (omega (arith, c.len-number.ensures)) c.in-Some-carried_out_by_ticket.ensures.reply c.in-Some-carried_out_by_ticket.ensures.entries grown in
     let peaked = peak_entered _ _ _ _ _ _ c.self.invariant.2 c.peak_with-self-inside.ensures c.add.ensures.lines (omega (arith, c.len.ensures.len, as_many_left _ _ _ _ kept)) in
     let shut = shut_still c.law_shut.ensures.more _ _ _ _ c.self.invariant.3 refl grown in
-    (kept, paged_entered c.self.inside.room c.self.inside.journal c.add.new.self _ c.self.invariant.1 c.add.ensures.page c.add.ensures.kept c.add.ensures.full c.add.ensures.lines c.add.ensures.most, peaked, shut)
+    (kept, paged_entered c.self.inside.room c.self.inside.journal c.add.new.self _ c.self.invariant.1 c.add.ensures.page c.add.ensures.kept c.add.ensures.full c.add.ensures.lines c.add.ensures.most, peaked, shut, c.self.invariant.4, c.self.invariant.5)
 
 pub returns-clause-answer : goal.returns-clause-answer
 returns-clause-answer g c =

@@ -23,4 +23,6 @@ invariant_of-self g c =
       paged_entered c.self.inside.room c.self.inside.journal c.add.new.self _ c.self.invariant.1 c.add.ensures.page c.add.ensures.kept c.add.ensures.full c.add.ensures.lines c.add.ensures.most,
       peak_stays _ _ _ _ c.self.invariant.2 c.add.ensures.lines (ap (λ xs. length xs) same),
       shut_then c.law_shut.ensures.more _ _ _ refl grown,
+      c.self.invariant.4,
+      refl,
     )

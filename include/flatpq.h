@@ -229,11 +229,10 @@ void pq_notify_fd(void *context);
 
 /* Journals: of a closed queue, copied from an open one, or read back from text. Many threads may read one. */
 
-enum pq_request { PQ_PUSH = 0, PQ_POP = 1, PQ_PEEK = 2, PQ_REMOVE = 3, PQ_RESCHEDULE = 4, PQ_SHUTS = 5 };
+enum pq_request { PQ_PUSH = 0, PQ_POP = 1, PQ_PEEK = 2, PQ_REMOVE = 3, PQ_RESCHEDULE = 4 };
 
-/* An entry: its number, from 1; its place's count of requests so far, this one and those to which memory was refused included; the member's place;
-   the request; the reply, PQ_OK or PQ_EMPTY; and the item pushed or found, as it was then. PQ_SHUTS shut the queue: no push follows, and its reply
-   is PQ_EMPTY. */
+/* An entry: its number, from 1; its place's count of requests so far, this one included, and those to which memory was refused; the member's place;
+   the request; the reply, PQ_OK or PQ_EMPTY; and the item pushed or found, as it was then. */
 typedef struct pq_entry {
     uint64_t number;
     uint64_t serial;
@@ -262,8 +261,7 @@ size_t pq_count(const pq_journal *journal, uint64_t *before);
 PQ_CHECKED pq_code pq_read(const pq_journal *journal, size_t index, pq_entry *entry);
 
 /* Writes an entry as a line, and a zero: number, place, serial, request, reply and their CRC-32C, as `7 3 2 push 5 1 pushed 4ebb24e7`. Others have
-   `pop empty`, `remove 7 got 5 1`; a peek `least least 5 1`; a reschedule `move 7 9 got 5 1`, with ticket and priority; a shut `shut` alone.
-   Returns the length. */
+   `pop empty`, `remove 7 got 5 1`; a peek `least least 5 1`; a reschedule `move 7 9 got 5 1`, with ticket and priority. Returns the length. */
 #define PQ_TEXT_ROOM 160
 size_t pq_text(const pq_entry *entry, char text[PQ_TEXT_ROOM]);
 

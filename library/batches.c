@@ -50,6 +50,17 @@ static pq_code try_part(const batch *it, size_t count, core_popped *told) {
     return code;
 }
 
+static pq_code refusal(uint32_t refused) {
+    switch (refused) {
+    case 0:
+        return PQ_OK;
+    case REFUSED_NO_MEMORY:
+        return PQ_NO_MEMORY;
+    default:
+        return refused == REFUSED_EXHAUSTED ? PQ_EXHAUSTED : PQ_JOURNAL_FULL;
+    }
+}
+
 /* What a try that found the lock free came to: what refused the next item, or of pops that took none why. */
 static pq_code came_to(batch *it, const core_popped *told) {
     const core_batch *did = &told->batch;
@@ -63,7 +74,7 @@ static pq_code came_to(batch *it, const core_popped *told) {
     }
     count_done(it, (size_t)did->done, did->first);
     flatpq_carried_out(it->member, &answer);
-    return did->refused == REFUSED_NO_MEMORY ? PQ_NO_MEMORY : (pq_code)did->refused;
+    return refusal(did->refused);
 }
 
 /* Carries out as many of the next items as may be, at most so many: how many, and why no more. */

@@ -50,7 +50,7 @@ static pq_code try_push(const push *it) {
     if (code == PQ_FULL) {
         it->answer->kind = KIND_FULL;
     }
-    return code == PQ_OK && it->answer->kind == KIND_FULL ? PQ_FULL : code;
+    return code;
 }
 
 static pq_code try_until(const push *it) {
@@ -206,7 +206,7 @@ static pq_code wait_for_room(push *it) {
 /* What a push comes to that was made with this code. */
 static pq_code result(pq_code code, const core_answer *answer) {
     if (code == PQ_OK && answer->kind != KIND_PUSHED) {
-        return flatpq_refusal(answer->kind);
+        return answer->kind == KIND_NO_MEMORY ? PQ_NO_MEMORY : PQ_JOURNAL_FULL;
     }
     return code == LOCK_HELD ? PQ_TIMED_OUT : code;
 }

@@ -139,12 +139,6 @@ static pq_code ask_again(uint32_t request, call *it) {
     return it->until == PQ_FOREVER ? try_and_post(request, it) : try_until(request, it);
 }
 
-pq_code flatpq_refusal(uint32_t kind) {
-    static const uint8_t codes[] = { [KIND_JOURNAL_FULL] = PQ_JOURNAL_FULL, [KIND_NO_MEMORY] = PQ_NO_MEMORY, [KIND_SHUT] = PQ_SHUT,
-        [KIND_UNARCHIVED] = PQ_UNARCHIVED, [KIND_FULL] = PQ_FULL };
-    return (pq_code)codes[kind];
-}
-
 /* What an answer comes to that has no item. */
 static pq_code result_of(const core_answer *answer, uint64_t *number) {
     if ((answer->kind == KIND_PUSHED || answer->kind == KIND_EMPTY) && number != NULL) {
@@ -156,7 +150,7 @@ static pq_code result_of(const core_answer *answer, uint64_t *number) {
     case KIND_EMPTY:
         return PQ_EMPTY;
     default:
-        return flatpq_refusal(answer->kind);
+        return answer->kind == KIND_NO_MEMORY ? PQ_NO_MEMORY : PQ_JOURNAL_FULL;
     }
 }
 
@@ -302,10 +296,8 @@ INLINE pq_code taken(pq_member *it, pq_code code, const core_answer *answer) {
         return PQ_OK;
     case KIND_FIRST:
         return PQ_NOT_DUE;
-    case KIND_EMPTY:
-        return PQ_EMPTY;
     default:
-        return flatpq_refusal(answer->kind);
+        return answer->kind == KIND_EMPTY ? PQ_EMPTY : PQ_JOURNAL_FULL;
     }
 }
 

@@ -16,7 +16,7 @@ typedef struct core_inside *core;
 #define HAS_POSTED ((pq_code)14)
 #define NOT_ANSWERED ((pq_code)43)
 
-enum { KIND_PUSHED, KIND_POPPED, KIND_FIRST, KIND_EMPTY, KIND_JOURNAL_FULL, KIND_NO_MEMORY, KIND_SHUT, KIND_UNARCHIVED, KIND_FULL };
+enum { KIND_PUSHED, KIND_POPPED, KIND_FIRST, KIND_EMPTY, KIND_JOURNAL_FULL, KIND_NO_MEMORY };
 
 /* The answer to a request: its journal entry, 0 where it has none, and the item of KIND_POPPED and KIND_FIRST. */
 typedef struct core_answer {
@@ -51,8 +51,8 @@ typedef struct core_popped {
     core_answer next;
 } core_popped;
 
-/* What refuses a request of a batch: this, or a code. */
-enum { REFUSED_NO_MEMORY = 9 };
+/* What refuses a request of a batch. */
+enum { REFUSED_NO_MEMORY = 9, REFUSED_JOURNAL_FULL = 10, REFUSED_EXHAUSTED = 11 };
 
 _Static_assert(sizeof(core_answer) == 32 && sizeof(core_line) == 64 && sizeof(core_batch) == 24 && sizeof(core_popped) == 56 &&
                    sizeof(pq_code) == 4,

@@ -286,7 +286,6 @@ HIDDEN pq_code flatpq_take_first_at_once(pq_member *member, uint64_t priority, c
 HIDDEN pq_code flatpq_step_take(pq_member *member, uint64_t priority, uint64_t until, core_answer *answer);
 HIDDEN pq_code flatpq_step_take_at_once(pq_member *member, uint64_t priority, core_answer *answer);
 HIDDEN pq_code flatpq_count(pq_member *member, uint64_t *count, uint64_t *peak, uint32_t *owes_wake); /* tries once; peak may be NULL */
-HIDDEN pq_code flatpq_refusal(uint32_t kind); /* what an answer of this kind comes to, which refuses the request */
 HIDDEN pq_code flatpq_looked(pq_member *member, const core_answer *answer); /* what such a look comes to that was so answered */
 HIDDEN void flatpq_return_first(pq_code code, const core_answer *answer, pq_item *item, uint64_t *number);
 
@@ -360,8 +359,9 @@ HIDDEN int flatpq_unlisten(pq_member *member);
 /*
  * bounded.c: pushes to a queue with a bound.
  */
-#define KIND_MOVED 9 /* the kind of an answer to a move which found its item (removing.c) */
-#define KIND_GONE 10 /* that of a removal or a move which found none */
+#define KIND_FULL 6  /* the kind of an answer where a push found the queue full */
+#define KIND_MOVED 7 /* that of a move which found its item (removing.c) */
+#define KIND_GONE 8  /* that of a removal or a move which found none */
 HIDDEN pq_code flatpq_push_within(pq_member *member, pq_item item, uint64_t until, core_answer *answer);
 /* Tries some times, also where there is no bound, and wakes nobody for room. PQ_TIMED_OUT: another thread had the lock. */
 HIDDEN pq_code flatpq_push_at_once(pq_member *member, pq_item item, core_answer *answer);

@@ -129,17 +129,12 @@ static char *put_request(char *at, const pq_entry *entry) {
         return put_word(at, " least");
     case PQ_REMOVE:
         return put_number(put_word(at, " remove "), entry->ticket);
-    case PQ_SHUTS:
-        return put_word(at, " shut");
     default:
         return put_item(put_word(at, " move"), move);
     }
 }
 
 static char *put_reply(char *at, const pq_entry *entry) {
-    if (entry->request == PQ_SHUTS) {
-        return at;
-    }
     if (entry->request == PQ_PUSH) {
         return put_word(at, " pushed");
     }

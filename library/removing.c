@@ -30,7 +30,7 @@ static pq_code result(const core_answer *answer) {
     case KIND_EMPTY:
         return PQ_GONE;
     default:
-        return flatpq_refusal(answer->kind);
+        return answer->kind == KIND_NO_MEMORY ? PQ_NO_MEMORY : PQ_JOURNAL_FULL;
     }
 }
 

@@ -1,4 +1,3 @@
-mod Slots
 mod Same
 mod Allows
 mod ToldLemmas

@@ -1,4 +1,3 @@
-pub mod Slots
 pub mod Rule
 pub mod Steps
 pub mod Allowed

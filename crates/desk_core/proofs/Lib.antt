@@ -36,4 +36,3 @@ pub mod WorkedHistories
 pub mod Guards
 pub mod Looking
 pub mod WorkedLooks
-pub mod Shut

@@ -1,4 +1,3 @@
-pub mod Answering
 pub mod Calls
 pub mod Pen
 pub mod Desk
@@ -27,6 +26,5 @@ pub mod Beyond
 pub mod WorkedHistories
 pub mod WrongSteps
 pub mod Guards
-pub mod Home
 pub mod Looking
 pub mod WorkedLooks

@@ -194,24 +194,12 @@ told_call words a c request now answer.NoMemory room none few w =
       never_gives_up = λ e. cc e;
       memory = λ r e. w.memory r refl;
     }
-told_call words a c request now (answer.Refused why) room none few w =
-    let s = told_so words a c request now (answer.Refused why) w.told in
-    record {
-      ok = tt;
-      err = (s.answers, none_more a c (Idle None) a.pen.mine s.one);
-      full = λ e. absurd (cc e);
-      spent = (λ e. absurd (cc e), λ le. absurd (omega (arith, le, few)));
-      turns = λ f. (Some (answer.Refused why), refl, (now, w.turns));
-      never_gives_up = λ e. cc e;
-      memory = λ r e. absurd (cc e);
-    }
 
 -- what a call comes to by an answer, in the two ways of saying it
 came_as : (x : Answer) → ended (Some x) ≡ came_to (came.Answered x)
 came_as (Entered number reply) = refl
 came_as answer.BookFull = refl
 came_as answer.NoMemory = refl
-came_as (answer.Refused why) = refl
 
 -- tries use no serial
 tried_few : (a m : Joined) (left : ℕ) → HasTried a m left → a.pen.posts < most_posts a.queue.room → m.pen.posts < most_posts m.queue.room

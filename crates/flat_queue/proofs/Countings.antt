@@ -4,7 +4,7 @@ use Rattle.std.specs.Prelude.{if◌then◌else◌}
 use Rattle.pq_types.specs.Item.{Item, not_above}
 use Rattle.pq_types.specs.Asked.{Answer, Line}
 use Rattle.pq_types.specs.declared.request.Request.TheVariants.{Push}
-use Rattle.pq_types.specs.declared.answer.Answer.TheVariants.{Entered, BookFull, NoMemory, Refused}
+use Rattle.pq_types.specs.declared.answer.Answer.TheVariants.{Entered, BookFull, NoMemory}
 use Rattle.pq_types.specs.Queue.{with_item}
 use Rattle.pq_types.specs.History.{left, line, journal_after}
 use Rattle.pq_types.proofs.History.{left_more}
@@ -28,7 +28,6 @@ left_within most place serial x (Entered number reply) lines fewer =
     omega (arith, ap length (left_more lines (line place serial (Push x) reply) (Push x) refl), one_longer x (left lines), fewer)
 left_within most place serial x BookFull lines fewer = omega (arith, fewer)
 left_within most place serial x NoMemory lines fewer = omega (arith, fewer)
-left_within most place serial x (Refused why) lines fewer = omega (arith, fewer)
 
 -- a member that led, served the others, and released with a push where the journal in its hand leaves fewer than the bound
 pub pushes_within : (words most : ℕ) (hinted : Bool) (a b c d : Joined) (book : Volume) (x : Item) (answer : Answer) → StaysAtPlace a b → Wins a.pen book b.pen

@@ -20,7 +20,6 @@ left_idle words wants (looked.Taken number x) a c e i h = absurd (true≢false (
 left_idle words wants (looked.Stays x) a c e i h = vain_idle words wants a c (looked.Stays x) i h (λ b l. l.0)
 left_idle words wants looked.Nothing a c e i h = vain_idle words wants a c looked.Nothing i h (λ b l. l.0)
 left_idle words wants looked.BookFull a c e i h = absurd (true≢false (ap is_some e))
-left_idle words wants (looked.Refused why) a c e i h = absurd (true≢false (ap is_some e))
 
 pub leaves_idle : (words : ℕ) (a c : Joined) → is_idle a.pen.standing ≡ true → LeavesAllBy words a c → IdleStill a c
 leaves_idle words a c i (wants, told, none, h) = left_idle words wants told a c none i h

@@ -7,7 +7,6 @@ use Rattle.pq_types.specs.Asked.{Request, Reply, Answer}
 use Rattle.pq_types.specs.declared.request.Request.TheVariants.{Pop}
 use Rattle.pq_types.specs.declared.answer.Reply.TheVariants.{Pushed, Got, Empty, Least as LeastIs}
 use Rattle.pq_types.specs.declared.answer.Answer.TheVariants.{Entered}
-use Rattle.pq_types.specs.declared.answer.Refusal.{Refusal}
 use Rattle.pq_types.specs.declared.answer.Answer.TheVariants as answer
 use Rattle.announce_board.specs.Tokens.{is_idle}
 use Rattle.announce_board.specs.Asking.{IsAnswerTo}
@@ -71,21 +70,6 @@ pop_full words a c few h fits =
       memory = λ room e. cc e;
     }
 
--- and so one that the queue's rules refused
-pub pop_ruled_out : (words : ℕ) (a c : Joined) (why : Refusal) → a.pen.posts < most_posts a.queue.room → CarriesOutBy words a Pop (answer.Refused why) c
-    → IsAnswerTo a.queue.room Pop (answer.Refused why) → TakesSo (EntersAtOnceBy words) a (Err (error.Refused why)) c
-pop_ruled_out words a c why few h fits =
-    let call : MakesCall (EntersAtOnceBy words) (λ told. told) ⊥ a Pop (ended (Some (answer.Refused why))) c = called_own words (answer.Refused why) a c Pop ⊥ h fits few (λ r e. r) in
-    record {
-      ok = tt;
-      err = call.err;
-      full = λ e. absurd (cc e);
-      spent = (λ e. absurd (cc e), λ le. absurd (cc (call.spent.1 le)));
-      turns = call.turns;
-      never_gives_up = λ e. cc e;
-      memory = λ room e. cc e;
-    }
-
 -- what an answer to its pop says of the step
 pub pop_told : (words : ℕ) (late : Type 0) (a c : Joined) (x : Answer) → a.pen.posts < most_posts a.queue.room → CarriesOutBy words a Pop x c → IsAnswerTo a.queue.room Pop x
     → PopsOnceBy words late a (popped_by x) c
@@ -95,7 +79,6 @@ pop_told words late a c (Entered number (LeastIs x)) few h fits = absurd (⊎_el
 pop_told words late a c (Entered number Empty) few h fits = pop_finds_none words a c number few h fits
 pop_told words late a c answer.BookFull few h fits = pop_full words a c few h fits
 pop_told words late a c answer.NoMemory few h fits = absurd fits
-pop_told words late a c (answer.Refused why) few h fits = pop_ruled_out words a c why few h fits
 
 -- a look for any item, as one for what is due, is the look of a take
 pub looks_as : (words : ℕ) (late : Type 0) (line : ℕ) (a c : Joined) (r : DueStepped) → SightsOnceBy words late wanted.Anything a r c → LooksOneTimeBy words late line a (looked_on line r) c

@@ -46,7 +46,6 @@ ends_add : (Turns : Joined → Request → Result (ℕ × Reply) CallError → J
 ends_add Turns a c (Ok told) k = k.ok.member.mine ∙ ap (λ n. a.pen.mine ++ call told.0 n Pop (Got told.1) ∷ []) (sym k.ok.member.posts)
 ends_add Turns a c (Err error.NoMemory) k = k.err.1.mine ∙ sym (append-nil a.pen.mine)
 ends_add Turns a c (Err error.BookFull) k = k.err.mine ∙ sym (append-nil a.pen.mine)
-ends_add Turns a c (Err (error.Refused why)) k = k.err.1.mine ∙ sym (append-nil a.pen.mine)
 ends_add Turns a c (Err error.Spent) k = ap (λ (z : Joined). z.pen.mine) k.err.1 ∙ sym (append-nil a.pen.mine)
 ends_add Turns a c (Err error.GaveUp) k = k.err.1.mine ∙ sym (append-nil a.pen.mine)
 

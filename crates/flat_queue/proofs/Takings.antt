@@ -1,5 +1,5 @@
 -- What pops and looks in vain, and the last one of a take, come to.
-use Rattle.std.proofs.Common.{◌≡◌, ◌∙◌, ℕ, zero, suc, ◌<◌, inl, inr, ap, sym, subst, refl, arith, true}
+use Rattle.std.proofs.Common.{◌≡◌, ◌∙◌, ℕ, zero, suc, ◌<◌, ◌≤◌, inl, inr, ap, sym, subst, refl, arith, true}
 use Rattle.std.specs.Prelude.{Option, Some, None, Result, Ok, Err, IsErrOf, ⊤}
 use Rattle.std.specs.declared.time.Instant.{Instant}
 use Rattle.pq_types.specs.Item.{Item}
@@ -8,7 +8,6 @@ use Rattle.pq_types.specs.declared.request.Request.TheVariants.{Pop}
 use Rattle.pq_types.specs.declared.answer.Reply.TheVariants.{Got}
 use Rattle.pq_types.specs.declared.answer.Answer.TheVariants.{Entered}
 use Rattle.pq_types.specs.declared.answer.Answer.TheVariants as answer
-use Rattle.pq_types.specs.declared.answer.Refusal.{Refusal}
 use Rattle.announce_board.specs.Tokens.{is_idle}
 use Rattle.flat_queue.specs.Limits.{most_posts}
 use Rattle.flat_queue.specs.Members.{Joined}
@@ -25,7 +24,7 @@ use Rattle.flat_queue.specs.declared.looking.Looked.TheVariants as looked
 use Rattle.flat_queue.specs.declared.error.CallError.{CallError}
 use Rattle.flat_queue.specs.declared.error.CallError.TheVariants as error
 use Rattle.flat_queue.proofs.OwnRequests.{called_own}
-use Rattle.flat_queue.proofs.Misses.{missed_as, misses_keep, HasMissed, has_missed_so}
+use Rattle.flat_queue.proofs.Misses.{missed_as, misses_keep, HasMissed, has_missed_so, few_behind, tells_behind}
 
 -- the member is of the queue that it was, and idle
 abbrev pub IdleStill : Joined → Joined → Type 0
@@ -109,24 +108,36 @@ full_now words wants a c few h =
       memory = λ room e. cc e;
     }
 
--- and so is one that the queue's rules refused
-pub ruled_now : (words : ℕ) (wants : Wanted) (a c : Joined) (why : Refusal) → a.pen.posts < most_posts a.queue.room
-    → LooksFirstBy words wants a (looked.Refused why) c → TakesSo (LooksNowBy words wants) a (Err (error.Refused why)) c
-ruled_now words wants a c why few h =
-    let call : MakesCall (EntersAtOnceBy words) (λ told. told) ⊥ a Pop (ended (Some (answer.Refused why))) c = called_own words (answer.Refused why) a c Pop ⊥ h.0 h.1 few (λ r e. r) in
-    record {
-      ok = tt;
-      err = call.err;
-      full = λ e. absurd (cc e);
-      spent = (λ e. absurd (cc e), λ le. absurd (omega (arith, le, few)));
-      turns = λ f. (looked.Refused why, refl, h);
-      never_gives_up = λ e. cc e;
-      memory = λ room e. absurd (cc e);
-    }
-
 -- a look behind tries that found the lock held is one of the member before them
 pub looks_behind : (words : ℕ) (wants : Wanted) (a c z : Joined) (r : Result (ℕ × Reply) CallError) → HasMissed a z → LooksNowBy words wants z Pop r c → LooksForBy words wants a Pop r c
 looks_behind words wants a c z r m (told, is, h) = (told, is, record { tries = m.tries; missed = z; misses = m.misses; looks = h })
+
+pub look_takes : (words : ℕ) (wants : Wanted) (a c : Joined) (number : ℕ) (x : Item) → a.pen.posts < most_posts a.queue.room
+    → MissesThenLooksBy words wants a (looked.Taken number x) c → TakesSo (LooksForBy words wants) a (Ok (number, x)) c
+look_takes words wants a c number x few h =
+    let m = has_missed_so h.tries a h.missed h.misses in
+    tells_behind (λ told. (told.0, Got told.1)) (LooksNowBy words wants) (LooksForBy words wants) a h.missed c Pop ⊤ (Ok (number, x)) m few
+    (λ r. looks_behind words wants a c h.missed r m) (takes_now words wants h.missed c number x (few_behind a h.missed m few) h.looks)
+
+pub look_full : (words : ℕ) (wants : Wanted) (a c : Joined) → a.pen.posts < most_posts a.queue.room
+    → MissesThenLooksBy words wants a looked.BookFull c → TakesSo (LooksForBy words wants) a (Err error.BookFull) c
+look_full words wants a c few h =
+    let m = has_missed_so h.tries a h.missed h.misses in
+    tells_behind (λ (told : ℕ × Item). (told.0, Got told.1)) (LooksNowBy words wants) (LooksForBy words wants) a h.missed c Pop ⊤ (Err error.BookFull) m few
+    (λ r. looks_behind words wants a c h.missed r m) (full_now words wants h.missed c (few_behind a h.missed m few) h.looks)
+
+-- and one that had no serial left
+pub take_spent : (Turns : Joined → Request → Result (ℕ × Reply) CallError → Joined → Type 0) (a : Joined) → most_posts a.queue.room ≤ a.pen.posts → TakesSo Turns a (Err error.Spent) a
+take_spent Turns a le =
+    record {
+      ok = tt;
+      err = (le, refl);
+      full = λ e. absurd (cc e);
+      spent = (λ e. le, λ l. refl);
+      turns = λ few. absurd (omega (arith, le, few));
+      never_gives_up = λ e. cc e;
+      memory = λ room e. cc e;
+    }
 
 -- a look in vain leaves its member idle, at its queue
 pub vain_idle : (words : ℕ) (wants : Wanted) (a c : Joined) (told : Looked) → is_idle a.pen.standing ≡ true → MissesThenLooksBy words wants a told c
@@ -174,7 +185,6 @@ pub ends_idle : (Turns : Joined → Request → Result (ℕ × Reply) CallError 
 ends_idle Turns before after (Ok t) i k = (k.ok.member.stays.queue, ap is_idle k.ok.member.standing)
 ends_idle Turns before after (Err error.NoMemory) i k = absurd k.err.0
 ends_idle Turns before after (Err error.BookFull) i k = (k.err.stays.queue, ap is_idle k.err.standing)
-ends_idle Turns before after (Err (error.Refused why)) i k = (k.err.1.stays.queue, ap is_idle k.err.1.standing)
 ends_idle Turns before after (Err error.Spent) i k = (ap (λ (z : Joined). z.queue) k.err.1, ap (λ (z : Joined). is_idle z.pen.standing) k.err.1 ∙ i)
 ends_idle Turns before after (Err error.GaveUp) i k = absurd k.err.0
 

@@ -59,7 +59,6 @@ abbrev pub came_to : Came → Result (ℕ × Reply) CallError
 came_to (came.Answered (answer.Entered number reply)) = Ok (number, reply)
 came_to (came.Answered answer.BookFull) = Err error.BookFull
 came_to (came.Answered answer.NoMemory) = Err error.NoMemory
-came_to (came.Answered (answer.Refused why)) = Err (error.Refused why)
 came_to came.Spent = Err error.Spent
 came_to came.Held = Err error.GaveUp
 came_to came.Posted = Err error.GaveUp

@@ -71,7 +71,6 @@ IsLeft wants first (looked.Taken number x) = ⊥
 IsLeft wants first (looked.Stays x) = (first ≡ Some x) × ¬ (IsWanted wants x.priority)
 IsLeft wants first looked.Nothing = first ≡ None
 IsLeft wants first looked.BookFull = ⊥
-IsLeft wants first (looked.Refused why) = ⊥
 
 -- What a look finds that wants nothing, at a journal with these lines and so much room: the first item; that there is none; or
 -- that the journal is full.
@@ -80,7 +79,6 @@ FindsNext room lines (looked.Taken number x) = ⊥
 FindsNext room lines (looked.Stays x) = (length lines < room) × (first_of (left lines) ≡ Some x)
 FindsNext room lines looked.Nothing = (length lines < room) × (first_of (left lines) ≡ None)
 FindsNext room lines looked.BookFull = room ≤ length lines
-FindsNext room lines (looked.Refused why) = ⊥
 
 -- what a look comes to whose pop was so answered
 abbrev pub looked_by : Answer → Looked
@@ -90,10 +88,9 @@ looked_by (Entered number (LeastIs x)) = looked.Nothing
 looked_by (Entered number Empty) = looked.Nothing
 looked_by answer.BookFull = looked.BookFull
 looked_by answer.NoMemory = looked.BookFull
-looked_by (answer.Refused why) = looked.Refused why
 
 -- What the look came to: a pop of the member's own took out an item that it wants, on this line, or was answered that the
--- journal is full, or refused by the queue's rules; or it made no request, and tells what it leaves there.
+-- journal is full; or it made no request, and tells what it leaves there.
 abbrev pub LooksFirstBy : ℕ → Wanted → Joined → Looked → Joined → Type 0
 LooksFirstBy words wants before (looked.Taken number x) after =
     PopsUnderLockBy words before (Entered number (Got x)) after × IsWanted wants x.priority
@@ -102,7 +99,6 @@ LooksFirstBy words wants before (looked.Stays x) after =
 LooksFirstBy words wants before looked.Nothing after =
     ServesOthersBy words before after × IsLeft wants (first_of (left after.pen.known)) looked.Nothing
 LooksFirstBy words wants before looked.BookFull after = PopsUnderLockBy words before answer.BookFull after
-LooksFirstBy words wants before (looked.Refused why) after = PopsUnderLockBy words before (answer.Refused why) after
 
 -- the member found the lock held so often, and then it looked
 pub record MissesThenLooksBy (words : ℕ) (wants : Wanted) (before : Joined) (told : Looked) (after : Joined) : Type 0 where

@@ -37,7 +37,6 @@ is_coming w =
             comers = w.comers;
             places = w.tag.places;
             room = w.tag.sample.value.state.room;
-            terms = w.tag.terms;
           };
       comer = w.comer;
     }

@@ -86,7 +86,6 @@ popped_by (Entered number (LeastIs x)) = stepped.Goes (stage.Announces number)
 popped_by (Entered number Empty) = stepped.Goes (stage.Announces number)
 popped_by answer.BookFull = stepped.Ends (took.Refused error.BookFull)
 popped_by answer.NoMemory = stepped.Ends (took.Refused error.NoMemory)
-popped_by (answer.Refused why) = stepped.Ends (took.Refused (error.Refused why))
 
 -- what a step of a take comes to whose look came to this, behind a pop that found no item on this line
 abbrev pub looked_on : ℕ → DueStepped → TakeStepped

@@ -15,7 +15,6 @@ use Rattle.flat_queue.specs.Turns.{Misses}
 use Rattle.flat_queue.specs.Looking.{Looked, LooksFirstBy, MissesThenLooksBy}
 use Rattle.flat_queue.specs.declared.error.CallError.{CallError}
 use Rattle.flat_queue.specs.declared.error.CallError.TheVariants.{BookFull}
-use Rattle.flat_queue.specs.declared.error.CallError.TheVariants as error
 use Rattle.flat_queue.specs.declared.looking.Wanted.{Wanted}
 use Rattle.flat_queue.specs.declared.looking.Wanted.TheVariants as wanted
 use Rattle.flat_queue.specs.declared.looking.Looked.TheVariants as looked
@@ -45,7 +44,6 @@ ended_look (looked.Taken number x) = Some (Ok (number, Got x))
 ended_look (looked.Stays x) = None
 ended_look looked.Nothing = None
 ended_look looked.BookFull = Some (Err BookFull)
-ended_look (looked.Refused why) = Some (Err (error.Refused why))
 
 -- the member looked once for such an item, which is what the call came to
 abbrev pub LooksNowBy : ℕ → Wanted → Joined → Request → Result (ℕ × Reply) CallError → Joined → Type 0

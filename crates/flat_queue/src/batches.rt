@@ -3,10 +3,9 @@ ghost use Rattle.std.specs.Prelude.{◌≡◌, ◌≢◌, ◌≤◌, ◌<◌, tr
 ghost use Rattle.std.specs.List.{All};
 ghost use Rattle.pq_types.specs.declared.journal.TheConstants.{GREATEST_NUMBER};
 ghost use Rattle.pq_types.specs.History.{left};
-ghost use Rattle.pq_book.specs.Book.{AllHaveRoom, limits_of};
+ghost use Rattle.pq_book.specs.Book.{AllHaveRoom};
 ghost use Rattle.leftist_heap.specs.Store.{first_of};
 ghost use Rattle.desk_core.specs.Words.{word_number};
-ghost use Rattle.announce_board.specs.Slots.{MeetsTerms};
 ghost use Rattle.announce_board.specs.Tokens.{IsLeadOf, is_idle};
 ghost use Rattle.flat_queue.specs.Members.{HasRoomForAll, pen_of};
 ghost use Rattle.flat_queue.specs.Turns.{FindsLockHeld};
@@ -89,7 +88,6 @@ impl<S: Store<Entry<P>>, P: Part> Queue<S, P> {
     ) -> Batch
         requires queue { member.old.queue ≡ self.now }
         requires lead { IsLeadOf (pen_of member.old) lead }
-        requires terms { MeetsTerms self.now.terms lead.book }
         requires idle { is_idle member.old.pen.standing ≡ true }
         ensures releases { ReleasesBatch member.old (pushes_of (take result.done items.now)) (IsPushAt items.now result.done)
             result member.new }
@@ -197,7 +195,6 @@ impl<S: Store<Entry<P>>, P: Part> Queue<S, P> {
     ) -> Popped<Item<P>>
         requires queue { member.old.queue ≡ self.now }
         requires lead { IsLeadOf (pen_of member.old) lead }
-        requires terms { MeetsTerms self.now.terms lead.book }
         requires idle { is_idle member.old.pen.standing ≡ true }
         ensures slots { length into.new ≡ length into.old }
         ensures releases { ReleasesBatch member.old (pops_of (take result.batch.done into.new)) IsPop result.batch member.new }
@@ -336,9 +333,8 @@ fn push_each<S: Store<Entry<P>>, P: Part>(
     ensures place { pen.new.state.place ≡ pen.old.state.place }
     ensures room { pen.new.state.room ≡ pen.old.state.room }
     ensures lead { IsLeadOf pen.new result.0 }
-    ensures limits { limits_of result.0.book ≡ limits_of lead.book }
-    ensures applies { AppliesBatch (limits_of lead.book) most (IsPushAt items.now result.1) pen.old.state
-        (pushes_of (take result.1 items.now)) result.2 pen.new.state }
+    ensures applies { AppliesBatch most (IsPushAt items.now result.1) pen.old.state (pushes_of (take result.1 items.now)) result.2
+        pen.new.state }
     ensures memory { AllHaveRoom S.room pen.old.state.room → result.2 ≢ Some CallError.NoMemory }
     ensures within { result.1 ≤ length items.now }
     ensures whole { result.2 ≡ None → result.1 ≡ in_one_batch (length items.now) }
@@ -357,9 +353,6 @@ fn push_each<S: Store<Entry<P>>, P: Part>(
             Answer::Entered(_, _) => done += 1,
             Answer::BookFull => return (lead, done, Some(CallError::BookFull)),
             Answer::NoMemory => return (lead, done, Some(CallError::NoMemory)),
-            Answer::Refused(refusal) => {
-                return (lead, done, Some(CallError::Refused(refusal.why())));
-            }
         }
     }
     (lead, done, None)
@@ -383,9 +376,7 @@ fn pop_each<S: Store<Entry<P>>, P: Part>(
     ensures place { pen.new.state.place ≡ pen.old.state.place }
     ensures room { pen.new.state.room ≡ pen.old.state.room }
     ensures lead { IsLeadOf pen.new result.0 }
-    ensures limits { limits_of result.0.book ≡ limits_of lead.book }
-    ensures applies { AppliesBatch (limits_of lead.book) most IsPop pen.old.state (pops_of (take result.1 into.new)) result.2
-        pen.new.state }
+    ensures applies { AppliesBatch most IsPop pen.old.state (pops_of (take result.1 into.new)) result.2 pen.new.state }
     ensures memory { result.2 ≢ Some CallError.NoMemory }
     ensures due { All (λ x. x.priority ≤ P.number priority) (take result.1 into.new) }
     ensures within { result.1 ≤ length into.old }
@@ -409,9 +400,6 @@ fn pop_each<S: Store<Entry<P>>, P: Part>(
             Answer::Entered(_, reply) => reply,
             Answer::BookFull => return (lead, done, Some(CallError::BookFull)),
             Answer::NoMemory => unreachable!(),
-            Answer::Refused(refusal) => {
-                return (lead, done, Some(CallError::Refused(refusal.why())));
-            }
         };
         match reply {
             Reply::Got(item) => {

@@ -250,12 +250,9 @@ pub(crate) fn end_of<P: Part>(came: Came<Item<P>>) -> Result<(u64, Reply<Item<P>
     ensures { result ≡ came_to came }
 {
     match came {
-        Came::Answered(answer) => match answer {
-            Answer::Entered(number, reply) => Ok((number, reply)),
-            Answer::BookFull => Err(CallError::BookFull),
-            Answer::NoMemory => Err(CallError::NoMemory),
-            Answer::Refused(refusal) => Err(CallError::Refused(refusal.why())),
-        },
+        Came::Answered(Answer::Entered(number, reply)) => Ok((number, reply)),
+        Came::Answered(Answer::BookFull) => Err(CallError::BookFull),
+        Came::Answered(Answer::NoMemory) => Err(CallError::NoMemory),
         Came::Spent => Err(CallError::Spent),
         Came::Held | Came::Posted => Err(CallError::GaveUp),
     }

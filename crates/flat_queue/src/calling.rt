@@ -185,12 +185,9 @@ pub(crate) fn end<P: Part>(
 {
     match answer {
         None => Err(CallError::GaveUp),
-        Some(answer) => match answer {
-            Answer::Entered(number, reply) => Ok((number, reply)),
-            Answer::BookFull => Err(CallError::BookFull),
-            Answer::NoMemory => Err(CallError::NoMemory),
-            Answer::Refused(refusal) => Err(CallError::Refused(refusal.why())),
-        },
+        Some(Answer::Entered(number, reply)) => Ok((number, reply)),
+        Some(Answer::BookFull) => Err(CallError::BookFull),
+        Some(Answer::NoMemory) => Err(CallError::NoMemory),
     }
 }
 

@@ -169,9 +169,6 @@ impl<S: Store<Entry<P>>, P: Part> Queue<S, P> {
                 Left::Enough => DueStepped::Goes(DueStage::Sleeps(look.seen, None)),
             },
             Some(Looked::BookFull) => self.end_due(DueTook::Refused(CallError::BookFull), true),
-            Some(Looked::Refused(refusal)) => {
-                self.end_due(DueTook::Refused(CallError::Refused(refusal)), true)
-            }
         }
     }
 

@@ -1,11 +1,10 @@
 // Why there is no queue, why a call has no reply, and why a push was not made.
 ghost use Rattle.std.specs.Prelude.{◌≡◌};
-ghost use Rattle.flat_queue.specs.Calling.{call_code, refusal_code};
+ghost use Rattle.flat_queue.specs.Calling.{call_code};
 ghost use Rattle.flat_queue.specs.Ending.{push_code};
 ghost use Rattle.flat_queue.specs.Opening.{queue_code};
 
 use crate::ending::Shut;
-use pq_types::Refusal;
 use split_core::ids::IdError;
 use thiserror::Error;
 
@@ -53,15 +52,10 @@ pub enum CallError {
     /// finds its answer.
     #[error("gave up")]
     GaveUp,
-    /// The queue's rules refuse it: it is shut, has as many items as its bound, or would forget a line that
-    /// is not archived. The request has no line, and the member is idle. So far no call does this: each
-    /// opening gives plain terms, and no call of a queue enters a shut.
-    #[error("refused by the queue's rules")]
-    Refused(Refusal),
 }
 
 impl CallError {
-    /// The number of this refusal: 9 to 12, or 51 to 53.
+    /// The number of this refusal: 9 to 12.
     pub fn code(&self) -> u32
         ensures { result ≡ call_code self.now }
     {
@@ -70,19 +64,7 @@ impl CallError {
             CallError::BookFull => 10,
             CallError::Spent => 11,
             CallError::GaveUp => 12,
-            CallError::Refused(refusal) => refusal_code(*refusal),
         }
-    }
-}
-
-// The number of a refusal by the queue's rules.
-fn refusal_code(refusal: Refusal) -> u32
-    ensures { result ≡ refusal_code refusal }
-{
-    match refusal {
-        Refusal::Shut => 51,
-        Refusal::Unarchived => 52,
-        Refusal::Full => 53,
     }
 }
 

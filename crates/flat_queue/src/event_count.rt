@@ -249,7 +249,7 @@ fn low_half(seen: u64) -> u32 {
 fn wakes_behind<P: Part>(puts_in: bool, answer: &Answer<Item<P>>, room: u64) -> u64 {
     match answer {
         Answer::BookFull => u64::MAX,
-        Answer::NoMemory | Answer::Refused(_) => 0,
+        Answer::NoMemory => 0,
         Answer::Entered(number, _) if *number >= room => u64::MAX,
         Answer::Entered(_, _) => u64::from(puts_in),
     }

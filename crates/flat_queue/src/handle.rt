@@ -10,7 +10,6 @@ ghost use Rattle.desk_core.specs.Words.{word_number};
 ghost use Rattle.announce_board.specs.Tokens.{IsLeadOf, is_idle};
 ghost use Rattle.announce_board.specs.Asking.{asked_by, IsFullFor};
 ghost use Rattle.announce_board.specs.Serving.{Wins};
-ghost use Rattle.announce_board.specs.Slots.{MeetsTerms};
 ghost use Rattle.flat_queue.specs.declared.gate.Turn.TheVariants.{GiveUp};
 ghost use Rattle.flat_queue.specs.Members.{Joins, HasRoomForAll, StaysAtPlace, pen_of};
 ghost use Rattle.flat_queue.specs.Calling.{MakesCall, PostsAndWaitsBy, WaitsForBy, popped, found_first};
@@ -286,7 +285,6 @@ impl<'q, S: Store<Entry<P>>, P: Part> Handle<'q, S, P> {
         ensures stays { StaysAtPlace self.old self.new }
         ensures lead { IfSome result (λ lead. IsLeadOf (pen_of self.new) lead) }
         ensures wins { IfSome result (λ lead. Wins self.old.pen lead.book self.new.pen) }
-        ensures terms { IfSome result (λ lead. MeetsTerms self.old.queue.terms lead.book) }
         ensures misses { IfNone result (self.new.pen ≡ after_miss self.old.pen) }
     {
         self.queue.lead(&mut self.member)
@@ -295,7 +293,6 @@ impl<'q, S: Store<Entry<P>>, P: Part> Handle<'q, S, P> {
     /// Puts the Book home and then frees the lock, in one step. Takes no memory, and never waits.
     pub fn release(&mut self, lead: Lead<S, P>)
         requires lead { IsLeadOf (pen_of self.old) lead }
-        requires terms { MeetsTerms self.old.queue.terms lead.book }
         ensures { self.new ≡ record self.old { pen = after_release self.old.pen } }
     {
         self.queue.release(&mut self.member, lead);

@@ -14,7 +14,7 @@ use crate::settling::law_one_room;
 use announce_board::Lead;
 use leftist_heap::Store;
 use pq_book::Entry;
-use pq_types::{Answer, Item, Part, Refusal, Reply, Request};
+use pq_types::{Answer, Item, Part, Reply, Request};
 
 /// Which items a look takes, by their priorities.
 #[derive(Clone, Copy, Debug, PartialEq, Eq)]
@@ -38,8 +38,6 @@ pub enum Looked<I = Item> {
     Nothing,
     /// The journal has no line left for a pop.
     BookFull,
-    /// The queue's rules refuse a pop.
-    Refused(Refusal),
 }
 
 impl<S: Store<Entry<P>>, P: Part> Queue<S, P> {
@@ -128,11 +126,8 @@ fn looked_by<P: Part>(answer: Answer<Item<P>>) -> Looked<Item<P>>
     ensures { result ≡ looked_by answer }
 {
     match answer {
-        Answer::Entered(number, reply) => match reply {
-            Reply::Got(item) => Looked::Taken(number, item),
-            _ => Looked::Nothing,
-        },
+        Answer::Entered(number, Reply::Got(item)) => Looked::Taken(number, item),
+        Answer::Entered(_, _) => Looked::Nothing,
         Answer::BookFull | Answer::NoMemory => Looked::BookFull,
-        Answer::Refused(refusal) => Looked::Refused(refusal.why()),
     }
 }

@@ -10,7 +10,6 @@ ghost use Rattle.pq_types.specs.declared.journal.TheConstants.{GREATEST_NUMBER};
 ghost use Rattle.pq_book.specs.Book.{IsRoom, AllHaveRoom};
 ghost use Rattle.pq_book.specs.Pages.{IsLongPage, page_of, room_keeping};
 ghost use Rattle.announce_board.specs.Opening.{ArePens};
-ghost use Rattle.announce_board.specs.Slots.{plain_terms};
 ghost use Rattle.flat_queue.specs.Gathered.{licences_at};
 ghost use Rattle.flat_queue.specs.Members.{HasRoomForAll};
 ghost use Rattle.flat_queue.specs.Opening.{Opens, waiting_of, AreAsleep, is_coming};
@@ -52,7 +51,6 @@ impl<S: Store<Entry>> Queue<S> {
     ) -> Result<(Queue<S>, Vec<Newcomer>), QueueError>
         requires empty { S.content store ≡ [] }
         ensures ok { IfOk result (λ r. Opens ids.now lines r.0 r.1.items) }
-        ensures terms { IfOk result (λ r. r.0.terms ≡ plain_terms lines) }
         ensures stores { IfOk result (λ r. AllHaveRoom S.room lines → HasRoomForAll S.room r.0) }
         ensures opens { OnOk result (OpenGrid ids.now × IsRoom lines) }
         ensures comers { (e : IdError) → (result ≡ Err (QueueError.Comers e)) ↔ IsFault ids.now e }
@@ -78,7 +76,6 @@ impl<S: Store<Entry>> Queue<S> {
     ) -> Result<(Queue<S>, Vec<Newcomer>), QueueError>
         requires empty { S.content store ≡ [] }
         ensures ok { IfOk result (λ r. Opens ids.now GREATEST_NUMBER r.0 r.1.items) }
-        ensures terms { IfOk result (λ r. r.0.terms ≡ plain_terms GREATEST_NUMBER) }
         ensures opens { OnOk result (OpenGrid ids.now) }
         ensures comers { (e : IdError) → (result ≡ Err (QueueError.Comers e)) ↔ IsFault ids.now e }
         ensures lines { result ≢ Err QueueError.LinesOutOfRange }
@@ -97,7 +94,6 @@ impl<S: Store<Entry>> Queue<S> {
     ) -> Result<(Queue<S>, Vec<Newcomer>), QueueError>
         requires empty { S.content store ≡ [] }
         ensures ok { IfOk result (λ r. Opens ids.now (room_keeping kept) r.0 r.1.items) }
-        ensures terms { IfOk result (λ r. r.0.terms ≡ plain_terms (room_keeping kept)) }
         ensures kept { OnOk result (page_of (room_keeping kept) ≡ kept) }
         ensures opens { OnOk result (OpenGrid ids.now × IsLongPage kept) }
         ensures comers { (e : IdError) → (result ≡ Err (QueueError.Comers e)) ↔ IsFault ids.now e }
@@ -119,7 +115,6 @@ impl<S: Store<Entry<u64>>> Queue<S, u64> {
     ) -> Result<(Queue<S, u64>, Vec<Newcomer>), QueueError>
         requires empty { S.content store ≡ [] }
         ensures ok { IfOk result (λ r. Opens ids.now lines r.0 r.1.items) }
-        ensures terms { IfOk result (λ r. r.0.terms ≡ plain_terms lines) }
         ensures stores { IfOk result (λ r. AllHaveRoom S.room lines → HasRoomForAll S.room r.0) }
         ensures opens { OnOk result (OpenGrid ids.now × IsRoom lines) }
         ensures comers { (e : IdError) → (result ≡ Err (QueueError.Comers e)) ↔ IsFault ids.now e }
@@ -139,7 +134,6 @@ impl<S: Store<Entry<u64>>> Queue<S, u64> {
     ) -> Result<(Queue<S, u64>, Vec<Newcomer>), QueueError>
         requires empty { S.content store ≡ [] }
         ensures ok { IfOk result (λ r. Opens ids.now GREATEST_NUMBER r.0 r.1.items) }
-        ensures terms { IfOk result (λ r. r.0.terms ≡ plain_terms GREATEST_NUMBER) }
         ensures opens { OnOk result (OpenGrid ids.now) }
         ensures comers { (e : IdError) → (result ≡ Err (QueueError.Comers e)) ↔ IsFault ids.now e }
         ensures lines { result ≢ Err QueueError.LinesOutOfRange }
@@ -158,7 +152,6 @@ impl<S: Store<Entry<u64>>> Queue<S, u64> {
     ) -> Result<(Queue<S, u64>, Vec<Newcomer>), QueueError>
         requires empty { S.content store ≡ [] }
         ensures ok { IfOk result (λ r. Opens ids.now (room_keeping kept) r.0 r.1.items) }
-        ensures terms { IfOk result (λ r. r.0.terms ≡ plain_terms (room_keeping kept)) }
         ensures kept { OnOk result (page_of (room_keeping kept) ≡ kept) }
         ensures opens { OnOk result (OpenGrid ids.now × IsLongPage kept) }
         ensures comers { (e : IdError) → (result ≡ Err (QueueError.Comers e)) ↔ IsFault ids.now e }
@@ -178,7 +171,6 @@ impl Queue<Leftist<Entry, Global>> {
         lines: u32,
     ) -> Result<(Queue<Leftist<Entry, Global>>, Vec<Newcomer>), QueueError>
         ensures ok { IfOk result (λ r. Opens ids.now lines r.0 r.1.items) }
-        ensures terms { IfOk result (λ r. r.0.terms ≡ plain_terms lines) }
         ensures opens { OnOk result (OpenGrid ids.now × IsRoom lines) }
         ensures comers { (e : IdError) → (result ≡ Err (QueueError.Comers e)) ↔ IsFault ids.now e }
         ensures lines { (result ≡ Err QueueError.LinesOutOfRange) ↔ (OpenGrid ids.now × (¬ (IsRoom lines))) }
@@ -196,7 +188,6 @@ impl Queue<Leftist<Entry<u64>, Global>, u64> {
         lines: u32,
     ) -> Result<(Queue<Leftist<Entry<u64>, Global>, u64>, Vec<Newcomer>), QueueError>
         ensures ok { IfOk result (λ r. Opens ids.now lines r.0 r.1.items) }
-        ensures terms { IfOk result (λ r. r.0.terms ≡ plain_terms lines) }
         ensures opens { OnOk result (OpenGrid ids.now × IsRoom lines) }
         ensures comers { (e : IdError) → (result ≡ Err (QueueError.Comers e)) ↔ IsFault ids.now e }
         ensures lines { (result ≡ Err QueueError.LinesOutOfRange) ↔ (OpenGrid ids.now × (¬ (IsRoom lines))) }
@@ -215,7 +206,6 @@ fn open_short<S: Store<Entry<P>>, P: Part>(
 ) -> Result<(Queue<S, P>, Vec<Newcomer>), QueueError>
     requires empty { S.content store ≡ [] }
     ensures ok { IfOk result (λ r. Opens ids.now lines r.0 r.1.items) }
-    ensures terms { IfOk result (λ r. r.0.terms ≡ plain_terms lines) }
     ensures stores { IfOk result (λ r. AllHaveRoom S.room lines → HasRoomForAll S.room r.0) }
     ensures opens { OnOk result (OpenGrid ids.now × IsRoom lines) }
     ensures comers { (e : IdError) → (result ≡ Err (QueueError.Comers e)) ↔ IsFault ids.now e }
@@ -247,7 +237,6 @@ fn open_long<S: Store<Entry<P>>, P: Part>(
 ) -> Result<(Queue<S, P>, Vec<Newcomer>), QueueError>
     requires empty { S.content store ≡ [] }
     ensures ok { IfOk result (λ r. Opens ids.now (room_keeping kept) r.0 r.1.items) }
-    ensures terms { IfOk result (λ r. r.0.terms ≡ plain_terms (room_keeping kept)) }
     ensures kept { OnOk result (page_of (room_keeping kept) ≡ kept) }
     ensures opens { OnOk result (OpenGrid ids.now × IsLongPage kept) }
     ensures comers { (e : IdError) → (result ≡ Err (QueueError.Comers e)) ↔ IsFault ids.now e }
@@ -284,8 +273,7 @@ fn opened<S: Store<Entry<P>>, P: Part>(
     requires places { desk.places ≡ places_of (length ids.now) }
     requires counted { length pens.items ≡ desk.places }
     requires dealt { ArePens desk.table desk.room pens.items }
-    ensures opens { IfOk result (λ r. Opens ids.now desk.room r.0 r.1.items) }
-    ensures terms { IfOk result (λ r. r.0.terms ≡ desk.terms) }
+    ensures { IfOk result (λ r. Opens ids.now desk.room r.0 r.1.items) }
 {
     let (waiting, licences) = asleep(alloc, &desk, pens)?;
     let tag = tag_of(&desk, &waiting);
@@ -314,12 +302,10 @@ fn tag_of<S: Store<Entry<P>>, P: Part>(desk: &Desk<S, P>, waiting: &[Waiting]) -
     ensures table { result.sample.value.table ≡ desk.now.table }
     ensures room { result.sample.value.state.room ≡ desk.now.room }
     ensures places { result.places ≡ desk.now.places }
-    ensures terms { result.terms ≡ desk.now.terms }
 {
     DeskTag {
         sample: Snapshot::of(&waiting[0].sleeper),
         places: desk.places(),
-        terms: desk.terms(),
     }
 }
 

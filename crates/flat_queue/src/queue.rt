@@ -24,7 +24,7 @@ use std::marker::Model;
 
 /// A priority queue that threads share through a `&`: a grid that gives each its place, and a desk
 /// with a pen for each place. Its items have parts of 32 bits, or of 64 where `P` is `u64`. A contract
-/// sees of it the tables of both, the numbers of its comers and places, the room of its journal, and its terms.
+/// sees of it the tables of both, the numbers of its comers and places, and the room of its journal.
 #[derive(Drop)]
 pub struct Queue<S: Store<Entry<P>>, P: Part = u32> {
     pub(crate) grid: Grid<Waiting>,
@@ -47,10 +47,9 @@ impl<S: Store<Entry<P>>, P: Part> Model for Queue<S, P> {
       comers = q.grid.comers;
       places = q.desk.places;
       room = q.desk.room;
-      terms = q.desk.terms;
     } };
 
-    ghost invariant = { λ q. AreTied q.grid.comers q.grid.tag.sample.value q.grid.tag.places q.grid.tag.terms q.desk q.spare };
+    ghost invariant = { λ q. AreTied q.grid.comers q.grid.tag.sample.value q.grid.tag.places q.desk q.spare };
 }
 
 impl<S: Store<Entry<P>>, P: Part> Queue<S, P> {

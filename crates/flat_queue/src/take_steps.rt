@@ -122,13 +122,10 @@ impl<S: Store<Entry<P>>, P: Part> Queue<S, P> {
         ensures { result ≡ popped_by answer }
     {
         match answer {
-            Answer::Entered(line, reply) => match reply {
-                Reply::Got(item) => TakeStepped::Ends(Took::Taken(line, item)),
-                _ => TakeStepped::Goes(TakeStage::Announces(line)),
-            },
+            Answer::Entered(line, Reply::Got(item)) => TakeStepped::Ends(Took::Taken(line, item)),
+            Answer::Entered(line, _) => TakeStepped::Goes(TakeStage::Announces(line)),
             Answer::BookFull => self.refused(CallError::BookFull),
             Answer::NoMemory => self.refused(CallError::NoMemory),
-            Answer::Refused(refusal) => self.refused(CallError::Refused(refusal.why())),
         }
     }
 

@@ -61,7 +61,6 @@ impl<'a, S: Store<Entry>> Caller for BookCaller<'a, S> {
             Some(Answer::Entered(_, reply)) => Ok(item_of(reply)),
             Some(Answer::BookFull) => Err(CallError::BookFull),
             Some(Answer::NoMemory) => Err(CallError::NoMemory),
-            Some(Answer::Refused(refusal)) => Err(CallError::Refused(refusal.why())),
             None => Err(CallError::Spent),
         }
     }

@@ -24,7 +24,6 @@ told_as (looked.Taken number x) = Entered number (Got x)
 told_as (looked.Stays x) = Entered 0 (LeastIs x)
 told_as looked.Nothing = Entered 0 Empty
 told_as looked.BookFull = answer.BookFull
-told_as (looked.Refused why) = answer.Refused why
 
 -- The idle member has found the lock free, and looked at the first item, which it took out where it wants that, as is told.
 abbrev pub PoppingOrLooking : Option Joined → Wanted → PlainAnswer → Option Joined → Type 0

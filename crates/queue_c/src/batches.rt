@@ -53,13 +53,13 @@ fn try_push_many(held: &mut Contents, items: &[PlainItem], told: &mut PlainBatch
     batch_counted(member, code, items.len(), told.done)
 }
 
-/// Puts the first of `items` into the queue under one lock, 64 at most, at once where no other member leads, without a post: 0,
-/// and it is told how many were entered, the number of the first one's journal line, behind which the others stand in the order
-/// of the items, and what refused the next, if something did: 9 no memory, 10 the journal is full, 11 all serials are spent, 51
-/// to 53 the queue's rules, as kinds 6 to 8 of an answer; and whether a wake is owed. 8 where another member led, and then
-/// nothing was done; 51 where the queue is shut: the member led, and released without an item. Refusals, which do nothing: 42
-/// where the handle holds no member, 43 where the last request is not answered yet, 52 where the batch might have memory forget a
-/// line that is not archived. The pointer must not be null, where `count` is 0 neither.
+/// Puts the first of `items` into the queue under one lock, 64 at most, at once where no other member leads, without a post:
+/// 0, and it is told how many were entered, the number of the first one's journal line, behind which the others stand in the
+/// order of the items, and what refused the next, if something did: 9 no memory, 10 the journal is full, 11 all serials are
+/// spent; and whether a wake is owed. 8 where another member led, and then nothing was done; 51 where the queue is shut: the
+/// member led, and released without an item. Refusals, which do nothing: 42 where the handle holds no member, 43 where the
+/// last request is not answered yet, 52 where the batch might have memory forget a line that is not archived. The pointer
+/// must not be null, where `count` is 0 neither.
 #[unsafe(no_mangle)]
 pub extern "C" fn pq_core_try_push_many(
     alloc: Global,
@@ -123,14 +123,14 @@ fn try_pop_many(
 }
 
 /// Takes the first items out under one lock while their priorities are at most `bound`, 64 at most, and no more than the buffer
-/// at `items` has room for, at once where no other member leads, without a post: 0, and the buffer has them, the first one first,
-/// and behind them what it had; and it is told how many they are, the number of the first one's journal line, behind which the
-/// others stand in their order, and what refused the next, if something did: 10 the journal is full, 11 all serials are spent, 52
-/// memory would forget a line that is not archived; and whether a wake is owed; and the answer to a look after it: the first item
-/// of those that stay, that none stays, or that the journal is full. What stays has no line. 8 where another member led, and then
-/// nothing was done. Refusals, which do nothing: 42 where the handle holds no member, 43 where the last request is not answered
-/// yet, 52 where the batch might have memory forget a line that is not archived. Takes memory for the pushes of others alone. The
-/// pointer must not be null, where the room is 0 neither.
+/// at `items` has room for, at once where no other member leads, without a post: 0, and the buffer has them, the first one
+/// first, and behind them what it had; and it is told how many they are, the number of the first one's journal line, behind
+/// which the others stand in their order, and what refused the next, if something did: 10 the journal is full, 11 all serials
+/// are spent; and whether a wake is owed; and the answer to a look after it: the first item of those that stay, that none stays,
+/// or that the journal is full. What stays has no line. 8 where another member led, and then nothing was done. Refusals, which do
+/// nothing: 42 where the handle holds no member, 43 where the last request is not answered yet, 52 where the batch might have
+/// memory forget a line that is not archived. Takes memory for the pushes of others alone. The pointer must not be null, where
+/// the room is 0 neither.
 #[unsafe(no_mangle)]
 pub extern "C" fn pq_core_try_pop_many(
     alloc: Global,

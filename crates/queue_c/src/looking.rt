@@ -33,7 +33,6 @@ pub fn told_as(seen: Looked<Item<u64>>) -> Answer<Item<u64>>
         Looked::Stays(item) => Answer::Entered(0, Reply::Least(item)),
         Looked::Nothing => Answer::Entered(0, Reply::Empty),
         Looked::BookFull => Answer::BookFull,
-        Looked::Refused(refusal) => Answer::Refused(refusal.padded()),
     }
 }
 
@@ -61,12 +60,11 @@ fn pop_or_look(held: &mut Contents, wanted: Wanted, answer: &mut PlainAnswer) ->
 }
 
 /// Takes the first item out where its priority is at most this one, but none where `takes` is 0, and else looks at it, at once
-/// where no other member leads, without a post: 0, and the answer is told, that of a pop where it took the item out, found the
-/// journal full, or was refused by the queue's rules; else, with line 0, as the journal has no line of it, one to a least where
-/// the item stays, or that there is none; and whether a wake is owed behind it; 8 where another member led, and then nothing was
-/// done. Refusals, which do nothing: 42 where the handle holds no member, 43 where the last request is not answered yet, 52 where
-/// a pop might have memory forget a line that is not archived, 11 where all posts are spent. Takes memory for the pushes of
-/// others alone.
+/// where no other member leads, without a post: 0, and the answer is told, that of a pop where it took the item out, or found
+/// the journal full; else, with line 0, as the journal has no line of it, one to a least where the item stays, or that there is
+/// none; and whether a wake is owed behind it; 8 where another member led, and then nothing was done. Refusals, which do
+/// nothing: 42 where the handle holds no member, 43 where the last request is not answered yet, 52 where a pop might have
+/// memory forget a line that is not archived, 11 where all posts are spent. Takes memory for the pushes of others alone.
 #[unsafe(no_mangle)]
 pub extern "C" fn pq_core_try_pop_or_look(
     alloc: Global,

@@ -3,7 +3,6 @@ ghost use Rattle.std.specs.Prelude.{◌≡◌, ◌<◌, ◌↔◌, ◌∷◌, []
 ghost use Rattle.pq_book.specs.Pages.{page_of, room_keeping};
 ghost use Rattle.split_core.specs.Ids.{OpenGrid, IsFault};
 ghost use Rattle.split_core.specs.declared.ids.IdError.{IdError};
-ghost use Rattle.announce_board.specs.Slots.{plain_terms};
 ghost use Rattle.flat_queue.specs.Opening.{Opens};
 ghost use Rattle.split_core.specs.declared.places.TheConstants.{MAX_COMERS};
 ghost use Rattle.queue_c.specs.Lengths.{length_of, room_of, IsLength};
@@ -34,7 +33,6 @@ fn new_queue(
     has_tickets: bool,
 ) -> Result<(Queue<Heap, u64>, Vec<Newcomer>), QueueError>
     ensures ok { IfOk result (λ r. Opens ids.now (room_of length) r.0 r.1.items) }
-    ensures terms { IfOk result (λ r. r.0.terms ≡ plain_terms (room_of length)) }
     ensures opens { OnOk result (OpenGrid ids.now × IsLength length) }
     ensures comers { (e : IdError) → (result ≡ Err (QueueError.Comers e)) ↔ IsFault ids.now e }
     ensures lines { (result ≡ Err QueueError.LinesOutOfRange) ↔ (OpenGrid ids.now × (¬ (IsLength length))) }

@@ -5,9 +5,7 @@ use Rattle.announce_board.specs.Tokens.{is_idle}
 use Rattle.flat_queue.specs.Limits.{most_posts}
 use Rattle.flat_queue.specs.Members.{Joined}
 use Rattle.flat_queue.specs.Turns.{FindsLockHeld}
-use Rattle.flat_queue.specs.Looking.{Looked, LooksFirstBy}
-use Rattle.flat_queue.specs.declared.error.CallError.{CallError}
-use Rattle.flat_queue.specs.declared.error.CallError.TheVariants.{NoMemory, BookFull, Spent, GaveUp, Refused}
+use Rattle.flat_queue.specs.Looking.{LooksFirstBy}
 use Rattle.flat_queue.specs.declared.looking.Wanted.{Wanted}
 use Rattle.flat_queue.specs.declared.looking.Looked.TheVariants as looked
 use Rattle.flat_queue.specs.DueSteps.{DueStage, DueTook}
@@ -21,18 +19,10 @@ use Rattle.queue_pool.specs.declared.taking.TakeStep.TheVariants as step
 abbrev pub TakeStep : Type 0
 TakeStep = TakeStepOf Item
 
--- what a look that was so refused comes to
-abbrev pub refused_look : CallError → Looked
-refused_look NoMemory = looked.BookFull
-refused_look BookFull = looked.BookFull
-refused_look Spent = looked.BookFull
-refused_look GaveUp = looked.BookFull
-refused_look (Refused why) = looked.Refused why
-
 -- what a step comes to whose take is over
 abbrev pub ended_take : DueTook → TakeStep
 ended_take (took.Taken number x) = step.Looked (looked.Taken number x)
-ended_take (took.Refused error) = step.Looked (refused_look error)
+ended_take (took.Refused error) = step.Looked looked.BookFull
 ended_take (took.Later x) = step.Looked (looked.Stays x)
 ended_take took.Nothing = step.Looked looked.Nothing
 ended_take took.Held = step.LockHeld

@@ -1,10 +1,10 @@
 // How a member takes an item that it may wait for, in steps: its caller rests, or sleeps, between them.
 ghost use Rattle.std.specs.Prelude.{◌≡◌};
 ghost use Rattle.desk_core.specs.Words.{word_number};
-ghost use Rattle.queue_pool.specs.Taking.{StepsTakeBy, refused_look, ended_take, take_goes_on};
+ghost use Rattle.queue_pool.specs.Taking.{StepsTakeBy, ended_take, take_goes_on};
 
 use crate::shared::SharedHandle;
-use flat_queue::{CallError, DueNow, DueStage, DueStepped, DueTook, Left, Looked, Wakes, Wanted};
+use flat_queue::{DueNow, DueStage, DueStepped, DueTook, Left, Looked, Wakes, Wanted};
 use leftist_heap::Store;
 use pq_book::Entry;
 use pq_types::{Item, Part};
@@ -70,23 +70,13 @@ impl<S: Store<Entry<P>>, P: Part> SharedHandle<S, P> {
     }
 }
 
-// What a look that was so refused comes to.
-fn refused_look<P: Part>(error: CallError) -> Looked<Item<P>>
-    ensures { result ≡ refused_look error }
-{
-    match error {
-        CallError::Refused(refusal) => Looked::Refused(refusal),
-        _ => Looked::BookFull,
-    }
-}
-
 // What a step comes to whose take is over.
 fn ended<P: Part>(took: DueTook<Item<P>>) -> TakeStep<Item<P>>
     ensures { result ≡ ended_take took }
 {
     match took {
         DueTook::Taken(number, item) => TakeStep::Looked(Looked::Taken(number, item)),
-        DueTook::Refused(error) => TakeStep::Looked(refused_look(error)),
+        DueTook::Refused(_) => TakeStep::Looked(Looked::BookFull),
         DueTook::Later(item) => TakeStep::Looked(Looked::Stays(item)),
         DueTook::Nothing => TakeStep::Looked(Looked::Nothing),
         DueTook::Held => TakeStep::LockHeld,

@@ -8,7 +8,6 @@ mod openings;
 mod regions;
 mod removals;
 mod rooms;
-mod shuts;
 mod splitters;
 mod texts;
 mod wide;

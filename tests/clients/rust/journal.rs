@@ -164,18 +164,6 @@ fn a_journal_is_read_back() {
 }
 
 #[test]
-fn a_shut_is_read_back() {
-    let text = "1 0 1 push 5 7 pushed fd6f9793\n2 0 2 shut 858f5e52\n";
-    let read = read_back("shut", text).unwrap();
-    let entry = read.journal.get(1).unwrap();
-    assert_eq!((entry.request, entry.item), (Request::Shut, None));
-    assert_eq!(entry.to_string(), "2 0 2 shut");
-    let mut written = Vec::new();
-    read.journal.write_to(&mut written).unwrap();
-    assert_eq!(String::from_utf8(written).unwrap(), text);
-}
-
-#[test]
 fn a_wait_ends_once_the_entry_is_archived() {
     let queue = Queue::new().unwrap();
     let number = queue.push(5_u64, 7_u64).unwrap();

@@ -51,7 +51,7 @@ typedef struct pq_journal pq_journal;
 /* What a call returns. A refused call changes nothing, unless its comment says otherwise. */
 typedef enum pq_code {
     PQ_OK = 0,
-    PQ_BAD_OPTION = 5,    /* an option is out of its range */
+    PQ_BAD_OPTION = 5,    /* an option, or a number of entries, is out of its range */
     PQ_NO_MEMORY = 6,     /* memory was refused */
     PQ_JOURNAL_FULL = 10, /* the journal is full, and stays full */
     PQ_EXHAUSTED = 11,    /* the member has made all its requests: 2^56, or 2^24 - 1 where the journal fills */
@@ -117,8 +117,11 @@ typedef struct pq_options {
    PQ_OK; PQ_BAD_OPTION, PQ_NO_MEMORY, PQ_FORKED, PQ_PROCESSOR: *queue is NULL. */
 PQ_CHECKED pq_code pq_open(const pq_options *options, pq_queue **queue);
 
-/* Shuts the queue down for good: from now on each push is refused (PQ_SHUT), and so are those that wait for room. Threads that wait for an
-   item take what is left, and return PQ_SHUT once nothing is left; no item comes after that. PQ_OK; PQ_CLOSED, PQ_FORKED. */
+/* Shuts the queue down for good: each push that begins from now on is refused (PQ_SHUT), and so are those that wait for room. Threads that wait for
+   an item take what is left, and return PQ_SHUT once nothing is left; no item comes after that. The shut has an entry (PQ_SHUTS), but in a full
+   journal, which refuses pushes as before. The call waits for nothing: where it finds all members in use, or the lock held, the next call by a
+   member makes the shut first, with that call's deadline. Where the shut's entry could make memory forget an unarchived one it is made once more is
+   archived; until then each request is refused (PQ_UNARCHIVED). It may be called again. PQ_OK; PQ_CLOSED, PQ_FORKED. */
 pq_code pq_shut(pq_queue *queue);
 
 /* 1: the queue is shut, so each push that begins from now on is refused. 0: none was refused for that before this call; or in a forked child. */
@@ -156,8 +159,8 @@ uint32_t pq_place(pq_member *member);
 
 /* Requests. Each of these calls may also return PQ_NO_MEMBER, PQ_FORKED, PQ_EXHAUSTED, PQ_JOURNAL_FULL or PQ_UNARCHIVED, and
    PQ_TIMED_OUT unless `until` is PQ_FOREVER; a call by pq_own also PQ_CLOSED or PQ_NO_MEMORY. A call without `until` doesn't wait. number
-   may be NULL; else *number is the number of the journal entry, if there is one. Where the journal has no room, a call that takes is
-   refused even if there is nothing to take. */
+   may be NULL; else *number is the number of the journal entry, if there is one. The first that is true refuses a request: PQ_JOURNAL_FULL,
+   PQ_SHUT, PQ_UNARCHIVED, PQ_FULL, PQ_NO_MEMORY. Where nothing is there to take, a call that takes is refused for PQ_JOURNAL_FULL alone. */
 
 /* Puts an item in. Where the queue has as many items as pq_options allow, the call waits until one goes out, and keeps its member meanwhile.
    PQ_OK; PQ_FULL: there was no room until then; PQ_SHUT, PQ_NO_MEMORY. */
@@ -181,9 +184,8 @@ PQ_CHECKED pq_code pq_take_due(pq_member *member, pq_item *item, uint64_t until,
 
 /* Put `count` items in, or take up to `room` items out whose priorities are at most this one. *done gets how many, and *number the number of the
    first one's entry. A refusal ends the batch there; if *done is 0, *number stays as it was. Up to 64 items go under one lock,
-   and have consecutive entries. A larger batch is made in parts, and so is one that could make memory forget an unarchived entry. Pushes to a
-   queue with a bound are made one by one, and each waits for room. A pop returns PQ_OK if it took an item, or if `room` is 0; PQ_NOT_DUE:
-   items[0] is the first item, and stays; PQ_EMPTY. */
+   and have consecutive entries. A larger batch is made in parts, and so are pushes that wait for room. A pop returns PQ_OK if it took an
+   item, or if `room` is 0; PQ_NOT_DUE: items[0] is the first item, and stays; PQ_EMPTY. */
 PQ_CHECKED pq_code pq_push_many(pq_member *member, const pq_item *items, size_t count, uint64_t until, size_t *done, uint64_t *number);
 PQ_CHECKED pq_code pq_pop_due_many(pq_member *member, uint64_t priority, pq_item *items, size_t room, uint64_t until, size_t *done,
                                    uint64_t *number);
@@ -229,10 +231,10 @@ void pq_notify_fd(void *context);
 
 /* Journals: of a closed queue, copied from an open one, or read back from text. Many threads may read one. */
 
-enum pq_request { PQ_PUSH = 0, PQ_POP = 1, PQ_PEEK = 2, PQ_REMOVE = 3, PQ_RESCHEDULE = 4 };
+enum pq_request { PQ_PUSH = 0, PQ_POP = 1, PQ_PEEK = 2, PQ_REMOVE = 3, PQ_RESCHEDULE = 4, PQ_SHUTS = 5 };
 
-/* An entry: its number, from 1; its place's count of requests so far, this one included, and those to which memory was refused; the member's place;
-   the request; the reply, PQ_OK or PQ_EMPTY; and the item pushed or found, as it was then. */
+/* An entry: its number, from 1; its place's count of requests so far, this one and refused ones included; the member's place; the request; the
+   reply, PQ_OK or PQ_EMPTY; and the item pushed or found, as it was then. PQ_SHUTS shut the queue: no push follows, and its reply is PQ_EMPTY. */
 typedef struct pq_entry {
     uint64_t number;
     uint64_t serial;
@@ -245,8 +247,8 @@ typedef struct pq_entry {
     uint64_t priority; /* of PQ_RESCHEDULE the one that the item gets; else 0 */
 } pq_entry;
 
-/* Copies the entries after the first `archived`, and counts those first ones as archived from now on. Nothing checks `archived`: too large a one
-   ends waits too early. PQ_OK; PQ_FORGOTTEN, PQ_NO_MEMORY, PQ_TIMED_OUT, PQ_NO_MEMBER, PQ_CLOSED, PQ_FORKED: *journal is NULL. */
+/* Copies the entries after the first `archived`, and counts those first ones as archived from now on. PQ_OK; PQ_BAD_OPTION: the journal has fewer
+   entries than that; PQ_FORGOTTEN, PQ_NO_MEMORY, PQ_TIMED_OUT, PQ_NO_MEMBER, PQ_CLOSED, PQ_FORKED: *journal is NULL. */
 PQ_CHECKED pq_code pq_archive(pq_member *member, uint64_t archived, uint64_t until, pq_journal **journal);
 
 /* Waits until a pq_archive of the queue has counted the entry of this number as archived. An archiver passes `archived` on once these entries
@@ -261,7 +263,8 @@ size_t pq_count(const pq_journal *journal, uint64_t *before);
 PQ_CHECKED pq_code pq_read(const pq_journal *journal, size_t index, pq_entry *entry);
 
 /* Writes an entry as a line, and a zero: number, place, serial, request, reply and their CRC-32C, as `7 3 2 push 5 1 pushed 4ebb24e7`. Others have
-   `pop empty`, `remove 7 got 5 1`; a peek `least least 5 1`; a reschedule `move 7 9 got 5 1`, with ticket and priority. Returns the length. */
+   `pop empty`, `remove 7 got 5 1`; a peek `least least 5 1`; a reschedule `move 7 9 got 5 1`, with ticket and priority; a shut `shut` alone.
+   Returns the length. */
 #define PQ_TEXT_ROOM 160
 size_t pq_text(const pq_entry *entry, char text[PQ_TEXT_ROOM]);
 

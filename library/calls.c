@@ -6,8 +6,6 @@
  */
 #include "inside.h"
 
-#include <sched.h>
-
 /*
  * The proved calls, with what follows each of them. The thread that carries a push out wakes threads that wait for its item.
  */
@@ -47,9 +45,8 @@ enum { POSTS_NOTHING, POSTS };
 /* Carries the request out where the lock is free, and does not look at what comes of it. */
 INLINE pq_code step_call_once(uint32_t request, uint32_t posts, call *it) {
     const pq_item item = item_of(request, it);
-    pq_code code = pq_core_step_call(&it->member->proved, request, item.priority, item.value, posts, &it->answer);
-    flatpq_pace.calls++;
-    return code;
+    pq_code code = flatpq_before(it->member);
+    return !LIKELY(code == PQ_OK) ? code : pq_core_step_call(&it->member->proved, request, item.priority, item.value, posts, &it->answer);
 }
 
 static pq_code step_call(uint32_t request, uint32_t posts, call *it) {
@@ -80,18 +77,6 @@ static pq_code step_answer(pq_member *it, core_answer *answer) {
     return code;
 }
 
-INLINE pq_code try_take(pq_member *it, uint64_t priority, core_answer *answer) {
-    pq_code code = LEAVE_OUT(pq_core_try_pop_or_look(&it->proved, 1, priority, answer));
-    flatpq_pace.calls++;
-    return code;
-}
-
-INLINE pq_code try_step(pq_member *it, uint64_t priority, core_answer *answer) {
-    pq_code code = LEAVE_OUT(pq_core_step_take(&it->proved, priority, answer));
-    flatpq_pace.calls++;
-    return code;
-}
-
 /*
  * Push, pop and peek.
  */
@@ -108,24 +93,30 @@ static pq_code wait_for_answer(pq_member *it, rest *resting, core_answer *answer
     }
 }
 
-static pq_code try_until(uint32_t request, call *it) {
-    rest resting = flatpq_rest_of(it->member->queue, it->until);
-    pq_code code = LOCK_HELD;
-    while (code == LOCK_HELD && flatpq_rests(&resting)) {
-        code = try_call(request, it);
-    }
-    flatpq_rested(&resting);
-    return code == LOCK_HELD ? PQ_TIMED_OUT : code;
+typedef struct trying {
+    uint32_t request;
+    call *it;
+} trying;
+
+static pq_code try_again(void *asked) {
+    const trying *again = asked;
+    return try_call(again->request, again->it);
 }
 
+static pq_code try_until(uint32_t request, call *it) {
+    trying again = { request, it };
+    return flatpq_try_again(try_again, &again, it->member->queue, it->until);
+}
+
+/* Nothing is posted while a shut waits to be carried out. */
 static pq_code try_and_post(uint32_t request, call *it) {
     rest resting = flatpq_rest_of(it->member->queue, PQ_FOREVER);
     pq_code code = LOCK_HELD;
     while (code == LOCK_HELD && resting.now < resting.posts && flatpq_spins(&resting)) {
         code = try_call(request, it);
     }
-    if (code == LOCK_HELD) {
-        code = step_call(request, POSTS, it);
+    while (code == LOCK_HELD && (code = step_call(request, POSTS, it)) == LOCK_HELD) {
+        flatpq_rests(&resting);
     }
     if (code == HAS_POSTED) {
         code = wait_for_answer(it->member, &resting, &it->answer);
@@ -139,6 +130,12 @@ static pq_code ask_again(uint32_t request, call *it) {
     return it->until == PQ_FOREVER ? try_and_post(request, it) : try_until(request, it);
 }
 
+pq_code flatpq_refusal(uint32_t kind) {
+    static const uint8_t codes[] = { [KIND_JOURNAL_FULL] = PQ_JOURNAL_FULL, [KIND_NO_MEMORY] = PQ_NO_MEMORY, [KIND_SHUT] = PQ_SHUT,
+        [KIND_UNARCHIVED] = PQ_UNARCHIVED, [KIND_FULL] = PQ_FULL };
+    return (pq_code)codes[kind];
+}
+
 /* What an answer comes to that has no item. */
 static pq_code result_of(const core_answer *answer, uint64_t *number) {
     if ((answer->kind == KIND_PUSHED || answer->kind == KIND_EMPTY) && number != NULL) {
@@ -150,7 +147,7 @@ static pq_code result_of(const core_answer *answer, uint64_t *number) {
     case KIND_EMPTY:
         return PQ_EMPTY;
     default:
-        return answer->kind == KIND_NO_MEMORY ? PQ_NO_MEMORY : PQ_JOURNAL_FULL;
+        return flatpq_refusal(answer->kind);
     }
 }
 
@@ -166,8 +163,11 @@ INLINE pq_code result(const core_answer *answer, pq_item *item, uint64_t *number
     return PQ_OK;
 }
 
-/* Ends a call that has its answer, or this code instead. */
-static pq_code end(const call *it, own *mine, pq_code code) {
+/* Ends a call that has its answer, or this code instead. A push that found the queue full waits for room first. */
+static pq_code end(call *it, own *mine, pq_code code) {
+    if (code == PQ_OK && it->answer.kind == KIND_FULL && it->until != PQ_NOW) {
+        code = flatpq_push_to_room(it->member, it->item, it->until, &it->answer);
+    }
     flatpq_end(mine);
     return code == PQ_OK ? result(&it->answer, it->first, it->number) : code;
 }
@@ -182,18 +182,11 @@ static COLD pq_code go_on(uint32_t request, pq_code code, call *it, own *mine) {
     return end(it, mine, code);
 }
 
-static pq_code push_within(call *it, own *mine) {
-    return end(it, mine, flatpq_push_within(it->member, it->item, it->until, &it->answer));
-}
-
 /* Makes any call. */
 static COLD pq_code ask_fully(uint32_t request, call *it) {
     pq_code code = flatpq_begin(&it->member, it->until, &it->mine);
     if (code != PQ_OK) {
         return code;
-    }
-    if (request == PQ_PUSH && it->member->is_bounded) {
-        return push_within(it, it->mine);
     }
     code = try_call(request, it);
     return end(it, it->mine, code == LOCK_HELD ? ask_again(request, it) : code);
@@ -217,11 +210,6 @@ INLINE pq_code returned(uint32_t request, const call *it) {
     return PQ_OK;
 }
 
-/* Whether a call by this member needs neither the thread's record nor a look for room. */
-INLINE int is_plain(uint32_t request, const pq_member *member) {
-    return request == PQ_PUSH ? !member->is_shared && !member->is_bounded : !member->is_shared;
-}
-
 INLINE pq_code ask_by_own(uint32_t request, call *it) {
     own *last = flatpq_thread.last;
     pq_code code;
@@ -230,9 +218,6 @@ INLINE pq_code ask_by_own(uint32_t request, call *it) {
     }
     it->mine = last;
     it->member = last->member;
-    if (request == PQ_PUSH && !LIKELY(!it->member->is_bounded)) {
-        return push_within(it, last);
-    }
     code = step_call_once(request, POSTS_NOTHING, it);
     if (!is_done(request, code, it)) {
         return go_on(request, code, it, it->mine);
@@ -241,18 +226,26 @@ INLINE pq_code ask_by_own(uint32_t request, call *it) {
     return returned(request, it);
 }
 
-/* Makes a call as most are: nothing is special, the member is joined, or is the one that the thread used last, the queue has no bound, and the lock
-   is free. What the call needs later lies in memory meanwhile, and in no register, which it would have to save. */
+/* Makes a call as most are: nothing is special, the member is joined, or is the one that the thread used last, and the lock is free. What the call
+   needs later lies in memory meanwhile, and in no register, which it would have to save. */
 INLINE pq_code ask(uint32_t request, call *it) {
     pq_code code;
     if (!LIKELY(flatpq_special == 0) || !LIKELY(it->member != NULL)) {
         return ask_fully(request, it);
     }
-    if (!LIKELY(is_plain(request, it->member))) {
-        return request == PQ_PUSH && !it->member->is_shared ? push_within(it, NULL) : ask_by_own(request, it);
+    if (!LIKELY(!it->member->is_shared)) {
+        return ask_by_own(request, it);
     }
     code = step_call_once(request, POSTS_NOTHING, it);
     return is_done(request, code, it) ? returned(request, it) : go_on(request, code, it, NULL);
+}
+
+pq_code flatpq_push(pq_member *member, pq_item item, uint64_t until, core_answer *answer) {
+    call it = { .member = member, .item = item, .until = until };
+    pq_code code = try_call(PQ_PUSH, &it);
+    code = code == LOCK_HELD ? ask_again(PQ_PUSH, &it) : code;
+    *answer = it.answer;
+    return code == PQ_OK ? result_of(answer, NULL) : code;
 }
 
 pq_code pq_push(pq_member *member, pq_item item, uint64_t until, uint64_t *number) {
@@ -287,7 +280,7 @@ pq_code pq_peek(pq_member *member, pq_item *item, uint64_t until, uint64_t *numb
 
 INLINE pq_code taken(pq_member *it, pq_code code, const core_answer *answer) {
     if (!LIKELY(code == PQ_OK)) {
-        return code == LOCK_HELD ? PQ_TIMED_OUT : code;
+        return code;
     }
     watch_answer(answer);
     flatpq_carried_out(it, answer);
@@ -296,8 +289,10 @@ INLINE pq_code taken(pq_member *it, pq_code code, const core_answer *answer) {
         return PQ_OK;
     case KIND_FIRST:
         return PQ_NOT_DUE;
+    case KIND_EMPTY:
+        return PQ_EMPTY;
     default:
-        return answer->kind == KIND_EMPTY ? PQ_EMPTY : PQ_JOURNAL_FULL;
+        return flatpq_refusal(answer->kind);
     }
 }
 
@@ -305,47 +300,32 @@ pq_code flatpq_looked(pq_member *it, const core_answer *answer) {
     return taken(it, PQ_OK, answer);
 }
 
-typedef pq_code attempt(pq_member *member, uint64_t priority, core_answer *answer);
+typedef struct taking {
+    pq_member *member;
+    uint64_t priority;
+    core_answer *answer;
+} taking;
 
-INLINE pq_code take_by(attempt *tries, pq_member *it, uint64_t priority, uint64_t until, core_answer *answer) {
-    pq_code code = tries(it, priority, answer);
-    if (!LIKELY(code != LOCK_HELD)) {
-        rest resting = flatpq_rest_of(it->queue, until);
-        while (code == LOCK_HELD && flatpq_rests(&resting)) {
-            code = tries(it, priority, answer);
-        }
-        flatpq_rested(&resting);
-    }
-    return taken(it, code, answer);
+static pq_code try_take(void *asked) {
+    const taking *it = asked;
+    pq_code code = flatpq_before(it->member);
+    return code != PQ_OK ? code : LEAVE_OUT(pq_core_try_pop_or_look(&it->member->proved, 1, it->priority, it->answer));
 }
 
-/* Does not wait: it tries the lock some times, and now and then yields its processor to the thread that has the lock. */
-INLINE pq_code take_at_once_by(attempt *tries, pq_member *it, uint64_t priority, core_answer *answer) {
-    const int most = 64, until_yield = 8;
-    pq_code code = tries(it, priority, answer);
-    for (int tried = 1; code == LOCK_HELD && tried < most; tried++) {
-        if (tried % until_yield == 0) {
-            sched_yield();
-        }
-        code = tries(it, priority, answer);
-    }
-    return taken(it, code, answer);
+static pq_code try_step(void *asked) {
+    const taking *it = asked;
+    pq_code code = flatpq_before(it->member);
+    return code != PQ_OK ? code : LEAVE_OUT(pq_core_step_take(&it->member->proved, it->priority, it->answer));
 }
 
-pq_code flatpq_take_first(pq_member *it, uint64_t priority, uint64_t until, core_answer *answer) {
-    return take_by(try_take, it, priority, until, answer);
+pq_code flatpq_take_first(pq_member *member, uint64_t priority, uint64_t until, core_answer *answer) {
+    taking it = { member, priority, answer };
+    return taken(member, flatpq_try(try_take, &it, member->queue, until), answer);
 }
 
-pq_code flatpq_take_first_at_once(pq_member *it, uint64_t priority, core_answer *answer) {
-    return take_at_once_by(try_take, it, priority, answer);
-}
-
-pq_code flatpq_step_take(pq_member *it, uint64_t priority, uint64_t until, core_answer *answer) {
-    return take_by(try_step, it, priority, until, answer);
-}
-
-pq_code flatpq_step_take_at_once(pq_member *it, uint64_t priority, core_answer *answer) {
-    return take_at_once_by(try_step, it, priority, answer);
+pq_code flatpq_step_take(pq_member *member, uint64_t priority, uint64_t until, core_answer *answer) {
+    taking it = { member, priority, answer };
+    return taken(member, flatpq_try(try_step, &it, member->queue, until), answer);
 }
 
 void flatpq_return_first(pq_code code, const core_answer *answer, pq_item *item, uint64_t *number) {
@@ -358,11 +338,11 @@ void flatpq_return_first(pq_code code, const core_answer *answer, pq_item *item,
 }
 
 pq_code pq_pop_due(pq_member *it, uint64_t priority, pq_item *item, uint64_t until, uint64_t *number) {
-    core_answer answer;
+    core_answer answer = { KIND_EMPTY, 0, 0, { 0, 0 } };
     own *mine;
     pq_code code = flatpq_begin(&it, until, &mine);
     if (LIKELY(code == PQ_OK)) {
-        code = flatpq_take_first(it, priority, until, &answer);
+        code = flatpq_polled(flatpq_take_first(it, priority, until, &answer));
         flatpq_end(mine);
         flatpq_return_first(code, &answer, item, number);
     }
@@ -375,33 +355,33 @@ pq_code pq_pop_due(pq_member *it, uint64_t priority, pq_item *item, uint64_t unt
 
 pq_code flatpq_count(pq_member *it, uint64_t *count, uint64_t *peak, uint32_t *owes_wake) {
     uint64_t unasked = 0;
-    flatpq_pace.calls++;
     return LEAVE_OUT(pq_core_try_count(&it->proved, count, peak != NULL ? peak : &unasked, owes_wake));
 }
 
-static pq_code size_of(pq_member *it, uint64_t until, uint64_t *size, uint64_t *peak) {
-    core_answer answer = { KIND_FIRST, 0, 0, { 0, 0 } };
-    pq_code code = flatpq_count(it, size, peak, &answer.owes_wake);
-    if (!LIKELY(code != LOCK_HELD)) {
-        rest resting = flatpq_rest_of(it->queue, until);
-        while (code == LOCK_HELD && flatpq_rests(&resting)) {
-            code = flatpq_count(it, size, peak, &answer.owes_wake);
-        }
-        flatpq_rested(&resting);
-    }
-    if (LIKELY(code == PQ_OK)) {
-        answer.kind = *size == 0 ? KIND_EMPTY : KIND_FIRST;
-        flatpq_carried_out(it, &answer);
-    }
-    return code == LOCK_HELD ? PQ_TIMED_OUT : code;
+typedef struct sizing {
+    pq_member *member;
+    uint64_t *size, *peak;
+    core_answer answer;
+} sizing;
+
+/* A count is made where a shut has to wait for the archive. */
+static pq_code try_size(void *asked) {
+    sizing *it = asked;
+    return flatpq_before(it->member) == LOCK_HELD ? LOCK_HELD : flatpq_count(it->member, it->size, it->peak, &it->answer.owes_wake);
 }
 
-pq_code pq_size(pq_member *it, uint64_t until, uint64_t *size, uint64_t *peak) {
+pq_code pq_size(pq_member *member, uint64_t until, uint64_t *size, uint64_t *peak) {
+    sizing it = { member, size, peak, { KIND_FIRST, 0, 0, { 0, 0 } } };
     own *mine;
-    pq_code code = flatpq_begin(&it, until, &mine);
-    if (LIKELY(code == PQ_OK)) {
-        code = size_of(it, until, size, peak);
-        flatpq_end(mine);
+    pq_code code = flatpq_begin(&it.member, until, &mine);
+    if (!LIKELY(code == PQ_OK)) {
+        return code;
     }
+    code = flatpq_try(try_size, &it, it.member->queue, until);
+    if (LIKELY(code == PQ_OK)) {
+        it.answer.kind = *size == 0 ? KIND_EMPTY : KIND_FIRST;
+        flatpq_carried_out(it.member, &it.answer);
+    }
+    flatpq_end(mine);
     return code;
 }

@@ -16,7 +16,7 @@ typedef struct core_inside *core;
 #define HAS_POSTED ((pq_code)14)
 #define NOT_ANSWERED ((pq_code)43)
 
-enum { KIND_PUSHED, KIND_POPPED, KIND_FIRST, KIND_EMPTY, KIND_JOURNAL_FULL, KIND_NO_MEMORY };
+enum { KIND_PUSHED, KIND_POPPED, KIND_FIRST, KIND_EMPTY, KIND_JOURNAL_FULL, KIND_NO_MEMORY, KIND_SHUT, KIND_UNARCHIVED, KIND_FULL };
 
 /* The answer to a request: its journal entry, 0 where it has none, and the item of KIND_POPPED and KIND_FIRST. */
 typedef struct core_answer {
@@ -45,24 +45,23 @@ typedef struct core_batch {
     uint32_t owes_wake;
 } core_batch;
 
-/* A batch of pops, and what a look finds after it: KIND_FIRST, KIND_EMPTY or KIND_JOURNAL_FULL. */
+/* A batch of pops, and what a look finds after it: KIND_FIRST, KIND_EMPTY, KIND_SHUT (the queue is empty too) or KIND_JOURNAL_FULL. */
 typedef struct core_popped {
     core_batch batch;
     core_answer next;
 } core_popped;
 
-/* What refuses a request of a batch. */
-enum { REFUSED_NO_MEMORY = 9, REFUSED_JOURNAL_FULL = 10, REFUSED_EXHAUSTED = 11 };
+/* What refuses a request of a batch: this, or a code. */
+enum { REFUSED_NO_MEMORY = 9 };
 
 _Static_assert(sizeof(core_answer) == 32 && sizeof(core_line) == 64 && sizeof(core_batch) == 24 && sizeof(core_popped) == 56 &&
                    sizeof(pq_code) == 4,
                "the layouts of the proved calls");
 
 /* Queues. `number` stands for the queue in each of its members. */
-pq_code pq_core_open(uint32_t threads, uint32_t keeping, uint32_t entries, uint32_t tickets, core *queue);
+pq_code pq_core_open(uint32_t threads, uint32_t keeping, uint32_t entries, uint64_t most, uint32_t tickets, core *queue);
 pq_code pq_core_join(core *queue, core *member, uint64_t number);
 pq_code pq_core_give_back(core *queue, core *member, uint64_t number);
-pq_code pq_core_shut(core *queue);
 pq_code pq_core_close(core *queue, core *journal);
 
 /* Members. */
@@ -72,8 +71,8 @@ pq_code pq_core_step_answer(core *member, core_answer *answer);
 pq_code pq_core_try_pop_or_look(core *member, uint32_t takes, uint64_t priority, core_answer *answer);
 pq_code pq_core_try_remove(core *member, uint64_t ticket, core_answer *answer);
 pq_code pq_core_try_reschedule(core *member, uint64_t ticket, uint64_t priority, core_answer *answer);
+pq_code pq_core_try_shut(core *member, core_answer *answer);
 pq_code pq_core_try_count(core *member, uint64_t *count, uint64_t *peak, uint32_t *owes_wake);
-pq_code pq_core_try_push_within(core *member, uint64_t most, uint64_t priority, uint64_t value, core_answer *answer);
 pq_code pq_core_try_push_many(core *member, const pq_item *items, size_t count, core_batch *batch);
 pq_code pq_core_try_pop_many(core *member, uint64_t bound, pq_item *items, size_t room, core_popped *popped);
 pq_code pq_core_archive(core *member, uint64_t archived, core *journal);

@@ -37,14 +37,13 @@ typedef struct waiters {
 struct pq_member {
     core proved;
     pq_queue *queue;
-    uint32_t is_shared : 1;  /* it is the one inside a queue */
-    uint32_t is_bounded : 1; /* it is another, and the queue has a bound: one test finds either */
+    uint32_t is_shared : 1; /* it is the one inside a queue */
     uint32_t has_tickets : 1;
     uint32_t listens;      /* its thread keeps it between calls */
     uint32_t place;
     uint32_t has_left;     /* its last take_or_listen that looked found an item */
     uint32_t concern;      /* it listens, and is counted so in `concerned`: for what is left in a shut queue, or for room */
-    uint32_t looks;        /* it listens, and its call still looks: that call does not notify it */
+    uint32_t looks;        /* LOOKS, LOOKS_FOR_ROOM: it listens, and its call still looks: that call does not notify it */
     uint32_t sleeps_as;    /* it listens, and is counted so in `sleepers` */
     pq_member *next;       /* of those that are in no use */
     waiter waits;
@@ -80,10 +79,9 @@ struct pq_queue {
     core proved;
     uint64_t time_zero, time_unit;
     uint64_t most_items; /* 0: as many as there are */
-    uint32_t fills;      /* its journal does, and is then full for good */
     uint32_t concerned;  /* whom it concerns that an item was taken: DRAIN of each that waits for what is left in a shut queue, and PRODUCER of
                             each that waits, or listens, for room */
-    uint32_t is_shut;    /* SHUTS: a shut goes on; IS_SHUT */
+    uint32_t is_shut;    /* SHUT_WAITS, IS_SHUT (shutting.c) */
     uint32_t members; /* how many there may be */
     const pthread_mutex_t *lock; /* of members: that of the copy of the library which opened the queue */
 
@@ -124,7 +122,8 @@ struct pq_queue {
     uint32_t archives;                              /* how often that rose: threads sleep at it */
 };
 
-enum { SHUTS = 1, IS_SHUT = 2 };
+enum { SHUT_WAITS = 1, IS_SHUT = 2 };
+enum { LOOKS = 1, LOOKS_FOR_ROOM = 2 };
 enum { DRAIN = 1, PRODUCER = 1 << 16 };
 enum { OWN_SLEEPS = 1, JOINED_SLEEPS = 1 << 8, IS_JOINED = 1 << 16 };
 enum { NONE_SAID = 0, SAID = 1, HEARD = 2 };
@@ -270,24 +269,50 @@ typedef struct rest {
     const pq_queue *queue;
     uint64_t until;
     uint64_t now, posts, ends; /* the time that it last read; until when it only tries the lock; until when it spins, 0: it spins no more */
-    uint32_t pauses;
+    uint32_t pauses, tries;
 } rest;
 HIDDEN rest flatpq_rest_of(const pq_queue *queue, uint64_t until);
 HIDDEN int flatpq_spins(rest *it); /* pauses: 0 where the spin is over */
 HIDDEN int flatpq_rests(rest *it); /* pauses or naps: 0 where the time has come */
 HIDDEN void flatpq_rested(const rest *it);
 
+/* The deadline of a call that does not wait: it tries some times, and now and then yields its processor to the thread that has the lock. */
+#define AT_ONCE 1u
+
+/* Tries until the lock is free, or until then: PQ_TIMED_OUT. */
+typedef pq_code attempt(void *asked);
+HIDDEN pq_code flatpq_try_again(attempt *tries, void *asked, const pq_queue *queue, uint64_t until);
+INLINE pq_code flatpq_try(attempt *tries, void *asked, const pq_queue *queue, uint64_t until) {
+    pq_code code = tries(asked);
+    return LIKELY(code != LOCK_HELD) ? code : flatpq_try_again(tries, asked, queue, until);
+}
+
+/*
+ * shutting.c
+ */
+HIDDEN pq_code flatpq_shut_first(pq_member *member);
+HIDDEN void flatpq_end_shut(pq_queue *queue);
+
+/* Before each try of a request: where a shut waits it comes first. LOCK_HELD, PQ_UNARCHIVED: it still waits, and so does the request. */
+INLINE pq_code flatpq_before(pq_member *member) {
+    flatpq_pace.calls++;
+    return LIKELY(__atomic_load_n(&member->queue->is_shut, __ATOMIC_RELAXED) != SHUT_WAITS) ? PQ_OK : flatpq_shut_first(member);
+}
+
 /*
  * calls.c: requests.
  */
+HIDDEN pq_code flatpq_push(pq_member *member, pq_item item, uint64_t until, core_answer *answer); /* it does not wait for room */
 HIDDEN pq_code flatpq_take_first(pq_member *member, uint64_t priority, uint64_t until, core_answer *answer);
-HIDDEN pq_code flatpq_take_first_at_once(pq_member *member, uint64_t priority, core_answer *answer);
-/* The same by a step of a take that waits, which announces the member before it looks. PQ_SHUT: no item is left, and none comes. */
+/* The same by a step of a take that waits, which announces the member before it looks. */
 HIDDEN pq_code flatpq_step_take(pq_member *member, uint64_t priority, uint64_t until, core_answer *answer);
-HIDDEN pq_code flatpq_step_take_at_once(pq_member *member, uint64_t priority, core_answer *answer);
 HIDDEN pq_code flatpq_count(pq_member *member, uint64_t *count, uint64_t *peak, uint32_t *owes_wake); /* tries once; peak may be NULL */
+HIDDEN pq_code flatpq_refusal(uint32_t kind); /* what an answer of this kind comes to, which refuses the request */
 HIDDEN pq_code flatpq_looked(pq_member *member, const core_answer *answer); /* what such a look comes to that was so answered */
 HIDDEN void flatpq_return_first(pq_code code, const core_answer *answer, pq_item *item, uint64_t *number);
+INLINE pq_code flatpq_polled(pq_code code) { /* what such a look comes to in a call that waits for no item: it doesn't return the end */
+    return code == PQ_SHUT ? PQ_EMPTY : code;
+}
 
 /*
  * waking.c: members that wait for an item are woken.
@@ -357,14 +382,9 @@ HIDDEN int flatpq_end_wait(pq_member *member);
 HIDDEN int flatpq_unlisten(pq_member *member);
 
 /*
- * bounded.c: pushes to a queue with a bound.
+ * bounded.c: pushes that found the queue full wait for room.
  */
-#define KIND_FULL 6  /* the kind of an answer where a push found the queue full */
-#define KIND_MOVED 7 /* that of a move which found its item (removing.c) */
-#define KIND_GONE 8  /* that of a removal or a move which found none */
-HIDDEN pq_code flatpq_push_within(pq_member *member, pq_item item, uint64_t until, core_answer *answer);
-/* Tries some times, also where there is no bound, and wakes nobody for room. PQ_TIMED_OUT: another thread had the lock. */
-HIDDEN pq_code flatpq_push_at_once(pq_member *member, pq_item item, core_answer *answer);
+HIDDEN pq_code flatpq_push_to_room(pq_member *member, pq_item item, uint64_t until, core_answer *answer);
 
 /*
  * durable.c: threads wait until an entry is archived.

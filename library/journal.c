@@ -25,37 +25,42 @@ void flatpq_fill_journal(pq_journal *made, core proved) {
     (void)pq_core_lines_before(&made->proved, &made->before);
 }
 
+typedef struct archiving {
+    pq_member *member;
+    uint64_t archived;
+    core copied;
+} archiving;
+
 /* Copies entries. No other thread does it for this one, so it tries the lock often before it rests. */
-static pq_code archive(pq_member *it, uint64_t archived, uint64_t until, core *copied) {
+static pq_code try_archive(void *asked) {
     const int tries = 64;
-    pq_code code = LEAVE_OUT(pq_core_archive(&it->proved, archived, copied));
-    if (code == LOCK_HELD) {
-        rest resting = flatpq_rest_of(it->queue, until);
-        for (int tried = 1; code == LOCK_HELD && (tried % tries != 0 || flatpq_rests(&resting)); tried++) {
-            code = LEAVE_OUT(pq_core_archive(&it->proved, archived, copied));
+    archiving *it = asked;
+    pq_code code = LOCK_HELD;
+    for (int tried = 0; code == LOCK_HELD && tried < tries; tried++) {
+        if (flatpq_before(it->member) != LOCK_HELD) {
+            code = LEAVE_OUT(pq_core_archive(&it->member->proved, it->archived, &it->copied));
         }
-        flatpq_rested(&resting);
     }
-    return code == LOCK_HELD ? PQ_TIMED_OUT : code;
+    return code;
 }
 
-pq_code pq_archive(pq_member *it, uint64_t archived, uint64_t until, pq_journal **journal) {
-    core copied = NULL;
+pq_code pq_archive(pq_member *member, uint64_t archived, uint64_t until, pq_journal **journal) {
+    archiving it = { member, archived, NULL };
     own *mine;
     pq_journal *made;
-    pq_code code = flatpq_begin(&it, until, &mine);
+    pq_code code = flatpq_begin(&it.member, until, &mine);
     *journal = NULL;
     if (code != PQ_OK) {
         return code;
     }
     made = flatpq_new_journal();
-    code = made != NULL ? archive(it, archived, until, &copied) : PQ_NO_MEMORY;
+    code = made != NULL ? flatpq_try(try_archive, &it, it.member->queue, until) : PQ_NO_MEMORY;
     if (code == PQ_OK) {
-        flatpq_count_archived(it->queue, archived);
+        flatpq_count_archived(it.member->queue, archived);
     }
     flatpq_end(mine);
     if (code == PQ_OK) {
-        flatpq_fill_journal(made, copied);
+        flatpq_fill_journal(made, it.copied);
         *journal = made;
     } else {
         free(made);
@@ -129,12 +134,17 @@ static char *put_request(char *at, const pq_entry *entry) {
         return put_word(at, " least");
     case PQ_REMOVE:
         return put_number(put_word(at, " remove "), entry->ticket);
+    case PQ_SHUTS:
+        return put_word(at, " shut");
     default:
         return put_item(put_word(at, " move"), move);
     }
 }
 
 static char *put_reply(char *at, const pq_entry *entry) {
+    if (entry->request == PQ_SHUTS) {
+        return at;
+    }
     if (entry->request == PQ_PUSH) {
         return put_word(at, " pushed");
     }
@@ -237,7 +247,7 @@ void pq_journal_free(pq_journal *journal) {
 /* By the codes. */
 static const char *const texts[] = {
     [PQ_OK] = "done",
-    [PQ_BAD_OPTION] = "an option is out of its range",
+    [PQ_BAD_OPTION] = "an option or a number of entries is out of its range",
     [PQ_NO_MEMORY] = "memory was refused",
     [PQ_JOURNAL_FULL] = "the journal is full",
     [PQ_EXHAUSTED] = "the member has made all its requests",

@@ -54,17 +54,19 @@ static int end_listening(pq_member *member) {
     return was_notified;
 }
 
-/* Looks, while the member is in its list. At a queue that is shut, and empty, a push is being posted: it is to look again soon. */
+/* Looks, while the member is in its list. */
 static pq_code look(wait *it, uint64_t priority) {
     pq_member *member = it->member;
     pq_code code;
     flatpq_begin_wait(it);
     count_concerned(member, it->is_shut ? DRAIN : 0);
-    code = flatpq_step_take_at_once(member, priority, it->answer);
+    member->looks = LOOKS;
+    code = flatpq_step_take(member, priority, AT_ONCE, it->answer);
+    member->looks = 0;
     if (code == PQ_NOT_DUE) {
         flatpq_call(member->queue, &member->queue->staying);
     }
-    return code == PQ_EMPTY && it->is_shut ? PQ_TIMED_OUT : code;
+    return code;
 }
 
 /* Has the member listen in this list, where it is to be put yet. 0: it is the last that is awake, and does not listen. */
@@ -91,9 +93,7 @@ static pq_code listen(wait *it, waiters *list, uint64_t priority, void (*notify)
     __atomic_fetch_add(&member->queue->alarm_count, list == &member->queue->alarms, SEQ);
     member->waits.priority = priority;
     member->waits.armed = PQ_FOREVER;
-    member->looks = 1;
     code = look(it, priority);
-    member->looks = 0;
     if (code != PQ_EMPTY && code != PQ_NOT_DUE) {
         it->is_notified = it->was_woken = end_listening(member);
     }
@@ -112,7 +112,7 @@ static int end_listening_in(pq_member *member, const waiters *list) {
 static pq_code take_or_listen(wait *it, uint64_t priority, void (*notify)(void *context), void *context) {
     pq_member *member = it->member;
     int passes_on = end_listening_in(member, &member->queue->listeners), leaves_one = 0;
-    pq_code code = flatpq_take_first_at_once(member, priority, it->answer);
+    pq_code code = flatpq_take_first(member, priority, AT_ONCE, it->answer);
     it->was_woken = passes_on;
     if (code == PQ_EMPTY || code == PQ_NOT_DUE) {
         leaves_one = passes_on && code == PQ_NOT_DUE;
@@ -142,7 +142,7 @@ static void notify_itself(const wait *it, void (*notify)(void *context), void *c
 
 pq_code pq_take_or_listen(pq_member *member, uint64_t priority, pq_item *item, uint64_t *number, void (*notify)(void *context), void *context) {
     core_answer answer;
-    wait it = { member, PQ_NOW, &answer, 0, 0, 0, 0, 0, 0, 0, 0, NULL, 0, 0 };
+    wait it = { .member = member, .until = PQ_NOW, .answer = &answer };
     pq_code code = flatpq_begin(&it.member, PQ_NOW, &it.mine);
     if (code != PQ_OK) {
         return code;
@@ -174,7 +174,9 @@ static pq_code listen_for_room(wait *it, pq_item pushed, void (*notify)(void *co
     __atomic_store_n(&member->waits.word, ASLEEP, SEQ);
     flatpq_put(&member->waits);
     flatpq_unlock_lists(queue);
-    code = flatpq_push_at_once(member, pushed, it->answer);
+    member->looks = LOOKS_FOR_ROOM;
+    code = flatpq_push(member, pushed, AT_ONCE, it->answer);
+    member->looks = 0;
     if (code != PQ_FULL) {
         it->is_notified = it->was_woken = end_listening(member);
     }
@@ -184,7 +186,7 @@ static pq_code listen_for_room(wait *it, pq_item pushed, void (*notify)(void *co
 static pq_code push_or_listen(wait *it, pq_item pushed, void (*notify)(void *context), void *context) {
     pq_member *member = it->member;
     int passes_on = end_listening_in(member, &member->queue->room_listeners);
-    pq_code code = flatpq_push_at_once(member, pushed, it->answer);
+    pq_code code = flatpq_push(member, pushed, AT_ONCE, it->answer);
     if (code == PQ_FULL) {
         passes_on = 0;
         code = listen_for_room(it, pushed, notify, context);
@@ -201,7 +203,7 @@ static pq_code push_or_listen(wait *it, pq_item pushed, void (*notify)(void *con
 
 pq_code pq_push_or_listen(pq_member *member, pq_item item, uint64_t *number, void (*notify)(void *context), void *context) {
     core_answer answer;
-    wait it = { member, PQ_NOW, &answer, 0, 0, 0, 0, 0, 0, 0, 0, NULL, 0, 0 };
+    wait it = { .member = member, .until = PQ_NOW, .answer = &answer };
     pq_code code = flatpq_begin(&it.member, PQ_NOW, &it.mine);
     if (code != PQ_OK) {
         return code;
@@ -257,7 +259,7 @@ static pq_code take_due_or_listen(wait *it, int timer) {
     uint64_t priority = flatpq_due_now(queue);
     pq_code code;
     flatpq_unlisten(member);
-    code = flatpq_take_first_at_once(member, priority, it->answer);
+    code = flatpq_take_first(member, priority, AT_ONCE, it->answer);
     if (code == PQ_EMPTY || code == PQ_NOT_DUE) {
         code = listen(it, &queue->alarms, priority, ring, (void *)(intptr_t)timer);
     }
@@ -276,7 +278,7 @@ static pq_code take_due_or_listen(wait *it, int timer) {
 
 pq_code pq_take_due_or_listen(pq_member *member, int timer, pq_item *item, uint64_t *number) {
     core_answer answer;
-    wait it = { member, PQ_NOW, &answer, 0, 0, 0, 0, 0, 0, 0, 0, NULL, 0, 0 };
+    wait it = { .member = member, .until = PQ_NOW, .answer = &answer };
     pq_code code = flatpq_begin(&it.member, PQ_NOW, &it.mine);
     if (code == PQ_OK) {
         code = take_due_or_listen(&it, timer);

@@ -1,5 +1,5 @@
 /*
- * Queues and their members: opening, joining, giving back, shutting, closing, freeing.
+ * Queues and their members: opening, joining, giving back, closing, freeing.
  *
  * The proved queue's own handle is in one call at a time: under the lock. Nothing waits under it, and the longest that happens there is one
  * round of requests, in a joining.
@@ -51,7 +51,7 @@ pq_code pq_open(const pq_options *options, pq_queue **queue) {
         return PQ_NO_MEMORY;
     }
     memset(made, 0, sizeof *made);
-    code = LEAVE_OUT(pq_core_open(members, asked->keeping, entries_of(asked), asked->tickets, &made->proved));
+    code = LEAVE_OUT(pq_core_open(members, asked->keeping, entries_of(asked), asked->most_items, asked->tickets, &made->proved));
     if (code != PQ_OK) {
         free(made);
         return code;
@@ -59,7 +59,6 @@ pq_code pq_open(const pq_options *options, pq_queue **queue) {
     made->time_zero = asked->time_zero;
     made->time_unit = asked->time_unit != 0 ? asked->time_unit : 1;
     made->most_items = asked->most_items;
-    made->fills = asked->keeping == PQ_FILLS;
     made->members = members;
     made->lock = &flatpq_members;
     made->earliest = PQ_FOREVER;
@@ -129,7 +128,6 @@ static pq_member *new_member(pq_queue *queue) {
     }
     memset(made, 0, sizeof *made);
     made->queue = queue;
-    made->is_bounded = queue->most_items != 0;
     made->has_tickets = queue->own.has_tickets;
     return made;
 }
@@ -307,48 +305,6 @@ void pq_give_back(pq_member *member) {
 }
 
 /* Under the lock. */
-static pq_code shut_proved(pq_queue *queue) {
-    pq_code code;
-    if (queue->is_closed) {
-        return PQ_CLOSED;
-    }
-    if (queue->is_shut == IS_SHUT) {
-        return PQ_OK;
-    }
-    __atomic_store_n(&queue->is_shut, SHUTS, SEQ);
-    code = pq_core_shut(&queue->proved);
-    __atomic_store_n(&queue->is_shut, IS_SHUT, SEQ);
-    return code;
-}
-
-pq_code pq_shut(pq_queue *queue) {
-    pq_code code;
-    if (flatpq_special & FORKED) {
-        return PQ_FORKED;
-    }
-    pthread_mutex_lock(&flatpq_members);
-    code = shut_proved(queue);
-    /* A thread that finds the end may free the queue. Its memory stays until this call is done with it. */
-    __atomic_fetch_add(&queue->staying, code == PQ_OK, SEQ);
-    pthread_mutex_unlock(&flatpq_members);
-    if (code == PQ_OK) {
-        flatpq_wake_all(queue, NULL);
-        flatpq_count_staying(queue, UINT32_MAX);
-    }
-    return code;
-}
-
-/* While a shut goes on some pushes are refused by now, and others may not be. So it ends first. */
-int pq_is_shut(pq_queue *queue) {
-    uint32_t seen = flatpq_special & FORKED ? 0 : __atomic_load_n(&queue->is_shut, SEQ);
-    if (seen == SHUTS) {
-        pthread_mutex_lock(&flatpq_members);
-        pthread_mutex_unlock(&flatpq_members);
-    }
-    return seen != 0;
-}
-
-/* Under the lock. */
 static pq_code close_proved(pq_queue *queue, core *journal, int *has_left) {
     pq_code code;
     if (queue->is_closed) {
@@ -381,6 +337,7 @@ pq_code pq_close(pq_queue *queue, pq_journal **journal) {
     if (journal != NULL && (made = flatpq_new_journal()) == NULL) {
         return PQ_NO_MEMORY;
     }
+    flatpq_end_shut(queue);
     pthread_mutex_lock(&flatpq_members);
     code = close_proved(queue, &closed, &has_left);
     has_left &= code == PQ_MEMBERS_LEFT;

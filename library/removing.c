@@ -5,21 +5,25 @@
 
 /* What is done with the item of a ticket: it is removed, or moved to this priority. */
 typedef struct deed {
+    pq_member *member;
     uint64_t ticket;
     uint64_t priority;
     int moves;
+    core_answer answer;
 } deed;
 
-static pq_code try_deed(pq_member *it, const deed *asked, core_answer *answer) {
-    core *proved = &it->proved;
-    pq_code code;
-    if (asked->moves && IS_WATCHED) {
+static pq_code try_deed(void *asked) {
+    deed *it = asked;
+    core *proved = &it->member->proved;
+    pq_code code = flatpq_before(it->member);
+    if (code != PQ_OK) {
+        return code;
+    }
+    if (it->moves && IS_WATCHED) {
         flatpq_tsan_move();
     }
-    code = LEAVE_OUT(asked->moves ? pq_core_try_reschedule(proved, asked->ticket, asked->priority, answer)
-                                  : pq_core_try_remove(proved, asked->ticket, answer));
-    flatpq_pace.calls++;
-    return code;
+    return LEAVE_OUT(it->moves ? pq_core_try_reschedule(proved, it->ticket, it->priority, &it->answer)
+                               : pq_core_try_remove(proved, it->ticket, &it->answer));
 }
 
 /* What an answer comes to. */
@@ -30,64 +34,54 @@ static pq_code result(const core_answer *answer) {
     case KIND_EMPTY:
         return PQ_GONE;
     default:
-        return answer->kind == KIND_NO_MEMORY ? PQ_NO_MEMORY : PQ_JOURNAL_FULL;
+        return flatpq_refusal(answer->kind);
     }
 }
 
-/* Wakes others. Where the item was gone the queue may have items. */
-static void carried_out(pq_member *it, const deed *asked, const core_answer *answer) {
-    core_answer after = *answer;
-    if (answer->kind == KIND_EMPTY) {
-        after.kind = KIND_GONE;
-    } else if (answer->kind == KIND_POPPED && asked->moves) {
-        after.kind = KIND_MOVED;
-    } else if (answer->kind == KIND_POPPED && IS_WATCHED) {
-        flatpq_tsan_pop(answer->item);
+/* Wakes others. A move, and a removal that finds no item, are as a look: the call that took the last item wakes those who wait for the end. */
+static void carried_out(const deed *it) {
+    core_answer after = it->answer;
+    if (after.kind == KIND_EMPTY || (after.kind == KIND_POPPED && it->moves)) {
+        after.kind = KIND_FIRST;
+    } else if (after.kind == KIND_POPPED && IS_WATCHED) {
+        flatpq_tsan_pop(after.item);
     }
-    flatpq_carried_out(it, &after);
+    flatpq_carried_out(it->member, &after);
 }
 
-static pq_code do_until(pq_member *it, const deed *asked, uint64_t until, core_answer *answer) {
-    pq_code code = try_deed(it, asked, answer);
-    if (!LIKELY(code != LOCK_HELD)) {
-        rest resting = flatpq_rest_of(it->queue, until);
-        while (code == LOCK_HELD && flatpq_rests(&resting)) {
-            code = try_deed(it, asked, answer);
-        }
-        flatpq_rested(&resting);
-    }
-    if (code != PQ_OK) {
-        return code == LOCK_HELD ? PQ_TIMED_OUT : code;
-    }
-    carried_out(it, asked, answer);
-    return result(answer);
-}
-
-/* Makes a call by ticket: the item, as it was, where that is asked for. */
-INLINE pq_code by_ticket(pq_member *member, const deed *asked, pq_item *item, uint64_t until, uint64_t *number) {
-    core_answer answer;
-    own *mine;
-    pq_code code = flatpq_begin(&member, until, &mine);
+static pq_code do_until(deed *it, uint64_t until) {
+    pq_code code = flatpq_try(try_deed, it, it->member->queue, until);
     if (code != PQ_OK) {
         return code;
     }
-    code = member->has_tickets ? do_until(member, asked, until, &answer) : PQ_NO_TICKETS;
+    carried_out(it);
+    return result(&it->answer);
+}
+
+/* Makes a call by ticket: the item, as it was, where that is asked for. */
+INLINE pq_code by_ticket(deed *it, pq_item *item, uint64_t until, uint64_t *number) {
+    own *mine;
+    pq_code code = flatpq_begin(&it->member, until, &mine);
+    if (code != PQ_OK) {
+        return code;
+    }
+    code = it->member->has_tickets ? do_until(it, until) : PQ_NO_TICKETS;
     flatpq_end(mine);
     if (code == PQ_OK && item != NULL) {
-        flatpq_copy(item, &answer.item);
+        flatpq_copy(item, &it->answer.item);
     }
     if ((code == PQ_OK || code == PQ_GONE) && number != NULL) {
-        *number = answer.number;
+        *number = it->answer.number;
     }
     return code;
 }
 
 pq_code pq_remove(pq_member *member, uint64_t ticket, pq_item *item, uint64_t until, uint64_t *number) {
-    const deed removal = { ticket, 0, 0 };
-    return by_ticket(member, &removal, item, until, number);
+    deed removal = { .member = member, .ticket = ticket };
+    return by_ticket(&removal, item, until, number);
 }
 
 pq_code pq_reschedule(pq_member *member, uint64_t ticket, uint64_t priority, uint64_t until, uint64_t *number) {
-    const deed move = { ticket, priority, 1 };
-    return by_ticket(member, &move, NULL, until, number);
+    deed move = { .member = member, .ticket = ticket, .priority = priority, .moves = 1 };
+    return by_ticket(&move, NULL, until, number);
 }

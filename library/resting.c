@@ -10,6 +10,8 @@
  */
 #include "inside.h"
 
+#include <sched.h>
+
 /* For how long a call only tries the lock, and for how long it spins in all; how far apart the thread's calls are at least, where it spins. */
 enum { TRIES = 1000, SPINS = 10000, APART = 400 };
 /* How long a nap is: at least, and for each member in use, so that fewer threads wake at a time. */
@@ -30,7 +32,7 @@ static uint64_t apart(pace *it, uint64_t now) {
 
 rest flatpq_rest_of(const pq_queue *queue, uint64_t until) {
     pace *calls = &flatpq_pace;
-    rest made = { queue, until, 0, 0, 0, 1 };
+    rest made = { queue, until, 0, 0, 0, 1, 0 };
     if (!flatpq_may_spin || until == PQ_NOW) {
         return made;
     }
@@ -83,8 +85,17 @@ static int naps(const rest *it) {
     return 1;
 }
 
+/* Counts the tries of a call that does not wait. */
+static int insists(rest *it) {
+    const uint32_t most = 64, until_yield = 8;
+    if (++it->tries % until_yield == 0) {
+        sched_yield();
+    }
+    return it->tries < most;
+}
+
 int flatpq_rests(rest *it) {
-    return flatpq_spins(it) || naps(it);
+    return flatpq_spins(it) || (it->until == AT_ONCE ? insists(it) : naps(it));
 }
 
 void flatpq_rested(const rest *it) {
@@ -94,4 +105,14 @@ void flatpq_rested(const rest *it) {
         calls->calls = 0;
         calls->waited = pq_now();
     }
+}
+
+pq_code flatpq_try_again(attempt *tries, void *asked, const pq_queue *queue, uint64_t until) {
+    rest resting = flatpq_rest_of(queue, until);
+    pq_code code = LOCK_HELD;
+    while (code == LOCK_HELD && flatpq_rests(&resting)) {
+        code = tries(asked);
+    }
+    flatpq_rested(&resting);
+    return code == LOCK_HELD ? PQ_TIMED_OUT : code;
 }

@@ -24,11 +24,10 @@
  * A member that is to be woken is first taken out of its list. It is WAKING until the waking thread is done with it, and waits for that.
  * So notify never runs after a call that ended the listening. No lock is held while notify runs.
  *
- * At a queue that is shut a step that finds no item is the last, unless a push is being posted: then it is made again soon. Those that wait for
- * what will be due there are counted in `concerned`, before they look. A thread that takes an item out, by itself or by another that carries its
- * pop out, reads that count afterwards, and where it is not 0 looks whether the queue is empty. If so it wakes all. One that moves an item, which
- * may be due earlier then, reads the count and wakes all. A member that did not see that the queue is shut was in its list before, and pq_shut
- * wakes it.
+ * At a queue that is shut a look that finds no item left is the last. Those that wait for what will be due there are counted in `concerned`, before
+ * they look. A thread that takes an item out, by itself or by another that carries its pop out, reads that count afterwards, and where it is not 0
+ * looks whether the queue is empty. If so it wakes all. A member that did not see that the queue is shut was in its list before, and pq_shut wakes
+ * it.
  */
 #include "inside.h"
 
@@ -71,7 +70,7 @@ void flatpq_begin_wait(wait *it) {
     flatpq_put(waits);
     flatpq_unlock_lists(queue);
     it->is_listed = 1;
-    it->is_shut = __atomic_load_n(&queue->is_shut, SEQ) == IS_SHUT;
+    it->is_shut = __atomic_load_n(&queue->is_shut, SEQ) != 0;
 }
 
 /* Waits until the thread that wakes this member is done with that: notify has returned then. */
@@ -81,11 +80,6 @@ void flatpq_wait_for_waker(waiter *waits) {
         __atomic_compare_exchange_n(&waits->word, &word, AWAITED, 0, SEQ, SEQ);
         flatpq_sleep(&waits->word, AWAITED, PQ_FOREVER);
     }
-}
-
-static void end_announcing(pq_member *member) {
-    pq_code ended = pq_core_end_take(&member->proved);
-    (void)ended;
 }
 
 int flatpq_end_wait(pq_member *member) {
@@ -99,7 +93,7 @@ int flatpq_end_wait(pq_member *member) {
     was_woken = (int)waits->is_woken;
     flatpq_unlock_lists(queue);
     flatpq_wait_for_waker(waits);
-    end_announcing(member);
+    (void)!pq_core_end_take(&member->proved);
     return was_woken;
 }
 
@@ -120,29 +114,24 @@ static uint64_t bound_of(const wait *it) {
 /* Looks, takes the first item out up to this priority, and settles: by a step where the member is in its list. Where the lock is held until the
    deadline it tries some times more. An item that became due meanwhile is not left: the wait goes on. */
 static pq_code look(wait *it) {
-    pq_member *member = it->member;
+    pq_code (*const takes)(pq_member *, uint64_t, uint64_t, core_answer *) = it->is_listed ? flatpq_step_take : flatpq_take_first;
     uint64_t priority = bound_of(it);
-    pq_code code = it->is_listed ? flatpq_step_take(member, priority, it->until, it->answer) : flatpq_take_first(member, priority, it->until, it->answer);
+    pq_code code = takes(it->member, priority, it->until, it->answer);
     if (code == PQ_TIMED_OUT) {
-        code = it->is_listed ? flatpq_step_take_at_once(member, priority, it->answer) : flatpq_take_first_at_once(member, priority, it->answer);
+        code = takes(it->member, priority, AT_ONCE, it->answer);
     }
     settle(it, code);
     if (it->sleeps_as != 0 && code == PQ_NOT_DUE) {
-        flatpq_call(member->queue, &member->queue->eager);
+        flatpq_call(it->member->queue, &it->member->queue->eager);
     }
-    if (code == PQ_EMPTY || (code == PQ_NOT_DUE && it->answer->item.priority > flatpq_due_now(member->queue))) {
+    if (code == PQ_EMPTY || (code == PQ_NOT_DUE && it->answer->item.priority > flatpq_due_now(it->member->queue))) {
         it->is_over = flatpq_is_late(it->until);
     }
     return code;
 }
 
-/* Sleeps after a step that took nothing. At a queue that is shut, and empty, a push is being posted: it naps. */
-static void sleep_until(wait *it, pq_code code, uint64_t time) {
-    const uint64_t soon = 50000;
-    if (it->is_shut && code == PQ_EMPTY) {
-        flatpq_nap(soon);
-        return;
-    }
+/* Sleeps after a step that took nothing. */
+static void sleep_until(wait *it, uint64_t time) {
     flatpq_sleep(&it->member->waits.word, ASLEEP, time < it->until ? time : it->until);
     it->has_slept = 1;
 }
@@ -207,7 +196,7 @@ static pq_code look_or_sleep(wait *it) {
     flatpq_begin_wait(it);
     code = look(it);
     if (may_sleep(it, code)) {
-        sleep_until(it, code, PQ_FOREVER);
+        sleep_until(it, PQ_FOREVER);
     }
     end_wait(it);
     return code;
@@ -247,7 +236,7 @@ static void watch(wait *it) {
         queue->watched = due;
     }
     flatpq_unlock_lists(queue);
-    sleep_until(it, PQ_NOT_DUE, watches ? due : PQ_FOREVER);
+    sleep_until(it, watches ? due : PQ_FOREVER);
     flatpq_lock_lists(queue);
     if (watches && queue->watched == due) {
         queue->watched = 0;
@@ -255,35 +244,22 @@ static void watch(wait *it) {
     flatpq_unlock_lists(queue);
 }
 
-static pq_code look_or_watch(wait *it) {
-    pq_code code = look(it);
-    if (may_sleep(it, code)) {
-        if (code == PQ_NOT_DUE) {
-            watch(it);
-        } else {
-            sleep_until(it, code, PQ_FOREVER);
-        }
-    }
-    return code;
-}
-
-/* At a queue that is shut: sleeps until the first item is due, or the queue is empty. */
-static pq_code look_last_or_sleep(wait *it) {
-    pq_queue *queue = it->member->queue;
-    pq_code code;
-    __atomic_fetch_add(&queue->concerned, DRAIN, SEQ);
-    code = look(it);
-    if (may_sleep(it, code)) {
-        sleep_until(it, code, flatpq_due_time(queue, it->answer->item.priority));
-    }
-    __atomic_fetch_sub(&queue->concerned, DRAIN, SEQ);
-    return code;
-}
-
 static pq_code due_or_sleep(wait *it) {
+    uint32_t *concerned = &it->member->queue->concerned;
     pq_code code;
     flatpq_begin_wait(it);
-    code = it->is_shut ? look_last_or_sleep(it) : look_or_watch(it);
+    if (it->is_shut) {
+        __atomic_fetch_add(concerned, DRAIN, SEQ);
+    }
+    code = look(it);
+    if (may_sleep(it, code) && code == PQ_NOT_DUE) {
+        watch(it);
+    } else if (may_sleep(it, code)) {
+        sleep_until(it, PQ_FOREVER);
+    }
+    if (it->is_shut) {
+        __atomic_fetch_sub(concerned, DRAIN, SEQ);
+    }
     end_wait(it);
     return code;
 }
@@ -300,17 +276,6 @@ static pq_code take_due(wait *it) {
     return code;
 }
 
-/* Nothing was there until then. At a queue that is shut a step says whether that is the end. Where the lock is held nothing is known. */
-static pq_code see_end(wait *it, pq_code code) {
-    pq_member *member = it->member;
-    if (code != PQ_EMPTY || LIKELY(__atomic_load_n(&member->queue->is_shut, SEQ) == 0)) {
-        return code;
-    }
-    code = flatpq_step_take_at_once(member, bound_of(it), it->answer);
-    end_announcing(member);
-    return code == PQ_TIMED_OUT ? PQ_EMPTY : code;
-}
-
 /* The thread sleeps no more. The queue may be gone after this. */
 static COLD void end_staying(const wait *it, pq_queue *queue) {
     flatpq_count_awake(queue, it->sleeps_as);
@@ -323,7 +288,7 @@ static COLD void end_staying(const wait *it, pq_queue *queue) {
 
 INLINE pq_code wait_by(int is_due, pq_member *member, pq_item *item, uint64_t until, uint64_t *number) {
     core_answer answer;
-    wait it = { member, until, &answer, is_due, 0, 0, 0, 0, 0, 0, 0, NULL, 0, 0 };
+    wait it = { .member = member, .until = until, .answer = &answer, .is_due = is_due };
     pq_code code = flatpq_begin(&it.member, until, &it.mine);
     if (code != PQ_OK) {
         return code;
@@ -331,7 +296,7 @@ INLINE pq_code wait_by(int is_due, pq_member *member, pq_item *item, uint64_t un
     if (it.member->listens) {
         flatpq_unlisten(it.member);
     }
-    code = see_end(&it, is_due ? take_due(&it) : take(&it));
+    code = is_due ? take_due(&it) : take(&it);
     if (it.sleeps_as != 0 || it.stays) {
         end_staying(&it, it.member->queue);
     } else {

@@ -248,12 +248,11 @@ void flatpq_wake_all(pq_queue *queue, waiter *but) {
     unlock_and_wake(queue, found);
 }
 
-/* Whether those that wait for what is left in a shut queue have to look after a call with this answer: it may be empty, or an item was moved,
-   and may be due earlier now. */
+/* Whether those that wait for what is left in a shut queue have to look after a call with this answer: it may be empty. */
 static int concerns_drain(pq_member *member, const core_answer *answer) {
     core_answer first;
     pq_code code;
-    if (answer != NULL && (answer->kind == KIND_EMPTY || answer->kind == KIND_MOVED)) {
+    if (answer != NULL && (answer->kind == KIND_EMPTY || answer->kind == KIND_SHUT)) {
         return 1;
     }
     if (answer != NULL && answer->kind == KIND_FIRST) {
@@ -263,7 +262,7 @@ static int concerns_drain(pq_member *member, const core_answer *answer) {
     if (code == PQ_OK && first.owes_wake) {
         flatpq_wake_owed(member);
     }
-    return code != PQ_OK || first.kind == KIND_EMPTY;
+    return code != PQ_OK || first.kind == KIND_SHUT;
 }
 
 /* Wakes all that wait for what is left in a shut queue, where that concerns them. */
@@ -299,7 +298,7 @@ static int may_have_room(pq_member *member, const core_answer *answer) {
 
 COLD void flatpq_wake_after(pq_member *member, const core_answer *answer) {
     flatpq_wake_owed(member);
-    if (__atomic_load_n(&member->queue->concerned, SEQ) >= PRODUCER && may_have_room(member, answer)) {
+    if (__atomic_load_n(&member->queue->concerned, SEQ) >= PRODUCER && member->looks != LOOKS_FOR_ROOM && may_have_room(member, answer)) {
         flatpq_say_room(member->queue);
     }
     wake_drained(member, answer);

@@ -73,7 +73,7 @@ struct options {
 };
 
 /// What push_many did: how many items it put in, why not the next one, and the number of the first one's journal entry; 0 where it put none in.
-/// Up to 64 items have consecutive entries, unless the queue has a bound, its journal refuses, or memory for a payload was refused.
+/// Up to 64 items have consecutive entries, unless pushes wait for room, or memory for a payload was refused.
 struct [[nodiscard]] pushed_many {
     std::size_t count;
     code error;
@@ -550,7 +550,8 @@ public:
         }
     }
 
-    /// Shuts the queue down for good: each push is refused. Threads that wait for an item take what is left, and then return code::shut.
+    /// Shuts the queue down for good: each push is refused. Threads that wait for an item take what is left, and then return code::shut. It waits
+    /// for nothing.
     code shut() noexcept { return queue_ != nullptr ? static_cast<code>(pq_shut(queue_)) : code::no_member; }
     /// Whether that was done: each push that begins from now on is refused.
     [[nodiscard]] bool is_shut() const noexcept { return queue_ != nullptr && pq_is_shut(queue_) != 0; }

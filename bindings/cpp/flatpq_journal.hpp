@@ -17,8 +17,15 @@
 
 namespace flatpq {
 
-/// What a member asks of the queue.
-enum class request : std::uint32_t { push = PQ_PUSH, pop = PQ_POP, peek = PQ_PEEK, remove = PQ_REMOVE, reschedule = PQ_RESCHEDULE };
+/// What a member asks of the queue. After a shut its journal has no push.
+enum class request : std::uint32_t {
+    push = PQ_PUSH,
+    pop = PQ_POP,
+    peek = PQ_PEEK,
+    remove = PQ_REMOVE,
+    reschedule = PQ_RESCHEDULE,
+    shut = PQ_SHUTS
+};
 
 /// An item: a key, and a value, which the queue never reads.
 template <class Key = std::uint64_t> struct item {
@@ -41,8 +48,8 @@ private:
 };
 
 /// A journal entry: its number, from 1; how many requests its member had made, this one included; the member's place; the request; the reply,
-/// code::ok or code::empty; the item that a push put in, or that another request found, as it was then, of a payload its key; and the ticket of
-/// request::remove and request::reschedule, and the key that the latter gives.
+/// code::ok, or code::empty, which a shut has; the item that a push put in, or that another request found, as it was then, of a payload its
+/// key; and the ticket of request::remove and request::reschedule, and the key that the latter gives.
 template <class First, class Key> struct entry {
     std::uint64_t number, serial;
     std::uint32_t place;

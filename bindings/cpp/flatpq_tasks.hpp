@@ -44,6 +44,16 @@ namespace detail {
 /// Whether a payload lies in an item's value; else it has a block, whose address the value is.
 template <class T> inline constexpr bool lies_in_value = sizeof(T) <= sizeof(std::uint64_t) && std::is_trivially_copyable_v<T>;
 
+/// Moves a payload to where another is: one that is not assigned to without a throw is dropped, and made anew.
+template <class T> void move_over(T &to, T &&from) noexcept {
+    if constexpr (std::is_nothrow_move_assignable_v<T>) {
+        to = std::move(from);
+    } else {
+        std::destroy_at(std::addressof(to));
+        ::new (static_cast<void *>(std::addressof(to))) T(std::move(from));
+    }
+}
+
 /// How a key and a payload lie in an item of the library.
 template <class T, class Key> class payloads {
     static_assert(are_ordered<Key>, "specialise flatpq::key_order for this key (flatpq_keys.hpp)");
@@ -93,16 +103,11 @@ public:
         }
     }
 
-    /// Moves a refused payload back: one that is not assigned to is dropped, as it was moved from, and made anew.
+    /// Moves a refused payload back.
     static void put_back(T &from, std::uint64_t value) noexcept {
         if constexpr (!lies_in_value<T>) {
             const own_block refused = block_of(value);
-            if constexpr (std::is_nothrow_move_assignable_v<T>) {
-                from = std::move(refused->payload);
-            } else {
-                std::destroy_at(std::addressof(from));
-                ::new (static_cast<void *>(std::addressof(from))) T(std::move(refused->payload));
-            }
+            move_over(from, std::move(refused->payload));
         }
     }
 

@@ -3,6 +3,8 @@
  */
 #include "explore.h"
 
+#include <stdlib.h>
+
 static const uint64_t us = 1000;
 
 pq_queue *queue;
@@ -10,13 +12,13 @@ enum ending ending;
 /* Its member asks the proved queue, and owes nothing, as no request is posted then. */
 static pq_member *observer;
 static done all[MOST_DONE];
-static int count_done, heard_end;
+static int count_done, heard_end, has_shut;
 static uint64_t events; /* begins and ends of calls */
 
 void check_begin(pq_options options, int is_observed) {
     options.members += options.members != 0 && is_observed;
     ending = STANDS;
-    count_done = heard_end = 0;
+    count_done = heard_end = has_shut = 0;
     events = 0;
     observer = NULL;
     if (played.wraps != NULL) {
@@ -33,6 +35,7 @@ void check_call_begins(enum call call, uint64_t limit, uint64_t number) {
     me->calls++;
     me->begun = ++events;
     me->is_after_end = heard_end;
+    me->is_after_shut = has_shut;
     me->call = call;
     me->limit = limit;
     me->number = number;
@@ -50,7 +53,11 @@ void check_call_ends(uint32_t request, pq_code code, pq_item item, uint64_t numb
     if (me->is_after_end && code == PQ_OK && (request == PQ_POP || request == PQ_PUSH)) {
         fail("a take returned the end, and a call that began after that pushes or takes an item");
     }
+    if (me->is_after_shut && code == PQ_OK && request == PQ_PUSH) {
+        fail("a shut returned, and a push that began after that puts an item in");
+    }
     heard_end |= code == PQ_SHUT && request == PQ_POP;
+    has_shut |= code == PQ_OK && request == PQ_SHUTS;
     me->call = NO_CALL;
     me->limit = PQ_FOREVER;
     if (count_done < (is_look ? MOST_DONE / 2 : MOST_DONE) && (code == PQ_OK || number != 0 || is_look)) {
@@ -66,7 +73,7 @@ void check_call_ends(uint32_t request, pq_code code, pq_item item, uint64_t numb
 /* What the proved queue has. */
 typedef struct content {
     uint64_t count, due; /* when the first item is due */
-    core_answer first;   /* KIND_EMPTY too where looks are refused for the archive */
+    core_answer first;
     int is_shut;
 } content;
 
@@ -82,21 +89,15 @@ static pq_member *seer(void) {
 
 /* 0: that can't be seen. */
 static int observe(content *it) {
-    const core_answer none = { KIND_EMPTY, 0, 0, { 0, 0 } };
     uint64_t peak;
     uint32_t owes;
     pq_member *by = ending == STANDS && !proved_has_posts() ? seer() : NULL;
-    pq_code code;
-    it->first = none;
-    if (by == NULL || pq_core_try_count(&by->proved, &it->count, &peak, &owes) != PQ_OK) {
+    if (by == NULL || pq_core_try_count(&by->proved, &it->count, &peak, &owes) != PQ_OK
+        || pq_core_try_pop_or_look(&by->proved, 0, 0, &it->first) != PQ_OK) {
         return 0;
     }
-    code = pq_core_try_pop_or_look(&by->proved, 0, 0, &it->first);
-    if (code != PQ_OK && code != PQ_UNARCHIVED) {
-        return 0;
-    }
-    it->is_shut = (int)queue->is_shut;
-    it->due = code == PQ_OK && it->count > 0 ? flatpq_due_time(queue, it->first.item.priority) : PQ_FOREVER;
+    it->is_shut = queue->is_shut != 0;
+    it->due = it->first.kind == KIND_FIRST ? flatpq_due_time(queue, it->first.item.priority) : PQ_FOREVER;
     return 1;
 }
 
@@ -220,6 +221,13 @@ void check_settled(void) {
  * The end.
  */
 
+/* Outside of all fibers is a thread that never ends: what it has of the queue after a shut or a close ends here. */
+static void leave_outside(void) {
+    pq_leave(queue);
+    free(flatpq_thread.owns);
+    flatpq_thread.owns = NULL;
+}
+
 /* Those that still wait are to end. */
 void check_shut_at_end(void) {
     int waits = 0;
@@ -229,6 +237,7 @@ void check_shut_at_end(void) {
     if (waits && ending == STANDS && (played.wraps != NULL ? played.wraps->shuts() : pq_shut(queue)) != PQ_OK) {
         fail("the queue is not shut");
     }
+    leave_outside();
 }
 
 static void free_queue(void) {
@@ -241,6 +250,7 @@ static void free_queue(void) {
 }
 
 void check_end(void) {
+    const int is_full = is_journal_full();
     pq_journal *journal;
     pq_code code;
     if (ending == FREED) {
@@ -261,7 +271,14 @@ void check_end(void) {
     if (code != PQ_OK) {
         fail("the queue is not closed: %s", pq_code_text(code));
     }
+    leave_outside();
     check_journal(journal, all, count_done, heard_end);
+    if (queue->archived > journal_kept()) {
+        fail("%llu entries are archived, and there are %llu", (unsigned long long)queue->archived, (unsigned long long)journal_kept());
+    }
+    if (queue->is_shut == IS_SHUT && !is_full && journal_shut() == 0) {
+        fail("the queue is shut, and no entry is of that");
+    }
     pq_journal_free(journal);
     free_queue();
 }

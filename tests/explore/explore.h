@@ -27,9 +27,10 @@ typedef struct fiber {
     uint64_t begun;  /* when its call began, as check.c counts */
     const void *at;  /* the mutex or the word for which it waits */
     int priority;    /* of a random schedule */
-    int is_after_end; /* a take had returned the end before its call began */
+    int is_after_end, is_after_shut; /* a take had returned the end, or a shut had returned, before its call began */
     int found_held;  /* it spins */
     uint64_t posts_until; /* its call finds the lock held, posts its request, and stays until then; 0: it does neither */
+    const void *stays_by;  /* the member by which it stays so */
     int late_naps;   /* since the deadline of its call */
     int late_count;
     struct {
@@ -88,7 +89,7 @@ typedef struct scenario {
     const char *name;
     char *opening, *threads[MOST_FIBERS];
     int count, holds;     /* the lock is held around each proved call */
-    int splits;           /* a push is counted, and posted later */
+    int answers_early;    /* before the wakes for an answer are counted */
     const wrapper *wraps; /* by which its queue is opened */
 } scenario;
 extern scenario played;
@@ -133,5 +134,6 @@ void journal_begin(void);
 uint64_t journal_kept(void); /* how many entries archives had */
 void check_archive(const pq_journal *journal);
 void check_journal(const pq_journal *journal, const done *all, int count, int heard_end);
+uint64_t journal_shut(void); /* the entry that shut the queue; 0: none did */
 
 #endif

@@ -50,24 +50,22 @@
 #define FIRST(first, ...) first
 #define TRIES(call, ...) \
     (POINT(#call, &proved_core, WRITES), proved_begins(FIRST(__VA_ARGS__), 1) ? proved_ends(call) : LOCK_HELD)
-#define PUSHES(call, ...) TRIES(proved_refuses() ? PQ_SHUT : (call), __VA_ARGS__)
 #define STEPS(call, ...) (POINT(#call, &proved_core, WRITES), proved_begins(FIRST(__VA_ARGS__), 0), (call))
 #define pq_core_step_call(m, r, p, v, posts, a)                                                       \
     (POINT("pq_core_step_call", &proved_core, WRITES), proved_begins(m, 1)                              \
-         ? proved_ends((r) == PQ_PUSH && proved_refuses() ? PQ_SHUT : pq_core_step_call(m, r, p, v, posts, a)) \
+         ? proved_ends(pq_core_step_call(m, r, p, v, posts, a))                                          \
          : (posts) ? proved_post(m, r, p, v) : LOCK_HELD)
-#define pq_core_step_answer(...) proved_answered(FIRST(__VA_ARGS__), TRIES(pq_core_step_answer(__VA_ARGS__), __VA_ARGS__))
-#define pq_core_step_take(...) proved_looked(TRIES(pq_core_step_take(__VA_ARGS__), __VA_ARGS__))
+#define pq_core_step_answer(m, a) (POINT("pq_core_step_answer", &proved_core, WRITES), proved_answer(m, a))
+#define pq_core_step_take(...) TRIES(pq_core_step_take(__VA_ARGS__), __VA_ARGS__)
 #define pq_core_try_pop_or_look(...) TRIES(pq_core_try_pop_or_look(__VA_ARGS__), __VA_ARGS__)
 #define pq_core_try_remove(...) TRIES(pq_core_try_remove(__VA_ARGS__), __VA_ARGS__)
 #define pq_core_try_reschedule(...) TRIES(pq_core_try_reschedule(__VA_ARGS__), __VA_ARGS__)
 #define pq_core_try_count(...) TRIES(pq_core_try_count(__VA_ARGS__), __VA_ARGS__)
-#define pq_core_try_push_within(...) PUSHES(pq_core_try_push_within(__VA_ARGS__), __VA_ARGS__)
-#define pq_core_try_push_many(...) PUSHES(pq_core_try_push_many(__VA_ARGS__), __VA_ARGS__)
+#define pq_core_try_shut(...) TRIES(pq_core_try_shut(__VA_ARGS__), __VA_ARGS__)
+#define pq_core_try_push_many(...) TRIES(pq_core_try_push_many(__VA_ARGS__), __VA_ARGS__)
 #define pq_core_try_pop_many(...) TRIES(pq_core_try_pop_many(__VA_ARGS__), __VA_ARGS__)
 #define pq_core_archive(...) TRIES(pq_core_archive(__VA_ARGS__), __VA_ARGS__)
 #define pq_core_end_take(...) STEPS(pq_core_end_take(__VA_ARGS__), __VA_ARGS__)
-#define pq_core_wakes_owed(...) STEPS(pq_core_wakes_owed(__VA_ARGS__), __VA_ARGS__)
-#define pq_core_shut(q) STEPS(proved_shut(q), q)
+#define pq_core_wakes_owed(m, c) STEPS(proved_claim(m, c), m)
 
 #endif

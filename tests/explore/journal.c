@@ -13,7 +13,7 @@ static struct {
     pq_item item;
     uint64_t ticket;
 } model[MOST_ITEMS];
-static size_t size, peak;
+static size_t size, peak, shut;
 static struct {
     size_t size, peak;
 } after[MOST_ENTRIES + 1]; /* so many entries */
@@ -64,7 +64,12 @@ static size_t place_of(const pq_entry *entry) {
 
 static void follow(size_t number, const pq_entry *entry) {
     const size_t at = place_of(entry);
-    if (entry->request == PQ_PUSH) {
+    if (shut != 0 && (entry->request == PQ_PUSH || entry->request == PQ_SHUTS)) {
+        fail("entry %zu pushes or shuts, and entry %zu has shut the queue", number, shut);
+    }
+    if (entry->request == PQ_SHUTS) {
+        shut = number;
+    } else if (entry->request == PQ_PUSH) {
         if (size == MOST_ITEMS) {
             fail("a scenario has more than %d items", MOST_ITEMS);
         }
@@ -146,7 +151,7 @@ static void check_batch(const pq_entry *entry, const done *all, int count) {
 }
 
 static int has_number(const done *it) {
-    return it->number != 0 && it->number != UNNUMBERED && it->request <= PQ_RESCHEDULE;
+    return it->number != 0 && it->number != UNNUMBERED && it->request <= PQ_SHUTS;
 }
 
 /* Whether a call that has no entry could return this after so many entries. */
@@ -179,8 +184,26 @@ static void check_order(const done *it, const done *all, int count) {
     }
 }
 
+/* The entry of a shut comes before the first shut returns, and after the first begins. */
+static void check_shut(const done *all, int count) {
+    done first = { PQ_SHUTS, PQ_OK, { 0, 0 }, shut, UINT64_MAX, UINT64_MAX };
+    for (int i = 0; i < count && shut != 0; i++) {
+        if (all[i].request == PQ_SHUTS) {
+            first.begun = all[i].begun < first.begun ? all[i].begun : first.begun;
+            first.ended = all[i].ended < first.ended ? all[i].ended : first.ended;
+        }
+    }
+    if (first.ended != UINT64_MAX) {
+        check_order(&first, all, count);
+    }
+}
+
+uint64_t journal_shut(void) {
+    return shut;
+}
+
 void check_journal(const pq_journal *journal, const done *all, int count, int heard_end) {
-    size = peak = 0;
+    size = peak = shut = 0;
     check_archive(journal);
     for (size_t i = 0; i < entry_count; i++) {
         follow(i + 1, &entries[i]);
@@ -199,4 +222,5 @@ void check_journal(const pq_journal *journal, const done *all, int count, int he
         check_done(all, i);
         check_order(&all[i], all, count);
     }
+    check_shut(all, count);
 }

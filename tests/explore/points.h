@@ -29,9 +29,7 @@ extern const char proved_core; /* stands for all that a proved call reads and wr
 int proved_begins(const void *handle, int may_hold); /* 0: another thread holds the queue's lock */
 pq_code proved_ends(pq_code code);
 pq_code proved_post(core *member, uint32_t request, uint64_t priority, uint64_t value);
-pq_code proved_shut(core *shut);
-int proved_refuses(void); /* the queue is shut, and pushes that were counted before are not posted yet */
-pq_code proved_answered(const void *handle, pq_code code);
-pq_code proved_looked(pq_code code);
+pq_code proved_answer(core *member, core_answer *answer);
+pq_code proved_claim(core *member, uint32_t *count);
 
 #endif

@@ -1,8 +1,8 @@
 /*
  * Around each proved call: which member it is of, and whether another thread holds the queue's lock. The calls run over the real core, each as
- * one step, as they are proved. What happens inside a step is not explored, but for this, where a scenario splits it: a thread that posts a push
- * first counts it, looks whether the queue is shut, and then posts. A shut between comes to no end before that. The core has no call for one
- * half. So the shut is kept back until all that was counted is posted, and other pushes are refused meanwhile, as by a queue that is shut.
+ * one step, as they are proved. What happens inside a step is not explored, but for this. A thread that holds the lock answers what was posted, then
+ * counts the wakes for that, and then frees the lock. Where a scenario holds the lock, a thread may find its answer before those wakes are counted,
+ * and claims none. Where answers are early too, one that stays does so at no cost.
  */
 #include "explore.h"
 
@@ -13,9 +13,8 @@ enum { MOST_HANDLES = 16 };
 const char proved_core = 0;
 int is_held;
 static const uint64_t stall = 3000000; /* as where a thread has no processor */
-/* How many pushes are counted, and not posted; the queue whose shut is kept back. */
-static uint32_t counted;
-static core *kept_back;
+/* The thread that holds the lock has answered what was posted, and has not counted the wakes for that. */
+static int has_answered;
 /* The members of requests that are posted, and not carried out yet. */
 static const void *posts[MOST_HANDLES];
 static int post_count;
@@ -27,9 +26,7 @@ static struct {
 } uses[MOST_HANDLES];
 
 void proved_begin(void) {
-    is_held = post_count = 0;
-    counted = 0;
-    kept_back = NULL;
+    is_held = has_answered = post_count = 0;
     memset(uses, 0, sizeof uses);
 }
 
@@ -86,45 +83,57 @@ int proved_has_posts(void) {
     return post_count > 0;
 }
 
-/* A step that has an answer has carried out what was posted before it. */
-pq_code proved_ends(pq_code code) {
-    post_count = code == PQ_OK ? 0 : post_count;
+/* Whether the answer of this member is there, which a thread may find while another holds the lock. */
+static int is_answered(const void *handle) {
+    int is_there = is_held && has_answered;
+    for (int i = 0; i < post_count; i++) {
+        is_there &= posts[i] != handle;
+    }
+    return is_there;
+}
+
+/* Those that stay and have their answers go on before the thread that holds the lock does, until they have claimed wakes. */
+static void let_answered_go_on(void) {
+    int count = 0;
+    for (int i = 0; i < fiber_count; i++) {
+        if (fibers[i].stays_by != NULL && is_answered(fibers[i].stays_by)) {
+            fibers[i].until = now;
+            count++;
+        }
+    }
+    if (count > 0) {
+        block(NAPS, NULL, now + 1);
+    }
+}
+
+/* The step has carried out what was posted before it, or has not. */
+static pq_code ends(pq_code code, int carries_out) {
+    const int had = post_count;
+    post_count = carries_out ? 0 : had;
     if (is_held && me != NULL) {
+        has_answered = carries_out && had > 0;
+        if (played.answers_early) {
+            let_answered_go_on();
+        }
         scheduler_point("(the lock is free)", &proved_core, WRITES, "core", 0);
-        is_held = 0;
+        is_held = has_answered = 0;
     }
     return code;
 }
 
-int proved_refuses(void) {
-    return kept_back != NULL;
-}
-
-pq_code proved_shut(core *shut) {
-    if (counted == 0) {
-        return pq_core_shut(shut);
-    }
-    kept_back = shut;
-    return PQ_OK;
-}
-
-/* Others go on before the push that is counted is posted. */
-static void split(void) {
-    counted++;
-    scheduler_point("(it is counted)", &proved_core, WRITES, "core", 0);
-    if (choose_costly()) {
-        block(NAPS, NULL, now + stall);
-    }
-    scheduler_point("(it is posted)", &proved_core, WRITES, "core", 0);
-    counted--;
+/* A step that has an answer has carried out what was posted before it, and so has one that found the end. */
+pq_code proved_ends(pq_code code) {
+    return ends(code, code == PQ_OK || code == PQ_SHUT);
 }
 
 /* The thread has posted its request, and others go on until the time that its word says. */
-static void stay(void) {
+static void stay(const void *handle) {
     const uint64_t until = me->posts_until;
     me->posts_until = 0;
     if (until > now) {
+        me->stays_by = handle;
         block(NAPS, NULL, until);
+        me->stays_by = NULL;
     }
 }
 
@@ -132,38 +141,44 @@ static void stay(void) {
 pq_code pq_core_post(core *member, uint32_t request, uint64_t priority, uint64_t value);
 
 pq_code proved_post(core *member, uint32_t request, uint64_t priority, uint64_t value) {
-    const int is_split = played.splits && request == PQ_PUSH && me != NULL && !proved_refuses();
-    pq_code code;
-    if (is_split) {
-        split();
-    } else if (request == PQ_PUSH && proved_refuses()) {
-        return PQ_SHUT;
-    }
-    code = pq_core_post(member, request, priority, value);
+    pq_code code = pq_core_post(member, request, priority, value);
     if (code == PQ_OK && post_count < MOST_HANDLES) {
         posts[post_count++] = member;
     }
-    if (is_split && counted == 0 && kept_back != NULL) {
-        (void)!pq_core_shut(kept_back);
-        kept_back = NULL;
-    }
     if (code == PQ_OK && me != NULL && me->posts_until > 0) {
-        stay();
+        stay(member);
     }
     return code == PQ_OK ? HAS_POSTED : code;
 }
 
-/* A step of a take that found the end has also carried out what was posted. */
-pq_code proved_looked(pq_code code) {
-    post_count = code == PQ_SHUT ? 0 : post_count;
-    return code;
-}
-
-pq_code proved_answered(const void *handle, pq_code code) {
-    for (int i = 0; i < post_count && code == PQ_OK; i++) {
+static void forget_post(const void *handle) {
+    for (int i = 0; i < post_count; i++) {
         if (posts[i] == handle) {
             posts[i--] = posts[--post_count];
         }
     }
-    return code;
+}
+
+pq_code proved_answer(core *member, core_answer *answer) {
+    pq_code code;
+    if (!proved_begins(member, 1)) {
+        return is_answered(member) ? pq_core_step_answer(member, answer) : LOCK_HELD;
+    }
+    code = pq_core_step_answer(member, answer);
+    if (code == PQ_OK) {
+        forget_post(member);
+    }
+    return ends(code, code == NOT_ANSWERED);
+}
+
+/* The thread that holds the lock counts the wakes of those that it has answered before it frees that. */
+pq_code proved_claim(core *member, uint32_t *count) {
+    if (has_answered) {
+        *count = 0;
+        if (played.answers_early) {
+            block(NAPS, NULL, now + 2);
+        }
+        return PQ_OK;
+    }
+    return pq_core_wakes_owed(member, count);
 }

@@ -5,9 +5,9 @@
  *
  * Of the queue: members=N (joined ones, one a thread where it is left out), own=N (threads use their own members, of so many), tickets, bound=N,
  * entries=N (of its journal, which fills, with 48 where it is left out), forgets or refuses (older entries, of 16), item=PRIORITY (it is there, and
- * `remove` and `move` mean the first), used=N (so many entries are there too), held (the lock is held around each proved call), splits (a push is
- * counted first, and posted later), unobserved (the scenario ends the queue), no-barriers, no-keys (the system refuses them), fences; cpp or rust
- * (that wrapper opens it, its words come before those here, and calls in C are by threads' own members).
+ * `remove` and `move` mean the first), used=N (so many entries are there too), held (the lock is held around each proved call), early (and a thread
+ * finds its answer before the one that answered it counts the wakes for that), unobserved (the scenario ends the queue), no-barriers, no-keys (the
+ * system refuses them), fences; cpp or rust (that wrapper opens it, its words come before those here, and calls in C are by threads' own members).
  * The tables of requests.c, listeners.c and members.c have the words of threads. A time is in us or ms from the beginning. A deadline may be
  * `now`; one that is left out is for ever.
  */
@@ -50,7 +50,7 @@ void scenario_read(const char *name, const char *text) {
     played.name = name;
     played.opening = part;
     played.holds = strstr(part, "held") != NULL;
-    played.splits = strstr(part, "splits") != NULL;
+    played.answers_early = strstr(part, "early") != NULL;
     played.wraps = wrapper_of(part);
     while ((part = strsep(&left, "|")) != NULL) {
         if (played.count == MOST_FIBERS) {
@@ -87,7 +87,7 @@ static void read_number(opening *it, const char *name, uint64_t number) {
 
 /* Words that stand elsewhere too, and were read there. */
 static int is_read(const char *name) {
-    return strcmp(name, "held") == 0 || strcmp(name, "splits") == 0 || (played.wraps != NULL && strcmp(name, played.wraps->name) == 0);
+    return strcmp(name, "held") == 0 || strcmp(name, "early") == 0 || (played.wraps != NULL && strcmp(name, played.wraps->name) == 0);
 }
 
 static void read_option(opening *it, char *text) {

@@ -143,6 +143,9 @@ fiber *choose_fiber(fiber *mine, const void *at, enum access access, int *choice
     if (is_random) {
         return choose_at_random(mine);
     }
+    if (mine != NULL && (is_redundant || preempted >= bound)) {
+        return mine;
+    }
     found[0] = mine;
     count = (mine != NULL) + others(mine, found + (mine != NULL), &ready);
     if (count == 0) {

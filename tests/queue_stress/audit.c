@@ -15,6 +15,7 @@ typedef struct waiting {
 typedef struct list {
     waiting *items;
     size_t count;
+    int is_shut;
 } list;
 
 static int same(pq_item one, pq_item other) {
@@ -44,9 +45,14 @@ static size_t place_of(const list *it, const pq_entry *entry) {
 static int replies(list *it, const pq_entry *entry) {
     const pq_item moved = { entry->priority, entry->item.value };
     const size_t at = place_of(it, entry);
+    const int was_shut = it->is_shut;
+    if (entry->request == PQ_SHUTS) {
+        it->is_shut = 1;
+        return entry->reply == PQ_EMPTY && !was_shut;
+    }
     if (entry->request == PQ_PUSH) {
         put(it, entry->item, entry->number);
-        return entry->reply == PQ_OK;
+        return entry->reply == PQ_OK && !was_shut;
     }
     if (at == it->count) {
         return entry->reply == PQ_EMPTY;
@@ -74,7 +80,7 @@ static int are_left(const list *it, const pq_item *left, size_t left_count) {
 /* The entries are numbered, the serials of each place go up, and the list replies the same and leaves the same. */
 static const char *replayed(const pq_entry *entries, size_t count, const pq_item *left, size_t left_count) {
     uint64_t serials[4096] = { 0 };
-    list plain = { (waiting *)malloc((count + 1) * sizeof(waiting)), 0 };
+    list plain = { (waiting *)malloc((count + 1) * sizeof(waiting)), 0, 0 };
     const char *wrong = NULL;
     for (size_t i = 0; i < count && wrong == NULL; i++) {
         const pq_entry *it = &entries[i];
@@ -130,8 +136,8 @@ static const char *agrees(const pq_entry *entries, size_t count, const outcome *
     for (size_t i = 1; one->has_joined && i < one->count; i++) {
         const pq_entry *last = &entries[one->answers[i - 1].number - 1];
         const pq_entry *it = &entries[one->answers[i].number - 1];
-        if (it->place != last->place || it->serial != last->serial + 1) {
-            return "the entries of a member are not of one place, with serials in turn";
+        if (it->place != last->place || it->serial <= last->serial) {
+            return "the entries of a member are not of one place, with serials that go up";
         }
     }
     if (one->archived > count || (one->archived > 0 && memcmp(one->archive, entries, one->archived * sizeof *entries) != 0)) {
@@ -167,6 +173,9 @@ const char *audited(const pq_entry *entries, size_t count, const pq_item *left, 
     for (uint32_t i = 0; i < threads; i++) {
         answered += all[i].count;
         full += all[i].full;
+    }
+    for (size_t i = 0; i < count; i++) {
+        answered += entries[i].request == PQ_SHUTS;
     }
     return wrong != NULL                       ? wrong
          : count > answered                    ? "entries of the journal are those of no call"

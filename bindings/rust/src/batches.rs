@@ -18,8 +18,8 @@ const PART: usize = 1 << 16;
 pub struct Pushed {
     /// How many payloads.
     pub count: usize,
-    /// The number of the first one's journal entry; 0 where it put none in. Up to 64 payloads have consecutive entries, unless the queue has a
-    /// bound or its journal refuses.
+    /// The number of the first one's journal entry; 0 where it put none in. Up to 64 payloads have consecutive entries, unless some waited for
+    /// room.
     pub number: u64,
 }
 

@@ -28,7 +28,7 @@ macro_rules! errors {
 }
 
 errors! {
-    /// An option is out of its range.
+    /// An option is out of its range, or an archive has more entries than the journal.
     BadOption = 5,
     /// Memory was refused.
     NoMemory = 6,

@@ -43,6 +43,8 @@ pub enum Request {
         /// The number of the key, as [`Item::priority`].
         priority: u64,
     },
+    /// To shut the queue: no push follows.
+    Shut,
 }
 
 impl Request {
@@ -54,6 +56,7 @@ impl Request {
             Request::Peek => (2, 0, 0),
             Request::Remove(ticket) => (3, ticket, 0),
             Request::Reschedule { ticket, priority } => (4, ticket, priority),
+            Request::Shut => (5, 0, 0),
         }
     }
 }
@@ -85,10 +88,11 @@ impl Entry {
                 1 => Request::Pop,
                 2 => Request::Peek,
                 3 => Request::Remove(raw.ticket),
-                _ => Request::Reschedule {
+                4 => Request::Reschedule {
                     ticket: raw.ticket,
                     priority: raw.priority,
                 },
+                _ => Request::Shut,
             },
             item: (raw.reply == raw::OK).then_some(raw.item),
         }

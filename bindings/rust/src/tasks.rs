@@ -235,7 +235,7 @@ impl<K: Key, T: Send> TaskQueue<K, T> {
 
 impl<K, T> TaskQueue<K, T> {
     /// Shuts the queue down for good: from now on each push is refused. Threads that wait for a payload take what is left, and then return
-    /// [`Error::Shut`]. The queue stays, until [`TaskQueue::close`] ends it.
+    /// [`Error::Shut`]. The call waits for nothing, and the queue stays, until [`TaskQueue::close`] ends it.
     ///
     /// # Errors
     ///

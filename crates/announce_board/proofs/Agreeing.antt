@@ -10,7 +10,7 @@ use Rattle.pq_types.specs.Asked.{Reply}
 use Rattle.pq_types.specs.Asked.{Line}
 use Rattle.pq_types.specs.declared.request.Request.TheVariants.{Push, Pop, Least}
 use Rattle.pq_types.specs.declared.answer.Reply.TheVariants.{Pushed, Got, Empty, Least as LeastIs}
-use Rattle.pq_types.specs.Operation.{Asked, ByTicket, Remove, Move}
+use Rattle.pq_types.specs.Operation.{Asked, ByTicket, Shuts, Remove, Move}
 use Rattle.pq_types.specs.Queue.{reply_to}
 use Rattle.pq_types.specs.Entry.{Entry, item_of, entries_after, reply_by}
 use Rattle.pq_types.specs.History.{line, line_of, IsLegal, IsLegalFrom}
@@ -24,7 +24,8 @@ operation_from zero i x = Asked (Push x)
 operation_from (suc zero) i x = Asked Pop
 operation_from (suc (suc zero)) i x = Asked Least
 operation_from (suc (suc (suc zero))) i x = ByTicket (Remove i)
-operation_from (suc (suc (suc (suc n)))) i x = ByTicket (Move i x.priority)
+operation_from (suc (suc (suc (suc zero)))) i x = ByTicket (Move i x.priority)
+operation_from (suc (suc (suc (suc (suc n))))) i x = Shuts
 
 abbrev reply_from : ℕ → Item → Reply
 reply_from zero x = Pushed
@@ -38,6 +39,7 @@ operation_again (Asked Pop) = refl
 operation_again (Asked Least) = refl
 operation_again (ByTicket (Remove i)) = refl
 operation_again (ByTicket (Move i priority)) = refl
+operation_again Shuts = refl
 
 reply_again : (r : Reply) → reply_from (reply_number r) (item_told r) ≡ r
 reply_again Pushed = refl

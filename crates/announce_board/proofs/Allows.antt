@@ -25,9 +25,11 @@ use Rattle.pq_types.specs.declared.control.Kind.TheVariants as kind
 use Rattle.pq_types.specs.Asked.{Line}
 use Rattle.pq_types.specs.declared.journal.TheConstants.{GREATEST_NUMBER}
 use Rattle.pq_types.specs.Queue.{IsProperRequestOf}
-use Rattle.pq_types.specs.History.{journal_after, journal_by, MayAnswer, MayDo}
+use Rattle.pq_types.specs.History.{journal_after, journal_by}
+use Rattle.desk_core.specs.Answering.{MayTellOf, MayTell}
 use Rattle.pq_types.specs.Laws.{ControlWordsDiffer}
 use Rattle.pq_book.specs.Book.{Volume}
+use Rattle.desk_core.specs.Home.{Home, home_of}
 use Rattle.desk_core.specs.Beyond.{NextIsUnknown}
 use Rattle.desk_core.specs.Dealing.{IsReached, Takes, MovesReach}
 use Rattle.desk_core.specs.Desk.{Desk, Has, time, volume, put, locked, freed, with_control, with_cell, with_pen}
@@ -48,7 +50,9 @@ use Rattle.desk_core.specs.declared.model.View.{View}
 use Rattle.desk_core.specs.declared.model.View.TheVariants.{Holder}
 use Rattle.announce_board.specs.Allowed.{AsMove, AsLook, Plainly, desk_in}
 use Rattle.announce_board.specs.Rule.{Keeps, Seated, desk_of, book_in, book_at_home}
-use Rattle.announce_board.specs.Steps.{pen_at, StandsAt, WordDrafted, Drafted, PostStored, LockRead, LockTried, ControlRead, MailRead, CellRead, ItemRead, WordLaid, ItemLaid, AnswerStored, Released, BringsHome, BringsHomeBy, Applied, ReleasedWith, Looked, AnswerLooked, WordSeen, ItemSeen, Taken, ItemTaken}
+use Rattle.announce_board.specs.declared.terms.Terms.{Terms}
+use Rattle.announce_board.specs.Slots.{MeetsTerms, Slotted, with_book, says}
+use Rattle.announce_board.specs.Steps.{pen_at, StandsAt, WordDrafted, Drafted, PostStored, LockRead, LockTried, ControlRead, MailRead, CellRead, ItemRead, WordLaid, ItemLaid, AnswerStored, Released, HasInSlot, BringsHome, BringsHomeBy, Applied, ReleasedWith, Looked, AnswerLooked, WordSeen, ItemSeen, Taken, ItemTaken}
 use Rattle.announce_board.proofs.Duties.{acts_on}
 use Rattle.announce_board.proofs.Sums.{length_at}
 use Rattle.announce_board.proofs.Weights.{weighs_on}
@@ -90,24 +94,39 @@ pub record Laws : Type 0 where
 pub at_both : (F : ℕ → ℕ → Type 0) (i j n k : ℕ) → i ≡ j → n ≡ k → F j k → F i n
 at_both F i j n k e f h = subst (λ x. F x n) (sym e) (subst (F j) (sym f) h)
 
-pub book_there : (x : home.Option (home.Option (Option Volume))) (b : Volume) → book_in x ≡ Some b → x ≡ some (some (Some b))
-book_there none b e = absurd (cc e)
-book_there (some none) b e = absurd (cc e)
-book_there (some (some x)) b e = ap (λ y. some (some y)) e
+-- what the machine sees at home is the Book in the slot
+pub book_there : (x : home.Option (home.Option Slotted)) (h : Home) → book_in x ≡ Some h → (b : Volume) × (x ≡ some (some (with_book b))) × (home_of b ≡ h)
+book_there none h e = absurd (cc e)
+book_there (some none) h e = absurd (cc e)
+book_there (some (some (says n))) h e = absurd (cc e)
+book_there (some (some (with_book b))) h e = let f : Some (home_of b) ≡ Some h = e in let g : home_of b ≡ h = cc in (b, refl, g)
+
+-- the one Book in a slot
+pub one_book : (b b' : Volume) → some (some (with_book b)) ≡ some (some (with_book b')) → b' ≡ b
+one_book b b' e = sym (let f : b ≡ b' = cc in f)
+
+-- the terms that are said
+one_said : (a b : Terms) → ◌≡◌ {A = home.Option Slotted} (some (says a)) (some (says b)) → a ≡ b
+one_said a b e = cc
+
+-- of a slot that has just got a Book
+pub bounded_now : (homes : List (home.Option Slotted)) (b : Volume) (terms : Terms) → get_elem? homes 0 ≡ some (some (with_book b)) → MeetsTerms terms b
+    → (b' : Volume) → get_elem? homes 0 ≡ some (some (with_book b')) → MeetsTerms terms b'
+bounded_now homes b terms at is b' at' = subst (MeetsTerms terms) (sym (one_book b b' (sym at ∙ at'))) is
 
 -- an item of either width is in the range of wide ones
 wider : (wide : Bool) (x : Item) → IsItemOf wide x → IsItemOf true x
 wider true x h = h
 wider false x h = (omega (arith, h.0), omega (arith, h.1))
 
-module _ (laws : Laws) (wide : Bool) (roomy : ℕ → Type 0) (room places slots id : ℕ) (m : Seated) (is : m.0 ≡ Holder (pen_at m)) where
+module _ (laws : Laws) (wide : Bool) (roomy : ℕ → Type 0) (room : ℕ) (terms : Terms) (places slots id : ℕ) (m : Seated) (is : m.0 ≡ Holder (pen_at m)) where
   abbrev p : PenState
   p = pen_at m
 
   abbrev St : Type 0
-  St = State (Option Volume) View
+  St = State Slotted View
 
-  module _ (s : St) (k : Keeps wide roomy room places s) (at : get_elem? s.views id ≡ some m.0) where
+  module _ (s : St) (k : Keeps wide roomy room terms places s) (at : get_elem? s.views id ≡ some m.0) where
     abbrev d : Desk
     d = desk_of room places k.held k.control k.cells s.homes s.views
 
@@ -134,11 +153,11 @@ module _ (laws : Laws) (wide : Bool) (roomy : ℕ → Type 0) (room places slots
 
     -- nothing was stored, and the pen is now this one
     abbrev unchanged : (i : ℕ) (q : PenState) → q.duty ≡ Active → IsReached places room (with_pen d id q) → MeetsRule (desk_of room places k.held k.control k.cells s.homes (slice_set s.views id (Holder q)))
-        → Keeps wide roomy room places record { words = slice_set s.words i (slice_index s.words i); homes = s.homes; views = slice_set s.views id (Holder q) }
-    unchanged i q acts reached meets = record { held = k.held; control = k.control; cells = k.cells; words = laws.loaded wide places s.words k.held k.control k.cells i k.words; slots = k.slots; reached = reached; meets = meets; duties = stays q acts; weight = weighs q acts; memory = k.memory }
+        → Keeps wide roomy room terms places record { words = slice_set s.words i (slice_index s.words i); homes = s.homes; views = slice_set s.views id (Holder q) }
+    unchanged i q acts reached meets = record { held = k.held; control = k.control; cells = k.cells; words = laws.loaded wide places s.words k.held k.control k.cells i k.words; slots = k.slots; reached = reached; meets = meets; duties = stays q acts; weight = weighs q acts; memory = k.memory; bounded = k.bounded }
 
     -- the Book in the slots is this one
-    home_is : (P : Desk → Type 0) (held : Bool) (homes : List (home.Option (Option Volume))) (views : List View) (book : Option Volume) → book_at_home homes ≡ book
+    home_is : (P : Desk → Type 0) (held : Bool) (homes : List (home.Option Slotted)) (views : List View) (book : Option Home) → book_at_home homes ≡ book
         → P (record { room = room; places = places; held = held; control = k.control; item = k.cells; home = book; views = views })
         → P (desk_of room places held k.control k.cells homes views)
     home_is P held homes views book e h =
@@ -149,9 +168,9 @@ module _ (laws : Laws) (wide : Bool) (roomy : ℕ → Type 0) (room places slots
     missed held = goes (Tries id) (with_pen d id (after_miss p)) (p, has, inr (held, refl))
 
   pub draft_allowed : (index word j : ℕ) (x : Item) → index ≡ item_at p.place + j → word ≡ word_of wide j x → j < word_number wide → IsIdle p.standing → IsItemOf wide x
-      → AsMove wide roomy room places slots id m index (λ _. word) (λ _. Drafted wide (step slots index word 0 none) m word)
+      → AsMove wide roomy room terms places slots id m index (λ _. word) (λ _. Drafted wide (step slots index word 0 none) m word)
   draft_allowed index word j x ei ew small idle range =
-      at_both (λ i n. AsMove wide roomy room places slots id m i (λ _. n) (λ _. Drafted wide (step slots i n 0 none) m n)) index (item_at p.place + j) word (word_of wide j x) ei ew
+      at_both (λ i n. AsMove wide roomy room terms places slots id m i (λ _. n) (λ _. Drafted wide (step slots i n 0 none) m n)) index (item_at p.place + j) word (word_of wide j x) ei ew
       (λ s k long at small_word.
       let y = k.cells p.place in
       let z = mixed wide j x y in (
@@ -170,6 +189,7 @@ module _ (laws : Laws) (wide : Bool) (roomy : ℕ → Type 0) (room places slots
           duties = stays s k at (after_draft p z) refl;
           weight = weighs s k at (after_draft p z) refl;
           memory = k.memory;
+          bounded = k.bounded;
         },
         inl (Drafts id z, refl, (p, has s k at, idle, wider wide z (laws.mix.fits wide j x y range (k.words.ranges p.place (inside s k at))), refl)),
         λ i x' range' e f.
@@ -185,10 +205,10 @@ module _ (laws : Laws) (wide : Bool) (roomy : ℕ → Type 0) (room places slots
 
   pub post_allowed : (index word : ℕ) (request : Request) (draft : Option Item) → index ≡ control_at p.place → word ≡ control_word (posted (p.posts + 1) request)
       → p.standing ≡ Idle draft → p.posts < GREATEST_NUMBER → IsProperRequestOf true request → IsKept (request_item request) draft
-      → AsMove wide roomy room places slots id m index (λ _. word) (λ _. PostStored (step slots index word 0 none) m word)
+      → AsMove wide roomy room terms places slots id m index (λ _. word) (λ _. PostStored (step slots index word 0 none) m word)
   post_allowed index word request draft ei ew idle few proper kept =
       let new : IsProperControl (posted (p.posts + 1) request) = (omega arith, omega (arith, few)) in
-      at_both (λ i n. AsMove wide roomy room places slots id m i (λ _. n) (λ _. PostStored (step slots i n 0 none) m n)) index (control_at p.place) word (control_word (posted (p.posts + 1) request)) ei ew
+      at_both (λ i n. AsMove wide roomy room terms places slots id m i (λ _. n) (λ _. PostStored (step slots i n 0 none) m n)) index (control_at p.place) word (control_word (posted (p.posts + 1) request)) ei ew
       (λ s k long at small. (
         Holder (after_post p request (time (d s k at))),
         keeps,
@@ -205,6 +225,7 @@ module _ (laws : Laws) (wide : Bool) (roomy : ℕ → Type 0) (room places slots
           duties = stays s k at (after_post p request (time (d s k at))) refl;
           weight = weighs s k at (after_post p request (time (d s k at))) refl;
           memory = λ all. none_refused k.control p.place (posted (p.posts + 1) request) (k.memory all) (λ e. absurd (cc e));
+          bounded = k.bounded;
         },
         inl (Posts id request, refl, (p, draft, has s k at, idle, few, proper, kept, refl)),
         λ q other stood known proper' e.
@@ -215,7 +236,7 @@ module _ (laws : Laws) (wide : Bool) (roomy : ℕ → Type 0) (room places slots
             ),
       ))
 
-  pub read_lock_allowed : AsMove wide roomy room places slots id m lock_at (λ n. n) (LockRead (step slots lock_at 0 0 none) m)
+  pub read_lock_allowed : AsMove wide roomy room terms places slots id m lock_at (λ n. n) (LockRead (step slots lock_at 0 0 none) m)
   read_lock_allowed s k long at small =
       let n = slice_index s.words lock_at in
       let read = laws.read_back wide places s.words k.held k.control k.cells k.words in
@@ -235,6 +256,7 @@ module _ (laws : Laws) (wide : Bool) (roomy : ℕ → Type 0) (room places slots
           duties = subst DutiesAreKept (sym (set_again s.views id m.0 at)) k.duties;
           weight = subst (λ v. weight_of places v ≤ places) (sym (set_again s.views id m.0 at)) k.weight;
           memory = k.memory;
+          bounded = k.bounded;
         },
         inr (ap (λ v. desk_of room places k.held k.control k.cells s.homes v) (set_again s.views id m.0 at)),
         (λ _. refl, λ ne. absurd (ne e)),
@@ -248,7 +270,7 @@ module _ (laws : Laws) (wide : Bool) (roomy : ℕ → Type 0) (room places slots
         (λ e. absurd (ne e), λ _. ((read.lock_held ne).1, refl)),
       ))
 
-  module _ (s : St) (k : Keeps wide roomy room places s) (at : get_elem? s.views id ≡ some m.0) (e : slice_index s.words lock_at ≡ 0) where
+  module _ (s : St) (k : Keeps wide roomy room terms places s) (at : get_elem? s.views id ≡ some m.0) (e : slice_index s.words lock_at ≡ 0) where
     free : k.held ≡ false
     free = (laws.read_back wide places s.words k.held k.control k.cells k.words).lock_free.0 e
 
@@ -258,24 +280,33 @@ module _ (laws : Laws) (wide : Bool) (roomy : ℕ → Type 0) (room places slots
     room_is : p.room ≡ room
     room_is = (laws.seated (d s k at) id p k.meets (has s k at)).room
 
-    abbrev book : Volume
-    book = volume p.room lead.0
+    got : (b : Volume) × (get_elem? s.homes 0 ≡ some (some (with_book b))) × (home_of b ≡ volume room lead.0)
+    got = book_there (get_elem? s.homes 0) (volume room lead.0) lead.1
 
-    there : get_elem? s.homes 0 ≡ some (some (Some book))
-    there = book_there (get_elem? s.homes 0) book (lead.1 ∙ ap (λ r. Some (volume r lead.0)) (sym room_is))
+    abbrev book : Volume
+    book = got.0
+
+    there : get_elem? s.homes 0 ≡ some (some (with_book book))
+    there = got.1
+
+    journal_is : book.journal ≡ lead.0
+    journal_is = ap (λ (h : Home). h.journal) got.2
+
+    empty : get_elem? (set s.homes 0 none) 0 ≡ some none
+    empty = set_here s.homes 0 none (length_at s.homes 0 (some (with_book book)) there)
 
     out : book_at_home (set s.homes 0 none) ≡ None
-    out = ap book_in (set_here s.homes 0 none (length_at s.homes 0 (some (Some book)) there))
+    out = ap book_in empty
 
     led_not : p.leading ≡ false
     led_not = not_true p.leading (λ l. true≢false (sym (k.meets.2.led id p (has s k at) l).1 ∙ free))
 
-    won : (v : View) × (a : Act (Option Volume)) × Valid s.homes m.1 a × (k' : Keeps wide roomy room places (stepped s lock_at 1 id m.1 v a))
+    won : (said : home.Option Slotted) → said ≡ some (says terms) → (v : View) × (a : Act Slotted) × Valid s.homes m.1 a × (k' : Keeps wide roomy room terms places (stepped s lock_at 1 id m.1 v a))
         × (((e : Event) × (actor e ≡ id) × Step (desk_in k) e (desk_in k')) ⊎ (desk_in k' ≡ desk_in k))
-        × LockTried (step slots lock_at 0 1 none) m (slice_index s.words lock_at) (v, carried_after m.1 a)
-    won = (
+        × LockTried (step slots lock_at 0 1 said) m (slice_index s.words lock_at) (v, carried_after m.1 a)
+    won said said_is = (
       Holder (after_lead p lead.0),
-      takes 0 (Some book),
+      takes 0 (with_book book),
       there,
       record {
         held = true;
@@ -289,6 +320,7 @@ module _ (laws : Laws) (wide : Bool) (roomy : ℕ → Type 0) (room places slots
         duties = stays s k at (after_lead p lead.0) refl;
         weight = weighs s k at (after_lead p lead.0) refl;
         memory = k.memory;
+        bounded = λ b gone. absurd (let f : some none ≡ some (some (with_book b)) = sym empty ∙ gone in cc);
       },
       inl (
         Tries id,
@@ -297,21 +329,23 @@ module _ (laws : Laws) (wide : Bool) (roomy : ℕ → Type 0) (room places slots
             (p, has s k at, inl (free, (volume room lead.0, lead.1, refl))),
       ),
       (
-        λ _. record {
-          journal = lead.0;
-          knows = subst (λ r. Knows r p lead.0) (sym room_is) (laws.home (d s k at) id p lead.0 k.meets (has s k at) lead.1);
+        λ _ b e. record {
+          book = book;
+          room = ap (λ (h : Home). h.room) got.2 ∙ sym room_is;
+          bounded = subst (λ u. MeetsTerms u book) (one_said terms b (sym said_is ∙ e)) (k.bounded book there);
+          knows = subst (Knows p.room p) (sym journal_is) (subst (λ r. Knows r p lead.0) (sym room_is) (laws.home (d s k at) id p lead.0 k.meets (has s k at) lead.1));
           led_not = led_not;
-          next = refl;
+          next = ap (λ js. (Holder (after_lead p js), (0, with_book book) ∷ m.1)) (sym journal_is);
         },
         λ ne. absurd (ne e),
       ),
     )
 
-  pub try_allowed : AsMove wide roomy room places slots id m lock_at (λ n. either (n == 0) 1 n) (LockTried (step slots lock_at 0 1 none) m)
-  try_allowed s k long at small =
+  pub try_allowed : (said : home.Option Slotted) → said ≡ some (says terms) → AsMove wide roomy room terms places slots id m lock_at (λ n. either (n == 0) 1 n) (LockTried (step slots lock_at 0 1 said) m)
+  try_allowed said said_is s k long at small =
       let n = slice_index s.words lock_at in
-      exchanged n 0 1 (λ w. (v : View) × (a : Act (Option Volume)) × Valid s.homes m.1 a × (k' : Keeps wide roomy room places (stepped s lock_at w id m.1 v a)) × (((e : Event) × (actor e ≡ id) × Step (desk_in k) e (desk_in k')) ⊎ (desk_in k' ≡ desk_in k)) × LockTried (step slots lock_at 0 1 none) m n (v, carried_after m.1 a))
-      (λ e. won s k at e)
+      exchanged n 0 1 (λ w. (v : View) × (a : Act Slotted) × Valid s.homes m.1 a × (k' : Keeps wide roomy room terms places (stepped s lock_at w id m.1 v a)) × (((e : Event) × (actor e ≡ id) × Step (desk_in k) e (desk_in k')) ⊎ (desk_in k' ≡ desk_in k)) × LockTried (step slots lock_at 0 1 said) m n (v, carried_after m.1 a))
+      (λ e. won s k at e said said_is)
       (λ ne. (
         Holder (after_miss p),
         keeps,
@@ -322,9 +356,9 @@ module _ (laws : Laws) (wide : Bool) (roomy : ℕ → Type 0) (room places slots
       ))
 
   pub read_mail_allowed : (index place : ℕ) → index ≡ control_at place → place < places → p.leading ≡ true
-      → AsMove wide roomy room places slots id m index (λ n. n) (MailRead (step slots index 0 0 none) m)
+      → AsMove wide roomy room terms places slots id m index (λ n. n) (MailRead (step slots index 0 0 none) m)
   read_mail_allowed index place ei lt leads =
-      subst (λ i. AsMove wide roomy room places slots id m i (λ n. n) (MailRead (step slots i 0 0 none) m)) (sym ei)
+      subst (λ i. AsMove wide roomy room terms places slots id m i (λ n. n) (MailRead (step slots i 0 0 none) m)) (sym ei)
       (λ s k long at small. (
         Holder (after_read p place (k.control place)),
         keeps,
@@ -339,9 +373,9 @@ module _ (laws : Laws) (wide : Bool) (roomy : ℕ → Type 0) (room places slots
       ))
 
   pub read_item_allowed : (index j : ℕ) (due : Due) → index ≡ item_at due.place + j → j < word_number wide → due.place < places → p.due ≡ Some due → due.kind ≡ kind.Push
-      → AsMove wide roomy room places slots id m index (λ n. n) (ItemRead wide (step slots index 0 0 none) m)
+      → AsMove wide roomy room terms places slots id m index (λ n. n) (ItemRead wide (step slots index 0 0 none) m)
   read_item_allowed index j due ei small lt is_due push =
-      subst (λ i. AsMove wide roomy room places slots id m i (λ n. n) (ItemRead wide (step slots i 0 0 none) m)) (sym ei)
+      subst (λ i. AsMove wide roomy room terms places slots id m i (λ n. n) (ItemRead wide (step slots i 0 0 none) m)) (sym ei)
       (λ s k long at small_word. (
         Holder (after_read_item p due (k.cells due.place)),
         keeps,
@@ -360,9 +394,9 @@ module _ (laws : Laws) (wide : Bool) (roomy : ℕ → Type 0) (room places slots
 
   pub lay_item_allowed : (index word j : ℕ) (due : Due) (x : Item) → index ≡ item_at due.place + j → word ≡ word_of wide j x → j < word_number wide → due.place < places → p.due ≡ Some due
       → due.kind ≢ kind.Push → IsItemOf wide x
-      → AsMove wide roomy room places slots id m index (λ _. word) (λ _. ItemLaid wide (step slots index word 0 none) m word)
+      → AsMove wide roomy room terms places slots id m index (λ _. word) (λ _. ItemLaid wide (step slots index word 0 none) m word)
   lay_item_allowed index word j due x ei ew small lt is_due no_push range =
-      at_both (λ i n. AsMove wide roomy room places slots id m i (λ _. n) (λ _. ItemLaid wide (step slots i n 0 none) m n)) index (item_at due.place + j) word (word_of wide j x) ei ew
+      at_both (λ i n. AsMove wide roomy room terms places slots id m i (λ _. n) (λ _. ItemLaid wide (step slots i n 0 none) m n)) index (item_at due.place + j) word (word_of wide j x) ei ew
       (λ s k long at small_word.
       let y = k.cells due.place in
       let z = mixed wide j x y in (
@@ -381,6 +415,7 @@ module _ (laws : Laws) (wide : Bool) (roomy : ℕ → Type 0) (room places slots
           duties = stays s k at (after_lay p due z) refl;
           weight = weighs s k at (after_lay p due z) refl;
           memory = k.memory;
+          bounded = k.bounded;
         },
         inl (LaysItem id z, refl, (p, due, has s k at, (k.meets.2.due id p (has s k at) due is_due).0, is_due, no_push, wider wide z (laws.mix.fits wide j x y range (k.words.ranges due.place lt)), refl)),
         λ i other x' e range' g f.
@@ -397,12 +432,12 @@ module _ (laws : Laws) (wide : Bool) (roomy : ℕ → Type 0) (room places slots
       ))
 
   pub answer_allowed : (index word : ℕ) (due : Due) (request : Request) (answer : Answer) → index ≡ control_at due.place → word ≡ control_word (answered answer) → due.place < places → p.due ≡ Some due
-      → kind_of request ≡ due.kind → IsKept (request_item request) due.item → IsKept (answer_item answer) due.item → MayAnswer p.room p.hand request answer
-      → (roomy p.room → answer ≢ NoMemory) → AsMove wide roomy room places slots id m index (λ _. word) (λ _. AnswerStored (step slots index word 0 none) m word)
+      → kind_of request ≡ due.kind → IsKept (request_item request) due.item → IsKept (answer_item answer) due.item → MayTellOf p.room p.hand request answer
+      → (roomy p.room → answer ≢ NoMemory) → AsMove wide roomy room terms places slots id m index (λ _. word) (λ _. AnswerStored (step slots index word 0 none) m word)
   answer_allowed index word due request answer ei ew lt is_due kind known laid may unrefused =
-      at_both (λ i n. AsMove wide roomy room places slots id m i (λ _. n) (λ _. AnswerStored (step slots i n 0 none) m n)) index (control_at due.place) word (control_word (answered answer)) ei ew
+      at_both (λ i n. AsMove wide roomy room terms places slots id m i (λ _. n) (λ _. AnswerStored (step slots i n 0 none) m n)) index (control_at due.place) word (control_word (answered answer)) ei ew
       (λ s k long at small.
-      let may' : MayAnswer room p.hand request answer = subst (λ r. MayAnswer r p.hand request answer) (laws.seated (d s k at) id p k.meets (has s k at)).room may in
+      let may' : MayTellOf room p.hand request answer = subst (λ r. MayTellOf r p.hand request answer) (laws.seated (d s k at) id p k.meets (has s k at)).room may in
       let proper = ((laws.due (d s k at) id p k.meets (has s k at) due is_due).answers request answer may').1 in (
         Holder (after_answer p due request answer),
         keeps,
@@ -419,6 +454,7 @@ module _ (laws : Laws) (wide : Bool) (roomy : ℕ → Type 0) (room places slots
           duties = stays s k at (after_answer p due request answer) refl;
           weight = weighs s k at (after_answer p due request answer) refl;
           memory = λ all. none_refused k.control due.place (answered answer) (k.memory all) (λ e. unrefused (subst roomy (sym (laws.seated (d s k at) id p k.meets (has s k at)).room) all) (refused_alone answer e));
+          bounded = k.bounded;
         },
         inl (Answers id answer, refl, (p, due, request, has s k at, (k.meets.2.due id p (has s k at) due is_due).0, is_due, kind, known, laid, may', refl)),
         λ other q a e kind' known' laid' proper' f.
@@ -429,14 +465,14 @@ module _ (laws : Laws) (wide : Bool) (roomy : ℕ → Type 0) (room places slots
             ∙ (ap (λ x. (Holder (after_answer p other x answer), m.1)) q_is ∙ ap (λ x. (Holder (after_answer p other q x), m.1)) a_is),
       ))
 
-  pub apply_allowed : (others : List (ℕ × Option Volume)) (request : Request) (answer : Answer) → BringsHome m request answer others
-      → p.leading ≡ true → IsIdle p.standing → p.posts < GREATEST_NUMBER → IsProperRequestOf true request → MayAnswer p.room p.hand request answer
-      → AsMove wide roomy room places slots id m lock_at (λ n. n) (Applied (step slots lock_at 0 0 none) m)
+  pub apply_allowed : (others : List (ℕ × Slotted)) (request : Request) (answer : Answer) → BringsHome m request answer others
+      → p.leading ≡ true → IsIdle p.standing → p.posts < GREATEST_NUMBER → IsProperRequestOf true request → MayTellOf p.room p.hand request answer
+      → AsMove wide roomy room terms places slots id m lock_at (λ n. n) (Applied (step slots lock_at 0 0 none) m)
   apply_allowed others request answer held leads idle few proper may s k long at small =
       let now = time (d s k at) in
       let w = after_apply p request answer now in
       let room_is = (laws.seated (d s k at) id p k.meets (has s k at)).room in
-      let may' : MayAnswer room p.hand request answer = subst (λ r. MayAnswer r p.hand request answer) room_is may in (
+      let may' : MayTellOf room p.hand request answer = subst (λ r. MayTellOf r p.hand request answer) room_is may in (
         Holder w,
         keeps,
         tt,
@@ -444,19 +480,20 @@ module _ (laws : Laws) (wide : Bool) (roomy : ℕ → Type 0) (room places slots
             (laws.apply (d s k at) id p k.meets (has s k at) request answer now leads idle few proper may'),
         inl (Applies id request answer, refl, (p, has s k at, leads, idle, few, proper, may', refl)),
         λ q a other home. (
-          (now, ap (λ v. (Holder v, m.1)) (same_applied now p request q answer a may other (same_book p.room (journal_after p.hand p.place (p.posts + 1) request answer) (journal_after p.hand p.place (p.posts + 1) q a) others (rest m.1) m.1 held home))),
+          (now, ap (λ v. (Holder v, m.1)) (same_applied now p request q answer a may other (same_book m (journal_after p.hand p.place (p.posts + 1) request answer) (journal_after p.hand p.place (p.posts + 1) q a) others (rest m.1) held home))),
           subst (λ r. Knows r p p.hand) (sym room_is) (laws.leaders (d s k at) id p k.meets (has s k at) leads),
         ),
       )
 
-  pub release_looks : (others : List (ℕ × Option Volume)) → m.1 ≡ (0, Some (volume p.room p.hand)) ∷ others → p.leading ≡ true
-      → AsLook wide roomy room places slots id m lock_at (λ _. 0) (λ _. Released (step slots lock_at 0 0 none) m 0)
-  release_looks others held leads s k long at small =
-      let book = volume p.room p.hand in
+  pub release_looks : (others : List (ℕ × Slotted)) (home : HasInSlot m p.hand others) → MeetsTerms terms home.0 → p.leading ≡ true
+      → AsLook wide roomy room terms places slots id m lock_at (λ _. 0) (λ _. Released (step slots lock_at 0 0 none) m 0)
+  release_looks others (book, is, held) kept leads s k long at small =
       let room_is = (laws.seated (d s k at) id p k.meets (has s k at)).room in
-      let homes_are : put_back s.homes m.1 ≡ set s.homes 0 (some (Some book)) = ap (put_back s.homes) held in
+      let homes_are : put_back s.homes m.1 ≡ set s.homes 0 (some (with_book book)) = ap (put_back s.homes) held in
+      let slot_is : get_elem? (put_back s.homes m.1) 0 ≡ some (some (with_book book)) =
+      ap (λ hs. get_elem? hs 0) homes_are ∙ set_here s.homes 0 (some (with_book book)) (let e = k.slots in omega arith) in
       let back : book_at_home (put_back s.homes m.1) ≡ Some (volume room p.hand) =
-      ap book_at_home homes_are ∙ (ap book_in (set_here s.homes 0 (some (Some book)) (let e = k.slots in omega arith)) ∙ ap (λ r. Some (volume r p.hand)) room_is) in (
+      ap book_in slot_is ∙ (ap Some is ∙ ap (λ r. Some (volume r p.hand)) room_is) in (
         Holder (after_release p),
         gives,
         tt,
@@ -465,7 +502,7 @@ module _ (laws : Laws) (wide : Bool) (roomy : ℕ → Type 0) (room places slots
           control = k.control;
           cells = k.cells;
           words = laws.lock_stored wide places s.words k.held false k.control k.cells k.words;
-          slots = ap length homes_are ∙ (length-set s.homes 0 (some (Some book)) ∙ k.slots);
+          slots = ap length homes_are ∙ (length-set s.homes 0 (some (with_book book)) ∙ k.slots);
           reached = home_is s k at (IsReached places room) false (put_back s.homes m.1) (slice_set s.views id (Holder (after_release p))) (Some (volume room p.hand)) back
               (goes s k at (Releases id) (with_pen (freed (d s k at) p.hand) id (after_release p)) (p, has s k at, leads, refl));
           meets = home_is s k at MeetsRule false (put_back s.homes m.1) (slice_set s.views id (Holder (after_release p))) (Some (volume room p.hand)) back
@@ -473,30 +510,32 @@ module _ (laws : Laws) (wide : Bool) (roomy : ℕ → Type 0) (room places slots
           duties = stays s k at (after_release p) refl;
           weight = weighs s k at (after_release p) refl;
           memory = k.memory;
+          bounded = bounded_now (put_back s.homes m.1) book terms slot_is kept;
         },
         home_is s k at (λ y. (step : Step (d s k at) (Releases id) y) × (looking.sights_of (d s k at) (Releases id) y step ≡ looking.Looked p.place p.hand ∷ [])) false (put_back s.homes m.1) (slice_set s.views id (Holder (after_release p))) (Some (volume room p.hand)) back
             ((p, has s k at, leads, refl), refl),
         refl,
       )
 
-  pub release_allowed : (others : List (ℕ × Option Volume)) → m.1 ≡ (0, Some (volume p.room p.hand)) ∷ others → p.leading ≡ true
-      → AsMove wide roomy room places slots id m lock_at (λ _. 0) (λ _. Released (step slots lock_at 0 0 none) m 0)
-  release_allowed others held leads s k long at small =
-      let t = release_looks others held leads s k long at small in
+  pub release_allowed : (others : List (ℕ × Slotted)) (home : HasInSlot m p.hand others) → MeetsTerms terms home.0 → p.leading ≡ true
+      → AsMove wide roomy room terms places slots id m lock_at (λ _. 0) (λ _. Released (step slots lock_at 0 0 none) m 0)
+  release_allowed others home kept leads s k long at small =
+      let t = release_looks others home kept leads s k long at small in
       (t.0, t.1, t.2, t.3, inl (Releases id, refl, t.4.0), t.5)
 
-  pub release_with_allowed : (others : List (ℕ × Option Volume)) (operation : Operation) (answer : Answer) → BringsHomeBy m operation answer others
-      → p.leading ≡ true → p.due ≡ None → IsIdle p.standing → p.posts < GREATEST_NUMBER → IsProperOperationOf true operation → MayDo p.room p.hand operation answer
-      → AsMove wide roomy room places slots id m lock_at (λ _. 0) (λ _. ReleasedWith (step slots lock_at 0 0 none) m 0)
-  release_with_allowed others operation answer held leads none_due idle few proper may s k long at small =
+  pub release_with_allowed : (others : List (ℕ × Slotted)) (operation : Operation) (answer : Answer) (home : BringsHomeBy m operation answer others)
+      → MeetsTerms terms home.0 → p.leading ≡ true → p.due ≡ None → IsIdle p.standing → p.posts < GREATEST_NUMBER → IsProperOperationOf true operation → MayTell p.room p.hand operation answer
+      → AsMove wide roomy room terms places slots id m lock_at (λ _. 0) (λ _. ReleasedWith (step slots lock_at 0 0 none) m 0)
+  release_with_allowed others operation answer (book, is, held) kept leads none_due idle few proper may s k long at small =
       let js = journal_by p.hand p.place (p.posts + 1) operation answer in
-      let book = volume p.room js in
       let w = after_release_by p operation answer (time (d s k at)) in
       let room_is = (laws.seated (d s k at) id p k.meets (has s k at)).room in
-      let may' : MayDo room p.hand operation answer = subst (λ r. MayDo r p.hand operation answer) room_is may in
-      let homes_are : put_back s.homes m.1 ≡ set s.homes 0 (some (Some book)) = ap (put_back s.homes) held in
+      let may' : MayTell room p.hand operation answer = subst (λ r. MayTell r p.hand operation answer) room_is may in
+      let homes_are : put_back s.homes m.1 ≡ set s.homes 0 (some (with_book book)) = ap (put_back s.homes) held in
+      let slot_is : get_elem? (put_back s.homes m.1) 0 ≡ some (some (with_book book)) =
+      ap (λ hs. get_elem? hs 0) homes_are ∙ set_here s.homes 0 (some (with_book book)) (let e = k.slots in omega arith) in
       let back : book_at_home (put_back s.homes m.1) ≡ Some (volume room js) =
-      ap book_at_home homes_are ∙ (ap book_in (set_here s.homes 0 (some (Some book)) (let e = k.slots in omega arith)) ∙ ap (λ r. Some (volume r js)) room_is) in (
+      ap book_in slot_is ∙ (ap Some is ∙ ap (λ r. Some (volume r js)) room_is) in (
         Holder w,
         gives,
         tt,
@@ -505,7 +544,7 @@ module _ (laws : Laws) (wide : Bool) (roomy : ℕ → Type 0) (room places slots
           control = k.control;
           cells = k.cells;
           words = laws.lock_stored wide places s.words k.held false k.control k.cells k.words;
-          slots = ap length homes_are ∙ (length-set s.homes 0 (some (Some book)) ∙ k.slots);
+          slots = ap length homes_are ∙ (length-set s.homes 0 (some (with_book book)) ∙ k.slots);
           reached = home_is s k at (IsReached places room) false (put_back s.homes m.1) (slice_set s.views id (Holder w)) (Some (volume room js)) back
               (goes s k at (ReleasesBy id operation answer) (with_pen (freed (d s k at) js) id w) (p, has s k at, leads, none_due, idle, few, proper, may', refl));
           meets = home_is s k at MeetsRule false (put_back s.homes m.1) (slice_set s.views id (Holder w)) (Some (volume room js)) back
@@ -513,6 +552,7 @@ module _ (laws : Laws) (wide : Bool) (roomy : ℕ → Type 0) (room places slots
           duties = stays s k at w refl;
           weight = weighs s k at w refl;
           memory = k.memory;
+          bounded = bounded_now (put_back s.homes m.1) book terms slot_is kept;
         },
         inl (
           ReleasesBy id operation answer,
@@ -521,15 +561,15 @@ module _ (laws : Laws) (wide : Bool) (roomy : ℕ → Type 0) (room places slots
               (p, has s k at, leads, none_due, idle, few, proper, may', refl),
         ),
         λ q a other home. (
-          (time (d s k at), ap (λ v. (Holder v, rest m.1)) (same_ended (time (d s k at)) p operation q answer a may other (same_book p.room js (journal_by p.hand p.place (p.posts + 1) q a) others (rest m.1) m.1 held home))),
+          (time (d s k at), ap (λ v. (Holder v, rest m.1)) (same_ended (time (d s k at)) p operation q answer a may other (same_book m js (journal_by p.hand p.place (p.posts + 1) q a) others (rest m.1) (book, is, held) home))),
           subst (λ r. Knows r p p.hand) (sym room_is) (laws.leaders (d s k at) id p k.meets (has s k at) leads),
         ),
       )
 
   pub look_allowed : (index : ℕ) (request : Request) → index ≡ control_at p.place → p.standing ≡ Waiting request
-      → AsMove wide roomy room places slots id m index (λ n. n) (AnswerLooked roomy (step slots index 0 0 none) m)
+      → AsMove wide roomy room terms places slots id m index (λ n. n) (AnswerLooked roomy (step slots index 0 0 none) m)
   look_allowed index request ei waits =
-      subst (λ i. AsMove wide roomy room places slots id m i (λ n. n) (AnswerLooked roomy (step slots i 0 0 none) m)) (sym ei)
+      subst (λ i. AsMove wide roomy room terms places slots id m i (λ n. n) (AnswerLooked roomy (step slots i 0 0 none) m)) (sym ei)
       (λ s k long at small. (
         Holder (after_look p request (k.control p.place) (time (d s k at))),
         keeps,
@@ -546,9 +586,9 @@ module _ (laws : Laws) (wide : Bool) (roomy : ℕ → Type 0) (room places slots
       ))
 
   pub see_allowed : (index j : ℕ) (request : Request) (notice : Notice) → index ≡ item_at p.place + j → j < word_number wide → p.standing ≡ Waiting request → p.own ≡ Answered notice → notice_has_item notice ≡ true
-      → AsMove wide roomy room places slots id m index (λ n. n) (ItemSeen wide (step slots index 0 0 none) m)
+      → AsMove wide roomy room terms places slots id m index (λ n. n) (ItemSeen wide (step slots index 0 0 none) m)
   see_allowed index j request notice ei small waits own item =
-      subst (λ i. AsMove wide roomy room places slots id m i (λ n. n) (ItemSeen wide (step slots i 0 0 none) m)) (sym ei)
+      subst (λ i. AsMove wide roomy room terms places slots id m i (λ n. n) (ItemSeen wide (step slots i 0 0 none) m)) (sym ei)
       (λ s k long at small_word. (
         Holder (after_see p (k.cells p.place)),
         keeps,
@@ -564,9 +604,9 @@ module _ (laws : Laws) (wide : Bool) (roomy : ℕ → Type 0) (room places slots
       ))
 
   pub take_allowed : (index j : ℕ) (request : Request) (notice : Notice) → index ≡ item_at p.place + j → j < word_number wide → p.standing ≡ Waiting request → p.own ≡ Answered notice → notice_has_item notice ≡ true
-      → AsMove wide roomy room places slots id m index (λ n. n) (ItemTaken wide (step slots index 0 0 none) m)
+      → AsMove wide roomy room terms places slots id m index (λ n. n) (ItemTaken wide (step slots index 0 0 none) m)
   take_allowed index j request notice ei small waits own item =
-      subst (λ i. AsMove wide roomy room places slots id m i (λ n. n) (ItemTaken wide (step slots i 0 0 none) m)) (sym ei)
+      subst (λ i. AsMove wide roomy room terms places slots id m i (λ n. n) (ItemTaken wide (step slots i 0 0 none) m)) (sym ei)
       (λ s k long at small_word. (
         Holder (after_take p request notice (k.cells p.place) (time (d s k at))),
         keeps,
@@ -585,6 +625,6 @@ module _ (laws : Laws) (wide : Bool) (roomy : ℕ → Type 0) (room places slots
       ))
 
 -- what is allowed as a move is allowed as the table asks
-pub plainly : (wide : Bool) (roomy : ℕ → Type 0) (room places slots id : ℕ) (m : Seated) (i : ℕ) (f : ℕ → ℕ) (then : ℕ → Seated → Type 0)
-    → AsMove wide roomy room places slots id m i f then → Plainly wide roomy room places slots id m i f then
-plainly wide roomy room places slots id m i f then h s k long at small = let t = h s k long at small in (t.0, t.1, t.2, t.3, t.5)
+pub plainly : (wide : Bool) (roomy : ℕ → Type 0) (room : ℕ) (terms : Terms) (places slots id : ℕ) (m : Seated) (i : ℕ) (f : ℕ → ℕ) (then : ℕ → Seated → Type 0)
+    → AsMove wide roomy room terms places slots id m i f then → Plainly wide roomy room terms places slots id m i f then
+plainly wide roomy room terms places slots id m i f then h s k long at small = let t = h s k long at small in (t.0, t.1, t.2, t.3, t.5)

@@ -30,6 +30,7 @@ pub proper_answered : (wide : Bool) (a : Answer) → IsProperAnswerOf wide a →
 proper_answered wide (answer.Entered n r) h = h.0
 proper_answered wide answer.BookFull h = tt
 proper_answered wide answer.NoMemory h = tt
+proper_answered wide (answer.Refused why) h = tt
 
 -- a post that was read, by its control and its cell
 found_control : (c : Control) → None ≡ post_in c → is_posted c ≡ false

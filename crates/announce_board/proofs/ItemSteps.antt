@@ -6,7 +6,7 @@ use Rattle.pq_types.specs.Asked.{Request, Operation}
 use Rattle.pq_types.specs.declared.control.Notice.{Notice}
 use Rattle.pq_types.specs.Item.{item}
 use Rattle.pq_types.specs.declared.request.Request.TheVariants.{Push, Pop, Least}
-use Rattle.pq_types.specs.Operation.{Asked, ByTicket, Remove, Move}
+use Rattle.pq_types.specs.Operation.{Asked, ByTicket, Shuts, Remove, Move}
 use Rattle.pq_types.specs.Queue.{IsProperRequestOf}
 use Rattle.pq_types.specs.Entry.{IsProperOperationOf}
 use Rattle.atomic_table.specs.Seated.{TableId}
@@ -215,6 +215,7 @@ wider_operation wide (Asked q) h = wider_request wide q h
 wider_operation wide (ByTicket (Remove i)) h = tt
 wider_operation false (ByTicket (Move i priority)) h = omega (arith, h)
 wider_operation true (ByTicket (Move i priority)) h = h
+wider_operation wide Shuts h = tt
 
 -- zeros are in the range of either width
 pub zero_in_range : (wide : Bool) → IsItemOf wide (item 0 0)

@@ -1,3 +1,4 @@
+mod Slots
 mod Same
 mod Allows
 mod ToldLemmas

@@ -4,7 +4,7 @@ use Rattle.std.specs.Prelude.{Some, None}
 use Rattle.std.proofs.lemmas.Option.{slice_get_within}
 use Rattle.pq_types.specs.Asked.{Line}
 use Rattle.pq_types.specs.declared.journal.TheConstants.{GREATEST_NUMBER}
-use Rattle.pq_book.specs.Book.{Volume}
+use Rattle.desk_core.specs.Home.{Home}
 use Rattle.desk_core.specs.Clauses.{LockClause}
 use Rattle.desk_core.specs.Calls.{call_of}
 use Rattle.desk_core.specs.CallLines.{IsLineOf}
@@ -44,7 +44,7 @@ lock_is d a b lock home =
     (λ u.
     (let f : Some (volume d.room a) ≡ Some (volume d.room b) = sym u.1 ∙ home in
     let g : volume d.room a ≡ volume d.room b = cc in
-    ap (λ (v : Volume). v.journal) g))
+    ap (λ (v : Home). v.journal) g))
     (λ u. absurd (let f : None ≡ Some (volume d.room b) = sym u.1 ∙ home in cc))
     lock
 

@@ -37,6 +37,7 @@ with_notice (answer.Entered n (reply.Least y)) x h = ap (λ z. answer.Entered n 
 with_notice (answer.Entered n reply.Empty) x h = refl
 with_notice answer.BookFull x h = refl
 with_notice answer.NoMemory x h = refl
+with_notice (answer.Refused why) x h = refl
 
 -- without an item, whatever stands in the cell
 any_item : (n : Notice) (x y : Item) → notice_has_item n ≡ false → answer_with n x ≡ answer_with n y
@@ -46,6 +47,7 @@ any_item (notice.Entered n outcome.Least) x y h = absurd (true≢false h)
 any_item (notice.Entered n outcome.Empty) x y h = refl
 any_item notice.BookFull x y h = refl
 any_item notice.NoMemory x y h = refl
+any_item (notice.Refused why) x y h = refl
 
 -- the control that tells BookFull, and that of an entered answer
 full_there : (c : Control) (cell : Item) → answer_in c cell ≡ Some answer.BookFull → c ≡ answered answer.BookFull
@@ -54,6 +56,7 @@ full_there (Posted s k) cell e = absurd (cc e)
 full_there (Answered (notice.Entered l o)) cell e = absurd (cc e)
 full_there (Answered notice.BookFull) cell e = refl
 full_there (Answered notice.NoMemory) cell e = absurd (cc e)
+full_there (Answered (notice.Refused why)) cell e = absurd (cc e)
 
 entered_there : (c : Control) (cell : Item) (number : ℕ) (reply : Reply) → answer_in c cell ≡ Some (answer.Entered number reply)
     → (o : Outcome) × (c ≡ Answered (notice.Entered number o))
@@ -63,6 +66,7 @@ entered_there (Answered (notice.Entered l o)) cell number reply e =
     let f : l ≡ number = cc in (o, ap (λ n. Answered (notice.Entered n o)) f)
 entered_there (Answered notice.BookFull) cell number reply e = absurd (cc e)
 entered_there (Answered notice.NoMemory) cell number reply e = absurd (cc e)
+entered_there (Answered (notice.Refused why)) cell number reply e = absurd (cc e)
 
 module _ (words : ℕ) (p : PenState) (request : Request) (cell : Item) (now : ℕ) where
   idle_seen : (n : Notice) → (seen_by words p request (Answered n) cell now).standing ≡ Idle None
@@ -72,6 +76,7 @@ module _ (words : ℕ) (p : PenState) (request : Request) (cell : Item) (now : �
   idle_seen (notice.Entered n outcome.Empty) = refl
   idle_seen notice.BookFull = refl
   idle_seen notice.NoMemory = refl
+  idle_seen (notice.Refused why) = refl
 
   mine_seen : (n : Notice) → (seen_by words p request (Answered n) cell now).mine ≡ p.mine ++ gained p.posts request (answer_with n cell)
   mine_seen (notice.Entered n outcome.Pushed) = refl
@@ -80,6 +85,7 @@ module _ (words : ℕ) (p : PenState) (request : Request) (cell : Item) (now : �
   mine_seen (notice.Entered n outcome.Empty) = refl
   mine_seen notice.BookFull = refl
   mine_seen notice.NoMemory = refl
+  mine_seen (notice.Refused why) = refl
 
   standing_seen : (c : Control) → p.standing ≡ Waiting request → answer_in c cell ≡ None → ((seen_by words p request c cell now).standing ≡ p.standing) × ((seen_by words p request c cell now).mine ≡ p.mine)
   standing_seen Nothing w e = (sym w, refl)
@@ -124,6 +130,7 @@ other_answer : (n : Notice) (x : Item) → Some n ≢ Some notice.NoMemory → a
 other_answer (notice.Entered l o) x ne e = absurd (cc e)
 other_answer notice.BookFull x ne e = absurd (cc e)
 other_answer notice.NoMemory x ne e = ne refl
+other_answer (notice.Refused why) x ne e = absurd (cc e)
 
 pub told_other : (n : Notice) (x : Item) (a : Answer) → Some n ≢ Some notice.NoMemory → a ≡ answer_with n x → Some a ≢ Some answer.NoMemory
 told_other n x a ne e f = let g : a ≡ answer.NoMemory = cc in other_answer n x ne (sym e ∙ g)
@@ -171,6 +178,7 @@ any_time p q (notice.Entered l outcome.Least) now then e = refl
 any_time p q (notice.Entered l outcome.Empty) now then e = absurd (true≢false (sym e))
 any_time p q notice.BookFull now then e = absurd (true≢false (sym e))
 any_time p q notice.NoMemory now then e = absurd (true≢false (sym e))
+any_time p q (notice.Refused why) now then e = absurd (true≢false (sym e))
 
 module _ (words : ℕ) (told : WaitersAreTold) where
   told_at : (d : Desk) (p : PenState) (request : Request) → StandsAt d p → p.standing ≡ Waiting request → WaiterIsTold d p request
@@ -217,6 +225,7 @@ module _ (words : ℕ) (told : WaitersAreTold) where
       untold (notice.Entered l outcome.Empty) e = absurd (true≢false (sym e))
       untold notice.BookFull e = absurd (true≢false (sym e))
       untold notice.NoMemory e = absurd (true≢false (sym e))
+      untold (notice.Refused why) e = absurd (true≢false (sym e))
 
   pub looks_item : (before between after : Seated) (n : Notice) (x : Item) → LoadsOwn before (Some n) between → notice_has_item n ≡ true → TakesOwn words n between x after
       → LooksBy words (pen_at before) (Some (answer_with n x)) (pen_at after)

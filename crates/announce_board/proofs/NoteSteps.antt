@@ -1,13 +1,14 @@
 -- Pens that catch up, write notes and hear them keep the rule of the table.
 use Rattle.std.proofs.Common.{◌≡◌, ℕ, suc, ◌≤◌, Bool, List, [], ◌∷◌, ◌++◌, set, refl, ap, sym, ◌∙◌, subst, ⊎_elim, append-nil, arith}
-use Rattle.std.specs.Prelude.{Option, Some, slice_get}
+use Rattle.std.specs.Prelude.{Some, slice_get}
 use Rattle.std.specs.List.{AllByRecursion}
 use mathlib.Core.Option.{some}
 use lib.ListN.{get_elem?}
 use Rattle.atomic_table.specs.Table.{State, keeps}
 use Rattle.atomic_table.proofs.Lists.{set_else}
 use Rattle.pq_types.specs.Asked.{Line}
-use Rattle.pq_book.specs.Book.{Volume}
+use Rattle.announce_board.specs.declared.terms.Terms.{Terms}
+use Rattle.announce_board.specs.Slots.{Slotted}
 use Rattle.desk_core.specs.CallLines.{IsLineOf, CallsAreLines}
 use Rattle.desk_core.specs.Calls.{call}
 use Rattle.desk_core.specs.Dealing.{IsReached, CatchesUp as MovesUp, Writes, Hears, Copies, MovesReach}
@@ -27,21 +28,21 @@ use Rattle.announce_board.proofs.Agreeing.{longer_in_common, both_begin}
 use Rattle.announce_board.proofs.Duties.{acts_on, quiet_set, quiet_more, note_quiet}
 use Rattle.announce_board.proofs.Weights.{weighs_set, weighs_more, weighs_on}
 
-module _ (wide : Bool) (roomy : ℕ → Type 0) (room places : ℕ) (s : State (Option Volume) View) (k : Keeps wide roomy room places s) where
+module _ (wide : Bool) (roomy : ℕ → Type 0) (room : ℕ) (terms : Terms) (places : ℕ) (s : State Slotted View) (k : Keeps wide roomy room terms places s) where
   abbrev d : Desk
   d = desk_of room places k.held k.control k.cells s.homes s.views
 
   -- the views alone have changed
   viewed : (views : List View) → IsReached places room (record d { views = views }) → MeetsRule (record d { views = views }) → DutiesAreKept views → weight_of places views ≤ places
-      → Keeps wide roomy room places record { words = s.words; homes = s.homes; views = views }
+      → Keeps wide roomy room terms places record { words = s.words; homes = s.homes; views = views }
   viewed views reached meets duties weight =
-      record { held = k.held; control = k.control; cells = k.cells; words = k.words; slots = k.slots; reached = reached; meets = meets; duties = duties; weight = weight; memory = k.memory }
+      record { held = k.held; control = k.control; cells = k.cells; words = k.words; slots = k.slots; reached = reached; meets = meets; duties = duties; weight = weight; memory = k.memory; bounded = k.bounded }
 
 pub catch_up_allowed : (wide : Bool) (roomy : ℕ → Type 0) → MovesReach → CatchUpKeeps → Loaded → CatchUpAllowed wide roomy
-catch_up_allowed wide roomy goes kept loaded room places slots id m is s k long at small =
+catch_up_allowed wide roomy goes kept loaded room terms places slots id m is s k long at small =
     let p = pen_at m in
-    let now = d wide roomy room places s k in
-    let t = kept (d wide roomy room places s k) id p k.meets (at ∙ ap some is) in (
+    let now = d wide roomy room terms places s k in
+    let t = kept (d wide roomy room terms places s k) id p k.meets (at ∙ ap some is) in (
       Holder (after_catch_up p t.0),
       keeps,
       tt,
@@ -56,37 +57,38 @@ catch_up_allowed wide roomy goes kept loaded room places slots id m is s k long 
         duties = acts_on s.views id p (after_catch_up p t.0) k.duties (at ∙ ap some is) refl refl;
         weight = (let same = weighs_on places s.views id p (after_catch_up p t.0) (at ∙ ap some is) refl refl in let within = k.weight in omega (arith, same, within));
         memory = k.memory;
+        bounded = k.bounded;
       },
       (t.0, subst (λ r. Knows r p t.0) (sym (k.meets.2.pens id p (at ∙ ap some is)).told) t.2, refl),
     )
 
 pub writing_allowed : (wide : Bool) (roomy : ℕ → Type 0) → MovesReach → WritingKeeps → WritingAllowed wide roomy
-writing_allowed wide roomy goes kept room places slots id m is s k at =
+writing_allowed wide roomy goes kept room terms places slots id m is s k at =
     let p = pen_at m in
-    let now = d wide roomy room places s k in
+    let now = d wide roomy room terms places s k in
     let writer = set s.views id (Holder (after_writing p)) in
     let views = writer ++ Note p.known ∷ [] in
     let same = weighs_on places s.views id p (after_writing p) (at ∙ ap some is) refl refl in
     let more = weighs_more places writer (Note p.known) in
     let within = k.weight in
-    viewed wide roomy room places s k views (goes places room now (record now { views = views }) (Writes id) k.reached (p, at ∙ ap some is, refl)) (kept (d wide roomy room places s k) id p k.meets (at ∙ ap some is))
+    viewed wide roomy room terms places s k views (goes places room now (record now { views = views }) (Writes id) k.reached (p, at ∙ ap some is, refl)) (kept (d wide roomy room terms places s k) id p k.meets (at ∙ ap some is))
     (quiet_more writer (Note p.known) (acts_on s.views id p (after_writing p) k.duties (at ∙ ap some is) refl refl) (note_quiet p.known))
     (omega (arith, same, more, within))
 
 pub hearing_allowed : (wide : Bool) (roomy : ℕ → Type 0) → MovesReach → HearingKeeps → HearingAllowed wide roomy
-hearing_allowed wide roomy goes kept room places slots id m is other note it s k at ne there =
+hearing_allowed wide roomy goes kept room terms places slots id m is other note it s k at ne there =
     let p = pen_at m in
     let told = told_of note in
     let w = Holder (while_hearing p told) in
     let here = at ∙ ap some is in
     let was : get_elem? s.views other ≡ some (Note told) = sym (set_else s.views id other w ne) ∙ (there ∙ ap some it) in
     let longer = longer_in_common p.known told k.meets.0 (k.meets.2.pens id p here).known (k.meets.2.notes other told was) in
-    let now = d wide roomy room places s k in
+    let now = d wide roomy room terms places s k in
     let same = weighs_on places s.views id p (while_hearing p told) here refl refl in
     let spent = weighs_set places (set s.views id w) other (Note told) (Note []) (there ∙ ap some it) in
     let within = k.weight in
     let heard : Desk = record now { views = set (set s.views id (Holder (after_hearing p told))) other (Note []) } in
-    viewed wide roomy room places s k (set (set s.views id w) other (Note []))
+    viewed wide roomy room terms places s k (set (set s.views id w) other (Note []))
     (subst (λ known. IsReached places room (record now { views = set (set s.views id (Holder (record (after_hearing p told) { known = known }))) other (Note []) })) (sym longer)
     (goes places room now heard (Hears id other) k.reached (p, told, here, was, refl)))
     (subst (λ known. MeetsRule (record now { views = set (set s.views id (Holder (record (after_hearing p told) { known = known }))) other (Note []) })) (sym longer)
@@ -96,18 +98,18 @@ hearing_allowed wide roomy goes kept room places slots id m is other note it s k
     (omega (arith, same, spent, within))
 
 pub copying_allowed : (wide : Bool) (roomy : ℕ → Type 0) → MovesReach → CopyingKeeps → CopyingAllowed wide roomy
-copying_allowed wide roomy goes kept room places id note it s k at =
-    let now = d wide roomy room places s k in
+copying_allowed wide roomy goes kept room terms places id note it s k at =
+    let now = d wide roomy room terms places s k in
     let told = told_of note in
     let copied : Desk = record now { views = set s.views id (Note told) ++ Note told ∷ [] } in
     let same = weighs_set places s.views id (Note told) (Note told) (at ∙ ap some it) in
     let more = weighs_more places (set s.views id (Note told)) (Note told) in
     let within = k.weight in
-    viewed wide roomy room places s k (set s.views id note ++ note ∷ [])
+    viewed wide roomy room terms places s k (set s.views id note ++ note ∷ [])
     (subst (λ (v : View). IsReached places room (record now { views = set s.views id v ++ v ∷ [] })) (sym it)
     (goes places room now copied (Copies id) k.reached (told, at ∙ ap some it, refl)))
-    (subst (λ (v : View). MeetsRule (record (d wide roomy room places s k) { views = set s.views id v ++ v ∷ [] })) (sym it)
-    (kept (d wide roomy room places s k) id (told_of note) k.meets (at ∙ ap some it)))
+    (subst (λ (v : View). MeetsRule (record (d wide roomy room terms places s k) { views = set s.views id v ++ v ∷ [] })) (sym it)
+    (kept (d wide roomy room terms places s k) id (told_of note) k.meets (at ∙ ap some it)))
     (subst (λ (v : View). DutiesAreKept (set s.views id v ++ v ∷ [])) (sym it)
     (quiet_more (set s.views id (Note told)) (Note told)
     (quiet_set s.views id (Note told) (Note told) k.duties (at ∙ ap some it) (note_quiet told) (note_quiet told))

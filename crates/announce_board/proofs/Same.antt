@@ -1,5 +1,5 @@
 -- What two steps, requests or answers have in common that are told by the same control, notice or journal.
-use Rattle.std.proofs.Common.{◌≡◌, ◌≢◌, ℕ, ◌+◌, Bool, true, false, List, [], ◌∷◌, ◌++◌, length, refl, length-append, ap, sym, ◌∙◌, arith}
+use Rattle.std.proofs.Common.{◌≡◌, ◌≢◌, ℕ, ◌+◌, ◌<◌, Bool, true, false, List, [], ◌∷◌, ◌++◌, length, refl, length-append, ap, sym, ◌∙◌, arith}
 use Rattle.std.specs.Prelude.{Option, Some, None, ◌==◌, if◌then◌else◌}
 use Rattle.pq_types.specs.Item.{Item}
 use Rattle.pq_types.specs.Asked.{Request, Operation}
@@ -7,6 +7,8 @@ use Rattle.pq_types.specs.Operation.{Asked}
 use Rattle.pq_types.specs.declared.request.Request.TheVariants as request
 use Rattle.pq_types.specs.Asked.{Answer}
 use Rattle.pq_types.specs.declared.answer.Answer.TheVariants as answer
+use Rattle.pq_types.specs.declared.answer.Refusal.{Refusal}
+use Rattle.pq_types.specs.declared.answer.Refusal.TheVariants as refusal
 use Rattle.pq_types.specs.Asked.{Reply}
 use Rattle.pq_types.specs.declared.answer.Reply.TheVariants as reply
 use Rattle.pq_types.specs.declared.control.Notice.{Notice}
@@ -14,17 +16,20 @@ use Rattle.pq_types.specs.declared.control.Control.{Control}
 use Rattle.pq_types.specs.declared.control.Control.TheVariants.{Answered}
 use Rattle.pq_types.specs.Control.{kind_of, request_item, answer_item, reply_item, outcome_of, posted, answered}
 use Rattle.pq_types.specs.Asked.{Line}
-use Rattle.pq_types.specs.History.{line_of, journal_after, journal_by, MayAnswer, MayDo}
-use Rattle.pq_book.specs.Book.{Volume}
+use Rattle.pq_types.specs.History.{line_of, journal_after, journal_by}
+use Rattle.desk_core.specs.Answering.{MayTellOf, MayTell}
+use Rattle.desk_core.specs.Home.{Home}
 use Rattle.desk_core.specs.Calls.{call_of, gained, gained_by}
 use Rattle.desk_core.specs.declared.model.Call.{Call}
-use Rattle.desk_core.specs.Desk.{volume, put}
+use Rattle.desk_core.specs.Desk.{put}
 use Rattle.desk_core.specs.Pen.{IsKept, told_full_by, after_apply, after_release_by}
 use Rattle.desk_core.specs.declared.model.Standing.{Standing}
 use Rattle.desk_core.specs.declared.model.Standing.TheVariants.{Idle, Waiting}
 use Rattle.desk_core.specs.declared.model.Due.{Due}
 use Rattle.desk_core.specs.declared.model.PenState.{PenState}
-use Rattle.announce_board.specs.Rule.{NoneIsRefused}
+use Rattle.announce_board.specs.Rule.{NoneIsRefused, Seated}
+use Rattle.announce_board.specs.Slots.{Slotted, with_book, says}
+use Rattle.announce_board.specs.Steps.{HasInSlot}
 
 -- a request of a kind, with the item that is known of it
 pub same_request : (q r : Request) (kept : Option Item) → kind_of q ≡ kind_of r → IsKept (request_item q) kept → IsKept (request_item r) kept → q ≡ r
@@ -67,12 +72,19 @@ pub same_answer : (a b : Answer) (kept : Option Item) → answered a ≡ answere
 same_answer (answer.Entered l q) (answer.Entered n r) kept e h j = same_entered l n q r kept e h j
 same_answer (answer.Entered l q) answer.BookFull kept e h j = absurd (cc e)
 same_answer (answer.Entered l q) answer.NoMemory kept e h j = absurd (cc e)
+same_answer (answer.Entered l q) (answer.Refused why) kept e h j = absurd (cc e)
 same_answer answer.BookFull (answer.Entered n r) kept e h j = absurd (cc e)
 same_answer answer.BookFull answer.BookFull kept e h j = refl
 same_answer answer.BookFull answer.NoMemory kept e h j = absurd (cc e)
+same_answer answer.BookFull (answer.Refused why) kept e h j = absurd (cc e)
 same_answer answer.NoMemory (answer.Entered n r) kept e h j = absurd (cc e)
 same_answer answer.NoMemory answer.BookFull kept e h j = absurd (cc e)
 same_answer answer.NoMemory answer.NoMemory kept e h j = refl
+same_answer answer.NoMemory (answer.Refused why) kept e h j = absurd (cc e)
+same_answer (answer.Refused why) (answer.Entered n r) kept e h j = absurd (cc e)
+same_answer (answer.Refused why) answer.BookFull kept e h j = absurd (cc e)
+same_answer (answer.Refused why) answer.NoMemory kept e h j = absurd (cc e)
+same_answer (answer.Refused why) (answer.Refused other) kept e h j = let f : why ≡ other = cc in ap answer.Refused f
 
 pub kind_posted : (serial : ℕ) (q r : Request) → posted serial q ≡ posted serial r → kind_of q ≡ kind_of r
 kind_posted serial q r e = cc
@@ -98,6 +110,7 @@ pub refused_alone : (a : Answer) → answered a ≡ answered answer.NoMemory →
 refused_alone (answer.Entered n r) e = absurd (cc e)
 refused_alone answer.BookFull e = absurd (cc e)
 refused_alone answer.NoMemory e = refl
+refused_alone (answer.Refused why) e = absurd (cc e)
 
 neither : (b : Bool) (c d : Control) → c ≢ answered answer.NoMemory → d ≢ answered answer.NoMemory → (if b then c else d) ≢ answered answer.NoMemory
 neither true c d h k = h
@@ -114,8 +127,14 @@ last_same (l ∷ ls) a b e = let f : ls ++ a ∷ [] ≡ ls ++ b ∷ [] = cc in l
 no_longer : (ls : List Line) (a : Line) → ls ++ a ∷ [] ≡ ls → ⊥
 no_longer ls a e = let f : length (ls ++ a ∷ []) ≡ length ls = ap length e in omega (arith, f, length-append ls (a ∷ []))
 
+-- where a rule refuses, there is room for a line
+pub room_left : (room : ℕ) (hand : List Line) (q : Operation) (why : Refusal) → MayTell room hand q (answer.Refused why) → length hand < room
+room_left room hand q refusal.Shut may = may.0
+room_left room hand q refusal.Unarchived may = may.0
+room_left room hand q refusal.Full may = may.0
+
 -- the call that an own request gains stands in the journal that it leaves
-same_gained : (room : ℕ) (hand : List Line) (place serial : ℕ) (q r : Operation) (a b : Answer) → MayDo room hand q a → MayDo room hand r b
+same_gained : (room : ℕ) (hand : List Line) (place serial : ℕ) (q r : Operation) (a b : Answer) → MayTell room hand q a → MayTell room hand r b
     → journal_by hand place serial q a ≡ journal_by hand place serial r b → gained_by serial q a ≡ gained_by serial r b
 same_gained room hand place serial q r (answer.Entered l x) (answer.Entered n y) may may' e =
     let f : line_of place serial q x ≡ line_of place serial r y = last_same hand (line_of place serial q x) (line_of place serial r y) e in
@@ -123,32 +142,46 @@ same_gained room hand place serial q r (answer.Entered l x) (answer.Entered n y)
     ap (λ k. call_of k serial q x ∷ []) g ∙ ap (λ (y : Line). call_of n y.serial y.operation y.reply ∷ []) f
 same_gained room hand place serial q r (answer.Entered l x) answer.BookFull may may' e = absurd (no_longer hand (line_of place serial q x) e)
 same_gained room hand place serial q r (answer.Entered l x) answer.NoMemory may may' e = absurd (no_longer hand (line_of place serial q x) e)
+same_gained room hand place serial q r (answer.Entered l x) (answer.Refused why) may may' e = absurd (no_longer hand (line_of place serial q x) e)
 same_gained room hand place serial q r answer.BookFull (answer.Entered n y) may may' e = absurd (no_longer hand (line_of place serial r y) (sym e))
 same_gained room hand place serial q r answer.BookFull answer.BookFull may may' e = refl
 same_gained room hand place serial q r answer.BookFull answer.NoMemory may may' e = refl
+same_gained room hand place serial q r answer.BookFull (answer.Refused why) may may' e = refl
 same_gained room hand place serial q r answer.NoMemory (answer.Entered n y) may may' e = absurd (no_longer hand (line_of place serial r y) (sym e))
 same_gained room hand place serial q r answer.NoMemory answer.BookFull may may' e = refl
 same_gained room hand place serial q r answer.NoMemory answer.NoMemory may may' e = refl
+same_gained room hand place serial q r answer.NoMemory (answer.Refused why) may may' e = refl
+same_gained room hand place serial q r (answer.Refused why) (answer.Entered n y) may may' e = absurd (no_longer hand (line_of place serial r y) (sym e))
+same_gained room hand place serial q r (answer.Refused why) answer.BookFull may may' e = refl
+same_gained room hand place serial q r (answer.Refused why) answer.NoMemory may may' e = refl
+same_gained room hand place serial q r (answer.Refused why) (answer.Refused other) may may' e = refl
 
 -- and whether it tells that the journal is full is seen there too
-same_full : (room : ℕ) (hand : List Line) (place serial : ℕ) (q r : Operation) (a b : Answer) (before : Bool) → MayDo room hand q a → MayDo room hand r b
+same_full : (room : ℕ) (hand : List Line) (place serial : ℕ) (q r : Operation) (a b : Answer) (before : Bool) → MayTell room hand q a → MayTell room hand r b
     → journal_by hand place serial q a ≡ journal_by hand place serial r b → told_full_by before a ≡ told_full_by before b
 same_full room hand place serial q r (answer.Entered l x) (answer.Entered n y) before may may' e = refl
 same_full room hand place serial q r (answer.Entered l x) answer.BookFull before may may' e = absurd (no_longer hand (line_of place serial q x) e)
 same_full room hand place serial q r (answer.Entered l x) answer.NoMemory before may may' e = absurd (no_longer hand (line_of place serial q x) e)
+same_full room hand place serial q r (answer.Entered l x) (answer.Refused why) before may may' e = absurd (no_longer hand (line_of place serial q x) e)
 same_full room hand place serial q r answer.BookFull (answer.Entered n y) before may may' e = absurd (no_longer hand (line_of place serial r y) (sym e))
 same_full room hand place serial q r answer.BookFull answer.BookFull before may may' e = refl
 same_full room hand place serial q r answer.BookFull answer.NoMemory before may may' e = absurd (let lt = may'.0 in omega (arith, may, lt))
+same_full room hand place serial q r answer.BookFull (answer.Refused why) before may may' e = absurd (let lt = room_left room hand r why may' in omega (arith, may, lt))
 same_full room hand place serial q r answer.NoMemory (answer.Entered n y) before may may' e = absurd (no_longer hand (line_of place serial r y) (sym e))
 same_full room hand place serial q r answer.NoMemory answer.BookFull before may may' e = absurd (let lt = may.0 in omega (arith, may', lt))
 same_full room hand place serial q r answer.NoMemory answer.NoMemory before may may' e = refl
+same_full room hand place serial q r answer.NoMemory (answer.Refused why) before may may' e = refl
+same_full room hand place serial q r (answer.Refused why) (answer.Entered n y) before may may' e = absurd (no_longer hand (line_of place serial r y) (sym e))
+same_full room hand place serial q r (answer.Refused why) answer.BookFull before may may' e = absurd (let lt = room_left room hand q why may in omega (arith, may', lt))
+same_full room hand place serial q r (answer.Refused why) answer.NoMemory before may may' e = refl
+same_full room hand place serial q r (answer.Refused why) (answer.Refused other) before may may' e = refl
 
 abbrev ended : PenState → List Call → Bool → List Line → ℕ → PenState
 ended p calls full journal now =
     record p { posts = p.posts + 1; standing = Idle None; mine = p.mine ++ calls; told_full = full; leading = false; known = journal; begins = p.begins ++ (p.posts + 1, now) ∷ []; ends = p.ends ++ (p.posts + 1, now + 1) ∷ []; steps = p.steps + 1 }
 
 -- and so does what the pen is afterwards
-pub same_ended : (now : ℕ) (p : PenState) (q r : Operation) (a b : Answer) → MayDo p.room p.hand q a → MayDo p.room p.hand r b
+pub same_ended : (now : ℕ) (p : PenState) (q r : Operation) (a b : Answer) → MayTell p.room p.hand q a → MayTell p.room p.hand r b
     → journal_by p.hand p.place (p.posts + 1) q a ≡ journal_by p.hand p.place (p.posts + 1) r b → after_release_by p q a now ≡ after_release_by p r b now
 same_ended now p q r a b may may' e =
     ap (λ c. ended p c (told_full_by p.told_full a) (journal_by p.hand p.place (p.posts + 1) q a) now) (same_gained p.room p.hand p.place (p.posts + 1) q r a b may may' e)
@@ -160,21 +193,23 @@ applied p calls full journal now =
     record p { posts = p.posts + 1; standing = Idle None; mine = p.mine ++ calls; told_full = full; hand = journal; begins = p.begins ++ (p.posts + 1, now) ∷ []; ends = p.ends ++ (p.posts + 1, now + 1) ∷ []; steps = p.steps + 1 }
 
 -- the same of a pen that goes on leading
-pub same_applied : (now : ℕ) (p : PenState) (q r : Request) (a b : Answer) → MayAnswer p.room p.hand q a → MayAnswer p.room p.hand r b
+pub same_applied : (now : ℕ) (p : PenState) (q r : Request) (a b : Answer) → MayTellOf p.room p.hand q a → MayTellOf p.room p.hand r b
     → journal_after p.hand p.place (p.posts + 1) q a ≡ journal_after p.hand p.place (p.posts + 1) r b → after_apply p q a now ≡ after_apply p r b now
 same_applied now p q r a b may may' e =
     ap (λ c. applied p c (told_full_by p.told_full a) (journal_after p.hand p.place (p.posts + 1) q a) now) (same_gained p.room p.hand p.place (p.posts + 1) (Asked q) (Asked r) a b may may' e)
     ∙ (ap (λ f. applied p (gained (p.posts + 1) r b) f (journal_after p.hand p.place (p.posts + 1) q a) now) (same_full p.room p.hand p.place (p.posts + 1) (Asked q) (Asked r) a b p.told_full may may' e)
     ∙ ap (λ j. applied p (gained (p.posts + 1) r b) (told_full_by p.told_full b) j now) e)
 
-abbrev journal_in : Option Volume → List Line
-journal_in None = []
-journal_in (Some b) = b.journal
+abbrev journal_in : Slotted → List Line
+journal_in (says terms) = []
+journal_in (with_book b) = b.journal
 
-abbrev first_journal : List (ℕ × Option Volume) → List Line
+abbrev first_journal : List (ℕ × Slotted) → List Line
 first_journal [] = []
 first_journal (x ∷ xs) = journal_in x.1
 
-pub same_book : (room : ℕ) (js ks : List Line) (others more l : List (ℕ × Option Volume))
-    → l ≡ (0, Some (volume room js)) ∷ others → l ≡ (0, Some (volume room ks)) ∷ more → js ≡ ks
-same_book room js ks others more l e f = sym (ap first_journal e) ∙ ap first_journal f
+-- the journal of the one Book in a slot
+pub same_book : (m : Seated) (js ks : List Line) (others more : List (ℕ × Slotted)) → HasInSlot m js others → HasInSlot m ks more → js ≡ ks
+same_book m js ks others more (b, b_is, held) (c, c_is, there) =
+    let journal : Home → List Line = λ h. h.journal in
+    sym (ap journal b_is) ∙ (sym (ap first_journal held) ∙ (ap first_journal there ∙ ap journal c_is))

@@ -1,5 +1,5 @@
 -- What serving a place comes to, in all its steps.
-use Rattle.std.proofs.Common.{◌≡◌, ◌≢◌, ℕ, ◌+◌, ◌<◌, Bool, true, false, List, [], ◌∷◌, ◌++◌, length, arith, refl, ap, sym, ◌∙◌, subst}
+use Rattle.std.proofs.Common.{◌≡◌, ◌≢◌, ℕ, ◌+◌, ◌<◌, Bool, true, false, true≢false, List, [], ◌∷◌, ◌++◌, length, arith, refl, ap, sym, ◌∙◌, subst}
 use Rattle.std.specs.Prelude.{Option, Some, None}
 use Rattle.std.proofs.lemmas.List.{length-append}
 use Rattle.std.specs.List.{AllByRecursion}
@@ -8,10 +8,15 @@ use Rattle.pq_types.specs.Asked.{Request}
 use Rattle.pq_types.specs.declared.request.Request.TheVariants.{Push, Pop, Least}
 use Rattle.pq_types.specs.Asked.{Answer}
 use Rattle.pq_types.specs.declared.answer.Answer.TheVariants as answer
+use Rattle.pq_types.specs.declared.answer.Refusal.{Refusal}
+use Rattle.pq_types.specs.declared.answer.Refusal.TheVariants as refusal
 use Rattle.pq_types.specs.Asked.{Line}
 use Rattle.pq_types.specs.Control.{answer_item}
-use Rattle.pq_types.specs.History.{line, MayAnswer, journal_after, last_serial}
-use Rattle.pq_book.specs.Book.{Volume}
+use Rattle.pq_types.specs.Operation.{Asked}
+use Rattle.pq_types.specs.History.{line, journal_after, last_serial, Limits, MayAnswer}
+use Rattle.pq_book.specs.Book.{Volume, limits_of, KeepsTerms}
+use Rattle.desk_core.specs.Answering.{MayTellOf, BooksDeal}
+use Rattle.desk_core.specs.Home.{Home, home_of}
 use Rattle.atomic_table.specs.Seated.{TableId}
 use Rattle.desk_core.specs.Desk.{volume}
 use Rattle.desk_core.specs.Pen.{after_answer, with_known}
@@ -28,6 +33,7 @@ use Rattle.announce_board.specs.Serving.{IsServing, FindsPosted, FindsNone, Serv
 use Rattle.announce_board.specs.Told.{AboveTheLast}
 use Rattle.desk_core.specs.Knows.{NoneAbove}
 use Rattle.announce_board.proofs.Looks.{pen_is}
+use Rattle.announce_board.proofs.Homes.{in_hand, may_tell, same_limits}
 
 -- what a pen has in its hand, and where it is
 abbrev Same : PenState → PenState → Type 0
@@ -55,35 +61,43 @@ hand_found words place p p' serial q h =
     let s = found_same words p place serial q in
     (ap (λ (r : PenState). r.hand) h.next ∙ s.1, ap (λ (r : PenState). r.room) h.next ∙ s.0.2)
 
-pub above_last : AboveTheLast → (words place : ℕ) (p p' : PenState) (serial : ℕ) (q : Request) (book : Volume) → FindsPosted words place p serial q p' → book ≡ volume p.room p.hand → last_serial place book.journal < serial
-above_last law words place p p' serial q book h e = subst (λ (b : Volume). last_serial place b.journal < serial) (sym e) (law place serial p.hand h.in_range h.above)
+pub above_last : AboveTheLast → (words place : ℕ) (p p' : PenState) (serial : ℕ) (q : Request) (book : Volume) → FindsPosted words place p serial q p' → home_of book ≡ volume p.room p.hand → last_serial place book.journal < serial
+above_last law words place p p' serial q book h e = subst (λ (b : Home). last_serial place b.journal < serial) (sym e) (law place serial p.hand h.in_range h.above)
 
 -- the pen still leads after a step that keeps its seat
 pub still_serving : (table : TableId) (places place : ℕ) (before after : Seated) → IsServing table places before place → StaysSeated before after → IsServing table places after place
 still_serving table places place before after h s = record { is = s.is; leads = s.leading ∙ h.leads; within = h.within; inside = h.inside }
 
-pub may_found : (words place : ℕ) (p p' : PenState) (serial : ℕ) (q : Request) (a : Answer) (book : Volume) → FindsPosted words place p serial q p' → book ≡ volume p.room p.hand → MayAnswer book.room book.journal q a
-    → MayAnswer p'.room p'.hand q a
-may_found words place p p' serial q a book h e may =
+pub may_found : BooksDeal → (words place : ℕ) (p p' : PenState) (serial : ℕ) (q : Request) (a : Answer) (book : Volume) → FindsPosted words place p serial q p' → home_of book ≡ volume p.room p.hand
+    → MayAnswer (limits_of book) book.journal q a → MayTellOf p'.room p'.hand q a
+may_found deals words place p p' serial q a book h e may =
     let s = hand_found words place p p' serial q h in
-    subst (λ r. MayAnswer r p'.hand q a) (sym s.1) (subst (λ j. MayAnswer p.room j q a) (sym s.0) (subst (λ (b : Volume). MayAnswer b.room b.journal q a) e may))
+    subst (λ r. MayTellOf r p'.hand q a) (sym s.1) (subst (λ j. MayTellOf p.room j q a) (sym s.0) (may_tell deals p.room p.hand book (Asked q) a e may))
+
+-- what a rule refuses, memory does not
+ruled : (limits : Limits) (hand : List Line) (q r : Request) (why : Refusal) → MayAnswer limits hand q (answer.Refused why) → MayAnswer limits hand r answer.NoMemory → ⊥
+ruled limits hand q r refusal.Shut may may' = true≢false (sym may.2 ∙ may'.0.heard may'.1)
+ruled limits hand q r refusal.Unarchived may may' = let lt = may'.0.kept in omega (arith, may.1, lt)
+ruled limits hand q r refusal.Full may may' = let lt = may'.0.below may'.1 in omega (arith, may.3, lt)
 
 -- the answer with which a place was served is another wherever it was another once
-other_answered : (room : ℕ) (hand : List Line) (place s t : ℕ) (q r : Request) (a b : Answer) → MayAnswer room hand q a → MayAnswer room hand r b
+other_answered : (limits : Limits) (hand : List Line) (place s t : ℕ) (q r : Request) (a b : Answer) → MayAnswer limits hand q a → MayAnswer limits hand r b
     → journal_after hand place s q a ≡ journal_after hand place t r b → a ≢ answer.NoMemory → b ≢ answer.NoMemory
-other_answered room hand place s t q r a (answer.Entered n x) may may' same other e = absurd (cc e)
-other_answered room hand place s t q r a answer.BookFull may may' same other e = absurd (cc e)
-other_answered room hand place s t q r (answer.Entered n x) answer.NoMemory may may' same other e =
+other_answered limits hand place s t q r a (answer.Entered n x) may may' same other e = absurd (cc e)
+other_answered limits hand place s t q r a answer.BookFull may may' same other e = absurd (cc e)
+other_answered limits hand place s t q r a (answer.Refused why) may may' same other e = absurd (cc e)
+other_answered limits hand place s t q r (answer.Entered n x) answer.NoMemory may may' same other e =
     let more = length-append hand (line place s q x ∷ []) in
     let as_long : length (hand ++ line place s q x ∷ []) ≡ length hand = ap length same in
     omega (arith, more, as_long)
-other_answered room hand place s t q r answer.BookFull answer.NoMemory may may' same other e = omega (arith, may, may'.0)
-other_answered room hand place s t q r answer.NoMemory answer.NoMemory may may' same other e = other refl
+other_answered limits hand place s t q r answer.BookFull answer.NoMemory may may' same other e = let lt = may'.0.space in omega (arith, may, lt)
+other_answered limits hand place s t q r answer.NoMemory answer.NoMemory may may' same other e = other refl
+other_answered limits hand place s t q r (answer.Refused why) answer.NoMemory may may' same other e = ruled limits hand q r why may may'
 
 serves_other : (words place : ℕ) (p p' : PenState) (book : Volume) (h : ServesBy words place p p' book) → h.answer ≢ answer.NoMemory → ServesOtherThanBy words answer.NoMemory place p p' book
 serves_other words place p p' book h other k =
-    other_answered p.room p.hand place h.serial k.serial h.request k.request h.answer k.answer h.may k.may
-    (ap (λ (b : Volume). b.journal) (sym h.book_is ∙ k.book_is)) other
+    other_answered (limits_of book) p.hand place h.serial k.serial h.request k.request h.answer k.answer h.may k.may
+    (ap (λ (b : Home). b.journal) (sym h.book_is ∙ k.book_is)) other
 
 -- a leader that answers acts
 still_active : (words : ℕ) (o : Option Item) (p : PenState) (due : Due) (q : Request) (a : Answer) → p.duty ≡ Active
@@ -121,33 +135,33 @@ module _ (words place : ℕ) (before between after : Seated) (serial : ℕ) (q :
     leading = ap (λ (r : PenState). r.leading) pen_next ∙ served_same.0.1;
   }
 
-  book_now : (old new : Volume) → old ≡ volume p.room p.hand → new.room ≡ old.room → new.journal ≡ journal_after old.journal place serial q a → new ≡ volume p.room (journal_after p.hand place serial q a)
-  book_now old new e room journal =
-      ap (λ r. volume r new.journal) (room ∙ ap (λ (b : Volume). b.room) e) ∙ ap (volume p.room) (journal ∙ ap (λ (b : Volume). journal_after b.journal place serial q a) e)
+  book_now : (old new : Volume) → home_of old ≡ volume p.room p.hand → KeepsTerms old new → new.journal ≡ journal_after old.journal place serial q a → home_of new ≡ volume p.room (journal_after p.hand place serial q a)
+  book_now old new e terms journal =
+      ap (λ r. volume r new.journal) (terms.0 ∙ ap (λ (b : Home). b.room) e) ∙ ap (volume p.room) (journal ∙ ap (λ (b : Home). journal_after b.journal place serial q a) e)
 
-  pub serves : (old new : Volume) → old ≡ volume p.room p.hand → new.room ≡ old.room → new.journal ≡ journal_after old.journal place serial q a → MayAnswer old.room old.journal q a
-      → ServesBy words place p (pen_at after) new
-  serves old new e room journal may = record {
+  pub serves : (old new : Volume) → home_of old ≡ volume p.room p.hand → KeepsTerms old new → new.allowed ≡ old.allowed → new.journal ≡ journal_after old.journal place serial q a
+      → MayAnswer (limits_of old) old.journal q a → ServesBy words place p (pen_at after) new
+  serves old new e terms allowed journal may = record {
     serial = serial;
     request = q;
     answer = a;
     in_range = h.in_range;
     above = h.above;
-    may = subst (λ (b : Volume). MayAnswer b.room b.journal q a) e may;
+    may = subst (λ l. MayAnswer l p.hand q a) (sym (same_limits old new terms allowed)) (in_hand p.room p.hand old (Asked q) a e may);
     next = pen_next;
-    book_is = book_now old new e room journal;
+    book_is = book_now old new e terms journal;
     last = h.last;
     own = h.own;
   }
 
-  pub serves_another : (old new : Volume) → old ≡ volume p.room p.hand → new.room ≡ old.room → new.journal ≡ journal_after old.journal place serial q a → MayAnswer old.room old.journal q a
-      → a ≢ answer.NoMemory → ServesOtherThanBy words answer.NoMemory place p (pen_at after) new
+  pub serves_another : (old new : Volume) → home_of old ≡ volume p.room p.hand → KeepsTerms old new → new.allowed ≡ old.allowed → new.journal ≡ journal_after old.journal place serial q a
+      → MayAnswer (limits_of old) old.journal q a → a ≢ answer.NoMemory → ServesOtherThanBy words answer.NoMemory place p (pen_at after) new
   unfolding serves
-  serves_another old new e room journal may other = serves_other words place p (pen_at after) new (serves old new e room journal may) other
+  serves_another old new e terms allowed journal may other = serves_other words place p (pen_at after) new (serves old new e terms allowed journal may) other
 
-  pub serves_hand : (old new : Volume) → old ≡ volume p.room p.hand → new.room ≡ old.room → new.journal ≡ journal_after old.journal place serial q a → new ≡ volume (pen_at after).room (pen_at after).hand
-  serves_hand old new e room journal =
-      book_now old new e room journal ∙ (ap (λ r. volume r (journal_after p.hand place serial q a)) (sym (ap (λ (r : PenState). r.room) pen_next ∙ served_same.0.2))
+  pub serves_hand : (old new : Volume) → home_of old ≡ volume p.room p.hand → KeepsTerms old new → new.journal ≡ journal_after old.journal place serial q a → home_of new ≡ volume (pen_at after).room (pen_at after).hand
+  serves_hand old new e terms journal =
+      book_now old new e terms journal ∙ (ap (λ r. volume r (journal_after p.hand place serial q a)) (sym (ap (λ (r : PenState). r.room) pen_next ∙ served_same.0.2))
       ∙ ap (volume (pen_at after).room) (sym (ap (λ (r : PenState). r.hand) pen_next ∙ served_same.1)))
 
 -- serving takes two steps or more
@@ -170,10 +184,10 @@ passes_other words place p p' book a h k e =
     omega (arith, once, twice, served_steps words p place k.serial k.request k.answer)
 
 -- where nothing stood posted
-pub passes : (place : ℕ) (p p' : PenState) (book : Volume) → FindsNone place p p' → book ≡ volume p.room p.hand → Passes place p p' book
+pub passes : (place : ℕ) (p p' : PenState) (book : Volume) → FindsNone place p p' → home_of book ≡ volume p.room p.hand → Passes place p p' book
 passes place p p' book h e = record { control = h.control; not_posted = h.not_posted; next = h.next; book_is = e; own = h.own }
 
-pub passes_hand : (place : ℕ) (p p' : PenState) (book : Volume) → FindsNone place p p' → book ≡ volume p.room p.hand → book ≡ volume p'.room p'.hand
+pub passes_hand : (place : ℕ) (p p' : PenState) (book : Volume) → FindsNone place p p' → home_of book ≡ volume p.room p.hand → home_of book ≡ volume p'.room p'.hand
 passes_hand place p p' book h e = e ∙ ap (λ (r : PenState). volume r.room r.hand) (sym h.next)
 
 found_posts : (words : ℕ) (p : PenState) (place serial : ℕ) (q : Request) → (found_posted_by words p place serial q).posts ≡ p.posts
@@ -193,6 +207,7 @@ after_below : (place n k s : ℕ) (q : Request) (a : Answer) (hand : List Line) 
 after_below place n k s q (answer.Entered l r) hand h f = all_more (λ (l : Line). place ≡ l.place → l.serial < n + 1) hand (line k s q r) h f
 after_below place n k s q answer.BookFull hand h f = h
 after_below place n k s q answer.NoMemory hand h f = h
+after_below place n k s q (answer.Refused why) hand h f = h
 
 -- a lead keeps what it knows of the serials of its own place
 pub serves_used : (words : ℕ) (b : Bool) (place : ℕ) (p p' : PenState) (book : Volume) → ServesWhereBy words b place p p' book → NoneAbove p.place p.posts p.hand → NoneAbove p'.place p'.posts p'.hand

@@ -23,7 +23,7 @@ pub licence_quiet : (n : ℕ) → IsQuiet (Testimony [] n)
 licence_quiet n = testimony_quiet [] n (λ k p at gone. cc at)
 
 pub sleep_allowed : (wide : Bool) (roomy : ℕ → Type 0) → ReachedMeetRule → MovesReach → SleepAllowed wide roomy
-sleep_allowed wide roomy meet goes room places slots id m is new s k at =
+sleep_allowed wide roomy meet goes room terms places slots id m is new s k at =
     let p = pen_at m in
     let w = after_sleeping p in
     let has = at ∙ ap some is in
@@ -31,7 +31,7 @@ sleep_allowed wide roomy meet goes room places slots id m is new s k at =
     let views = set s.views id (Holder w) ++ Testimony [] 1 ∷ [] in
     let same = weighs_asleep places s.views id p has refl in
     let within = k.weight in
-    viewed wide roomy meet room places s k views
+    viewed wide roomy meet room terms places s k views
     (goes places room now (record now { views = views }) (Sleeps id) k.reached (p, has, ap (λ (x : PenState). x.leading) new, refl))
     (quiet_more (set s.views id (Holder w)) (Testimony [] 1)
     (quiet_set s.views id (Holder p) (Holder w) k.duties has (pen_quiet p refl) (sleeper_quiet p new))
@@ -39,7 +39,7 @@ sleep_allowed wide roomy meet goes room places slots id m is new s k at =
     (omega (arith, same, within))
 
 pub wake_allowed : (wide : Bool) (roomy : ℕ → Type 0) → ReachedMeetRule → MovesReach → WakeAllowed wide roomy
-wake_allowed wide roomy meet goes room places id v other w n is it some_left s k at ne there =
+wake_allowed wide roomy meet goes room terms places id v other w n is it some_left s k at ne there =
     let p = pen_of v in
     let awake = after_waking p in
     let sleeper = after_sleeping p in
@@ -50,7 +50,7 @@ wake_allowed wide roomy meet goes room places id v other w n is it some_left s k
     let less = weighs_woken places s.views id other (Holder sleeper) p n has refl licence ne some_left in
     let within = k.weight in
     let as_new : sleeper ≡ after_sleeping (new_pen p.room p.place) = k.duties.new id sleeper has refl in
-    viewed wide roomy meet room places s k views
+    viewed wide roomy meet room terms places s k views
     (goes places room now (record now { views = views }) (Wakes id other) k.reached (sleeper, n, has, licence, ne, refl))
     (quiet_set (set s.views id (Holder awake)) other (Testimony [] n) (Testimony [] 0)
     (quiet_set s.views id (Holder sleeper) (Holder awake) k.duties has

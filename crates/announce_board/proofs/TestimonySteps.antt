@@ -1,11 +1,11 @@
 -- Testimonies keep the rule of the table, and are true.
 use Rattle.std.proofs.Common.{◌≡◌, ℕ, ◌≤◌, Bool, List, [], ◌∷◌, ◌++◌, set, refl, ap, sym, ◌∙◌, subst, arith}
-use Rattle.std.specs.Prelude.{Option}
 use mathlib.Core.Option.{some}
 use lib.ListN.{get_elem?}
 use Rattle.atomic_table.specs.Table.{State, keeps}
 use Rattle.atomic_table.proofs.Lists.{set_else, set_again}
-use Rattle.pq_book.specs.Book.{Volume}
+use Rattle.announce_board.specs.declared.terms.Terms.{Terms}
+use Rattle.announce_board.specs.Slots.{Slotted}
 use Rattle.desk_core.specs.Dealing.{IsReached, Testifies, Retires, Gathers, ReachedMeetRule, MovesReach}
 use Rattle.desk_core.specs.Desk.{Desk}
 use Rattle.desk_core.specs.Layout.{lock_at, Loaded}
@@ -25,10 +25,10 @@ use Rattle.announce_board.proofs.Retiring.{one_alone}
 use Rattle.announce_board.proofs.Weights.{weighs_more, weighs_all_active, weighs_retired, weighs_gathered}
 
 -- the views alone have changed
-pub viewed : (wide : Bool) (roomy : ℕ → Type 0) → ReachedMeetRule → (room places : ℕ) (s : State (Option Volume) View) (k : Keeps wide roomy room places s) (views : List View)
+pub viewed : (wide : Bool) (roomy : ℕ → Type 0) → ReachedMeetRule → (room : ℕ) (terms : Terms) (places : ℕ) (s : State Slotted View) (k : Keeps wide roomy room terms places s) (views : List View)
     → IsReached places room (record (desk_of room places k.held k.control k.cells s.homes s.views) { views = views }) → DutiesAreKept views → weight_of places views ≤ places
-    → Keeps wide roomy room places record { words = s.words; homes = s.homes; views = views }
-viewed wide roomy meet room places s k views reached duties weight =
+    → Keeps wide roomy room terms places record { words = s.words; homes = s.homes; views = views }
+viewed wide roomy meet room terms places s k views reached duties weight =
     record {
       held = k.held;
       control = k.control;
@@ -40,6 +40,7 @@ viewed wide roomy meet room places s k views reached duties weight =
       duties = duties;
       weight = weight;
       memory = k.memory;
+      bounded = k.bounded;
     }
 
 -- a testimony of a pen that acts
@@ -52,7 +53,7 @@ active_testimony p active =
     cc))
 
 pub testify_allowed : (wide : Bool) (roomy : ℕ → Type 0) → ReachedMeetRule → MovesReach → TestifyAllowed wide roomy
-testify_allowed wide roomy meet goes room places slots id m is s k at =
+testify_allowed wide roomy meet goes room terms places slots id m is s k at =
     let p = pen_at m in
     let has = at ∙ ap some is in
     let now = desk_of room places k.held k.control k.cells s.homes s.views in
@@ -63,7 +64,7 @@ testify_allowed wide roomy meet goes room places slots id m is s k at =
     let within = k.weight in
     let same : set s.views id m.0 ≡ s.views = set_again s.views id m.0 at in
     let as_before : weight_of places (set s.views id m.0) ≡ weight_of places s.views = ap (weight_of places) same in
-    viewed wide roomy meet room places s k (set s.views id m.0 ++ last ∷ [])
+    viewed wide roomy meet room terms places s k (set s.views id m.0 ++ last ∷ [])
     (subst (λ (v : View). IsReached places room (record now { views = set s.views id v ++ last ∷ [] })) (sym is)
     (goes places room now given (Testifies id) k.reached (p, has, refl)))
     (quiet_more (set s.views id m.0) last (subst DutiesAreKept (sym same) k.duties) (active_testimony p refl))
@@ -71,7 +72,7 @@ testify_allowed wide roomy meet goes room places slots id m is s k at =
 
 -- a pen may retire that does not lead
 pub retire_allowed : (wide : Bool) (roomy : ℕ → Type 0) → ReachedMeetRule → MovesReach → RetireAllowed wide roomy
-retire_allowed wide roomy meet goes room places slots id m is idle s k at =
+retire_allowed wide roomy meet goes room terms places slots id m is idle s k at =
     let p = pen_at m in
     let w = after_retiring p in
     let has = at ∙ ap some is in
@@ -79,13 +80,13 @@ retire_allowed wide roomy meet goes room places slots id m is idle s k at =
     let views = set s.views id (Holder w) ++ Testimony (w ∷ []) 0 ∷ [] in
     let same = weighs_retired places s.views id p has refl in
     let within = k.weight in
-    viewed wide roomy meet room places s k views
+    viewed wide roomy meet room terms places s k views
     (goes places room now (record now { views = views }) (Retires id) k.reached (p, has, idle, refl))
     (retires s.views id p k.duties has refl idle (λ seat q there here. k.meets.2.seated.apart seat id q p there has here))
     (omega (arith, same, within))
 
 pub gather_allowed : (wide : Bool) (roomy : ℕ → Type 0) → ReachedMeetRule → MovesReach → GatherAllowed wide roomy
-gather_allowed wide roomy meet goes room places id v other w is it s k at ne there =
+gather_allowed wide roomy meet goes room terms places id v other w is it s k at ne there =
     let now = desk_of room places k.held k.control k.cells s.homes s.views in
     let both = both_testify v w in
     let views = set (set s.views id both) other (Testimony [] 0) in
@@ -93,14 +94,14 @@ gather_allowed wide roomy meet goes room places id v other w is it s k at ne the
     let second : get_elem? s.views other ≡ some (testimony_at w) = sym (set_else s.views id other both ne) ∙ (there ∙ ap some it) in
     let same = weighs_gathered places s.views id other (pens_of v) (pens_of w) (licences_of v) (licences_of w) here second ne in
     let within = k.weight in
-    viewed wide roomy meet room places s k views
+    viewed wide roomy meet room terms places s k views
     (goes places room now (record now { views = views }) (Gathers id other) k.reached
     (pens_of v, pens_of w, licences_of v, licences_of w, here, second, ne, refl))
     (gathers s.views id other (pens_of v) (pens_of w) (licences_of v) (licences_of w) k.duties here second ne)
     (omega (arith, same, within))
 
 pub compare_allowed : (wide : Bool) (roomy : ℕ → Type 0) → TestimoniesAreTrue → Loaded → CompareAllowed wide roomy
-compare_allowed wide roomy truth loaded room places slots id m is s k long at small =
+compare_allowed wide roomy truth loaded room terms places slots id m is s k long at small =
     let same : set s.views id m.0 ≡ s.views = set_again s.views id m.0 at in (
       m.0,
       keeps,
@@ -116,6 +117,7 @@ compare_allowed wide roomy truth loaded room places slots id m is s k long at sm
         duties = subst DutiesAreKept (sym same) k.duties;
         weight = subst (λ v. weight_of places v ≤ places) (sym same) k.weight;
         memory = k.memory;
+        bounded = k.bounded;
       },
       (
         refl,

@@ -9,18 +9,20 @@ use Rattle.pq_types.specs.Asked.{Request}
 use Rattle.pq_types.specs.declared.request.Request.TheVariants.{Push, Pop, Least}
 use Rattle.pq_types.specs.Asked.{Reply}
 use Rattle.pq_types.specs.Asked.{Answer}
-use Rattle.pq_types.specs.declared.answer.Answer.TheVariants.{Entered, BookFull, NoMemory}
+use Rattle.pq_types.specs.declared.answer.Answer.TheVariants.{Entered, BookFull, NoMemory, Refused}
+use Rattle.pq_types.specs.declared.answer.Refusal.TheVariants.{Shut, Unarchived, Full}
 use Rattle.pq_types.specs.declared.control.Outcome.{Outcome}
 use Rattle.pq_types.specs.declared.control.Notice.TheVariants as notice
 use Rattle.pq_types.specs.declared.control.Control.{Control}
 use Rattle.pq_types.specs.declared.control.Control.TheVariants.{Answered}
 use Rattle.pq_types.specs.Asked.{Line}
 use Rattle.pq_types.specs.Asked.{Operation}
-use Rattle.pq_types.specs.Operation.{Asked, ByTicket, ticket_of, request_of}
+use Rattle.pq_types.specs.Operation.{Asked, ByTicket, Shuts, ticket_of, request_of}
 use Rattle.pq_types.specs.Queue.{reply_to}
 use Rattle.pq_types.specs.Entry.{Entry, item_of, item_at, taken, entries_after, reply_by}
 use Rattle.pq_types.specs.Control.{answer_item, posted, answered, is_posted, Carries}
-use Rattle.pq_types.specs.History.{IsLegalFrom, entries_of, last_serial, MayDo}
+use Rattle.pq_types.specs.History.{IsLegalFrom, entries_of, last_serial}
+use Rattle.desk_core.specs.Answering.{MayTell}
 use Rattle.pq_types.specs.Mail.{IsProperAnswerOf}
 use Rattle.desk_core.specs.Beyond.{AnswersAreBeyond}
 use Rattle.desk_core.specs.Calls.{call, calls_of}
@@ -29,7 +31,7 @@ use Rattle.desk_core.specs.Desk.{Desk, Has, with_pen}
 use Rattle.desk_core.specs.Clauses.{RuleGivesClauses, AnswerClause, ItemsClause, JournalClause}
 use Rattle.desk_core.specs.Keeping.{ReadKeeps, DueIsNew}
 use Rattle.desk_core.specs.Pen.{IsIdle, due_to, due_at, after_read, told_full_by, after_apply, after_release_by}
-use Rattle.desk_core.specs.Rule.{MeetsRule, Stands, fresh, idle, unanswered, entered, full, refused}
+use Rattle.desk_core.specs.Rule.{MeetsRule, Stands, fresh, idle, unanswered, entered, full, barred, refused}
 use Rattle.desk_core.specs.declared.model.Call.{Call}
 use Rattle.desk_core.specs.declared.model.Standing.{Standing}
 use Rattle.desk_core.specs.declared.model.Standing.TheVariants.{Idle, Waiting}
@@ -54,6 +56,7 @@ taken_fits (Some x) = inr (x, refl)
 line_fits : (es : List Entry) (o : Operation) → IsReplyTo (request_of o) (reply_by es o)
 line_fits es (Asked q) = reply_fits (map item_of es) q
 line_fits es (ByTicket ticketed) = taken_fits (item_at (ticket_of ticketed) es)
+line_fits es Shuts = inl refl
 
 -- each line of a legal journal has a reply to its operation
 legal_fits : (es : List Entry) (n : ℕ) (journal : List Line) (i : ℕ) (l : Line) → IsLegalFrom es n journal → slice_get journal i ≡ Some l
@@ -70,14 +73,20 @@ answer_fits room journal p request (Entered number reply) lawful told h =
     (h.0, omega (arith, h.0.0, slice_get_within journal (number - 1) _ h.1, lawful.within, told), legal_fits [] 1 journal (number - 1) _ lawful.legal h.1)
 answer_fits room journal p request BookFull lawful told h = tt
 answer_fits room journal p request NoMemory lawful told h = h.0
+answer_fits room journal p request (Refused Shut) lawful told h = h.0
+answer_fits room journal p request (Refused Unarchived) lawful told h = tt
+answer_fits room journal p request (Refused Full) lawful told h = h.0
 
 -- what an operation of the pen's own may be answered is an answer to it
-pub own_answer_fits : (wide : Bool) (room : ℕ) (hand : List Line) (operation : Operation) (a : Answer) → MayDo room hand operation a → IsProperAnswerOf wide a
+pub own_answer_fits : (wide : Bool) (room : ℕ) (hand : List Line) (operation : Operation) (a : Answer) → MayTell room hand operation a → IsProperAnswerOf wide a
     → IsAnswerBy room operation a
 own_answer_fits wide room hand operation (Entered number reply) may proper =
     (proper.0, omega (arith, may.0, may.1), subst (IsReplyTo (request_of operation)) (sym may.2) (line_fits (entries_of hand) operation))
 own_answer_fits wide room hand operation BookFull may proper = tt
 own_answer_fits wide room hand operation NoMemory may proper = may.1
+own_answer_fits wide room hand operation (Refused Shut) may proper = may.1
+own_answer_fits wide room hand operation (Refused Unarchived) may proper = tt
+own_answer_fits wide room hand operation (Refused Full) may proper = may.1
 
 -- the item of an answer that stands in a waiting pen's record
 carries : (d : Desk) (journal : List Line) (p : PenState) (request : Request) (a : Answer) → ItemsClause d journal p
@@ -85,6 +94,7 @@ carries : (d : Desk) (journal : List Line) (p : PenState) (request : Request) (a
 carries d journal p request (Entered number reply) items waits e clause = items.answered request number reply waits e clause.1
 carries d journal p request BookFull items waits e clause = tt
 carries d journal p request NoMemory items waits e clause = tt
+carries d journal p request (Refused why) items waits e clause = tt
 
 -- what holds of each element holds of all
 all_by_get : {A : Type 0} (P : A → Type 0) (xs : List A) → ((i : ℕ) (x : A) → slice_get xs i ≡ Some x → P x) → AllByRecursion P xs
@@ -120,6 +130,7 @@ module _ (room : ℕ) (journal : List Line) (control : Control) (cell : Item) (p
       (q, r, seen ∙ ap (λ n. mine ++ call n posts q r ∷ []) g)
   entered_call number o e (full q s some at all seen) = absurd (let f : answered BookFull ≡ Answered (notice.Entered number o) = sym at ∙ e in cc f)
   entered_call number o e (refused q s some push at seen) = absurd (let f : answered NoMemory ≡ Answered (notice.Entered number o) = sym at ∙ e in cc f)
+  entered_call number o e (barred q why s some both at seen) = absurd (let f : answered (Refused why) ≡ Answered (notice.Entered number o) = sym at ∙ e in cc f)
 
 -- what the rule tells of the line of an entered answer
 behind_all : NumbersRise → (d : Desk) (seat : ℕ) (p : PenState) (request : Request) → MeetsRule d → Has d.views seat p → p.standing ≡ Waiting request
@@ -137,17 +148,17 @@ pub applied_full : (p : PenState) (request : Request) (a : Answer) (now : ℕ) �
 applied_full p request a now e = ap (told_full_by p.told_full) e
 
 -- who was told so before is not entered
-pub own_barred : (p : PenState) (operation : Operation) (a : Answer) → Knows p.room p p.hand → MayDo p.room p.hand operation a → IsFullFor p
+pub own_barred : (p : PenState) (operation : Operation) (a : Answer) → Knows p.room p p.hand → MayTell p.room p.hand operation a → IsFullFor p
     → (number : ℕ) (reply : Reply) → a ≢ Entered number reply
 own_barred p operation a knows may f number reply e =
-    let m : MayDo p.room p.hand operation (Entered number reply) = subst (MayDo p.room p.hand operation) e may in
+    let m : MayTell p.room p.hand operation (Entered number reply) = subst (MayTell p.room p.hand operation) e may in
     let lt = m.0 in
     omega (arith, lt, knows.filled f)
 
-pub own_behind : CallsAreLines → (p : PenState) (operation : Operation) (a : Answer) → Knows p.room p p.hand → IsIdle p.standing → MayDo p.room p.hand operation a
+pub own_behind : CallsAreLines → (p : PenState) (operation : Operation) (a : Answer) → Knows p.room p p.hand → IsIdle p.standing → MayTell p.room p.hand operation a
     → (number : ℕ) (reply : Reply) → a ≡ Entered number reply → IsAboveAll number p.mine
 own_behind lines p operation a knows free may number reply e =
-    let m : MayDo p.room p.hand operation (Entered number reply) = subst (MayDo p.room p.hand operation) e may in
+    let m : MayTell p.room p.hand operation (Entered number reply) = subst (MayTell p.room p.hand operation) e may in
     all_by_get (λ (c : Call). c.number < number) p.mine
     (λ i c at. let h = (lines p.place p.hand p.mine (knows.idle free) i c at).within in omega (arith, h, m.1))
 

@@ -1,6 +1,7 @@
 -- Each step keeps the rule of the table, and so may be taken: one statement for each kind, of the
 -- index and the word of the step. What `roomy` says stands at `Keeps`.
 use Rattle.std.specs.Prelude.{◌≡◌, ◌≢◌, ℕ, ◌+◌, ◌<◌, ◌==◌, ◌⊎◌, Bool, true, List, [], ◌∷◌, length, slice_index, Option, Some, None}
+use mathlib.Core.Option as home
 use mathlib.Core.Option.{some, none}
 use lib.ListN.{get_elem?}
 use prog.Atomic.{either}
@@ -16,10 +17,9 @@ use Rattle.pq_types.specs.declared.control.Control.TheVariants.{Answered}
 use Rattle.pq_types.specs.declared.journal.TheConstants.{GREATEST_NUMBER}
 use Rattle.pq_types.specs.Queue.{IsProperRequestOf}
 use Rattle.pq_types.specs.Control.{kind_of, request_item, answer_item, notice_has_item, posted, answered}
-use Rattle.pq_types.specs.History.{MayAnswer, MayDo}
+use Rattle.desk_core.specs.Answering.{MayTellOf, MayTell}
 use Rattle.pq_types.specs.Mail.{control_word}
-use Rattle.pq_book.specs.Book.{Volume}
-use Rattle.desk_core.specs.Desk.{Desk, volume}
+use Rattle.desk_core.specs.Desk.{Desk}
 use Rattle.desk_core.specs.Looking.{Looked, sights_of}
 use Rattle.desk_core.specs.Steps.{Event, Releases, actor, Step}
 use Rattle.desk_core.specs.declared.model.View.{View}
@@ -30,143 +30,145 @@ use Rattle.desk_core.specs.declared.model.Standing.TheVariants.{Idle, Waiting}
 use Rattle.desk_core.specs.declared.model.Due.{Due}
 use Rattle.desk_core.specs.declared.model.View.TheVariants.{Holder}
 use Rattle.announce_board.specs.Rule.{Keeps, Seated, desk_of}
+use Rattle.announce_board.specs.declared.terms.Terms.{Terms}
+use Rattle.announce_board.specs.Slots.{MeetsTerms, Slotted, says}
 use Rattle.announce_board.specs.Steps.{pen_at, Drafted, PostStored, LockRead, LockTried}
 use Rattle.announce_board.specs.Steps.{MailRead, ItemRead, ItemLaid, AnswerStored, Released}
-use Rattle.announce_board.specs.Steps.{BringsHome, BringsHomeBy, Applied, ReleasedWith, AnswerLooked, ItemSeen, ItemTaken}
+use Rattle.announce_board.specs.Steps.{HasInSlot, BringsHome, BringsHomeBy, Applied, ReleasedWith, AnswerLooked, ItemSeen, ItemTaken}
 
 -- how it is said that a step of the seat m is allowed, and tells this: a step on the word at an index, of which it makes f
 -- of what the word was
 abbrev pub Form : Type 1
-Form = Bool → (ℕ → Type 0) → (room places slots id : ℕ) → Seated → ℕ → (ℕ → ℕ) → (ℕ → Seated → Type 0) → Type 0
+Form = Bool → (ℕ → Type 0) → (room : ℕ) (terms : Terms) (places slots id : ℕ) → Seated → ℕ → (ℕ → ℕ) → (ℕ → Seated → Type 0) → Type 0
 
 -- as the table asks
 abbrev pub Plainly : Form
-Plainly wide roomy room places slots id m i f then = Allows (Keeps wide roomy room places) slots id m i f then
+Plainly wide roomy room terms places slots id m i f then = Allows (Keeps wide roomy room terms places) slots id m i f then
 
 -- the desk as which a table stands that keeps the rule
-abbrev pub desk_in : {wide : Bool} {roomy : ℕ → Type 0} {room places : ℕ} {s : State (Option Volume) View}
-    → Keeps wide roomy room places s → Desk
+abbrev pub desk_in : {wide : Bool} {roomy : ℕ → Type 0} {room : ℕ} {terms : Terms} {places : ℕ} {s : State Slotted View}
+    → Keeps wide roomy room terms places s → Desk
 desk_in {wide} {roomy} {room} {places} {s} k = desk_of room places k.held k.control k.cells s.homes s.views
 
 -- As the table asks, and the step is one of the machine, by the pen at this seat: it leads from the desk as which the table
 -- stood to the one as which it stands then; or it changes nothing of that desk.
 abbrev pub AsMove : Form
-AsMove wide roomy room places slots id m i f then =
-    (s : State (Option Volume) View) (k : Keeps wide roomy room places s) → length s.homes ≡ slots
+AsMove wide roomy room terms places slots id m i f then =
+    (s : State Slotted View) (k : Keeps wide roomy room terms places s) → length s.homes ≡ slots
     → get_elem? s.views id ≡ some m.0 → slice_index s.words i < 18446744073709551616
-    → (w : View) × (a : Act (Option Volume)) × Valid s.homes m.1 a
-    × (k' : Keeps wide roomy room places (stepped s i (f (slice_index s.words i)) id m.1 w a))
+    → (w : View) × (a : Act Slotted) × Valid s.homes m.1 a
+    × (k' : Keeps wide roomy room terms places (stepped s i (f (slice_index s.words i)) id m.1 w a))
     × (((e : Event) × (actor e ≡ id) × Step (desk_in k) e (desk_in k')) ⊎ (desk_in k' ≡ desk_in k))
     × then (slice_index s.words i) (w, carried_after m.1 a)
 
 -- As the table asks, and the step is a look without a request by the pen at this seat: the machine's release, of which it is seen
 -- that the pen of this place finds the journal in its hand.
 abbrev pub AsLook : Form
-AsLook wide roomy room places slots id m i f then =
-    (s : State (Option Volume) View) (k : Keeps wide roomy room places s) → length s.homes ≡ slots
+AsLook wide roomy room terms places slots id m i f then =
+    (s : State Slotted View) (k : Keeps wide roomy room terms places s) → length s.homes ≡ slots
     → get_elem? s.views id ≡ some m.0 → slice_index s.words i < 18446744073709551616
-    → (w : View) × (a : Act (Option Volume)) × Valid s.homes m.1 a
-    × (k' : Keeps wide roomy room places (stepped s i (f (slice_index s.words i)) id m.1 w a))
+    → (w : View) × (a : Act Slotted) × Valid s.homes m.1 a
+    × (k' : Keeps wide roomy room terms places (stepped s i (f (slice_index s.words i)) id m.1 w a))
     × ((step : Step (desk_in k) (Releases id) (desk_in k'))
     × (sights_of (desk_in k) (Releases id) (desk_in k') step ≡ Looked (pen_at m).place (pen_at m).hand ∷ []))
     × then (slice_index s.words i) (w, carried_after m.1 a)
 
 -- what follows holds of every desk, and of each seat of it that is a pen's
-abbrev pub AtEachPen : (ℕ → ℕ → ℕ → ℕ → Seated → Type 0) → Type 0
-AtEachPen F = (room places slots id : ℕ) (m : Seated) → m.0 ≡ Holder (pen_at m) → F room places slots id m
+abbrev pub AtEachPen : (ℕ → Terms → ℕ → ℕ → ℕ → Seated → Type 0) → Type 0
+AtEachPen F = (room : ℕ) (terms : Terms) (places slots id : ℕ) (m : Seated) → m.0 ≡ Holder (pen_at m) → F room terms places slots id m
 
 abbrev pub DraftAllowedBy : Form → Bool → (ℕ → Type 0) → Type 0
-DraftAllowedBy A wide roomy = AtEachPen (λ room places slots id m. (index word j : ℕ) (x : Item)
+DraftAllowedBy A wide roomy = AtEachPen (λ room terms places slots id m. (index word j : ℕ) (x : Item)
     → index ≡ item_at (pen_at m).place + j → word ≡ word_of wide j x → j < word_number wide → IsIdle (pen_at m).standing
     → IsItemOf wide x
-    → A wide roomy room places slots id m index (λ _. word)
+    → A wide roomy room terms places slots id m index (λ _. word)
     (λ _. Drafted wide (step slots index word 0 none) m word))
 
 abbrev pub PostAllowedBy : Form → Bool → (ℕ → Type 0) → Type 0
-PostAllowedBy A wide roomy = AtEachPen (λ room places slots id m. (index word : ℕ) (request : Request) (draft : Option Item)
+PostAllowedBy A wide roomy = AtEachPen (λ room terms places slots id m. (index word : ℕ) (request : Request) (draft : Option Item)
     → index ≡ control_at (pen_at m).place → word ≡ control_word (posted ((pen_at m).posts + 1) request)
     → (pen_at m).standing ≡ Idle draft
     → (pen_at m).posts < GREATEST_NUMBER → IsProperRequestOf true request → IsKept (request_item request) draft
-    → A wide roomy room places slots id m index (λ _. word) (λ _. PostStored (step slots index word 0 none) m word))
+    → A wide roomy room terms places slots id m index (λ _. word) (λ _. PostStored (step slots index word 0 none) m word))
 
 abbrev pub LockReadAllowedBy : Form → Bool → (ℕ → Type 0) → Type 0
-LockReadAllowedBy A wide roomy = AtEachPen (λ room places slots id m.
-    A wide roomy room places slots id m lock_at (λ n. n) (LockRead (step slots lock_at 0 0 none) m))
+LockReadAllowedBy A wide roomy = AtEachPen (λ room terms places slots id m.
+    A wide roomy room terms places slots id m lock_at (λ n. n) (LockRead (step slots lock_at 0 0 none) m))
 
 abbrev pub TryAllowedBy : Form → Bool → (ℕ → Type 0) → Type 0
-TryAllowedBy A wide roomy = AtEachPen (λ room places slots id m.
-    A wide roomy room places slots id m lock_at
-    (λ n. either (n == 0) 1 n) (LockTried (step slots lock_at 0 1 none) m))
+TryAllowedBy A wide roomy = AtEachPen (λ room terms places slots id m. (said : home.Option Slotted) → said ≡ some (says terms)
+    → A wide roomy room terms places slots id m lock_at
+    (λ n. either (n == 0) 1 n) (LockTried (step slots lock_at 0 1 said) m))
 
 abbrev pub MailReadAllowedBy : Form → Bool → (ℕ → Type 0) → Type 0
-MailReadAllowedBy A wide roomy = AtEachPen (λ room places slots id m.
+MailReadAllowedBy A wide roomy = AtEachPen (λ room terms places slots id m.
     (index place : ℕ) → index ≡ control_at place → place < places → (pen_at m).leading ≡ true
-    → A wide roomy room places slots id m index (λ n. n) (MailRead (step slots index 0 0 none) m))
+    → A wide roomy room terms places slots id m index (λ n. n) (MailRead (step slots index 0 0 none) m))
 
 abbrev pub ItemReadAllowedBy : Form → Bool → (ℕ → Type 0) → Type 0
-ItemReadAllowedBy A wide roomy = AtEachPen (λ room places slots id m. (index j : ℕ) (due : Due)
+ItemReadAllowedBy A wide roomy = AtEachPen (λ room terms places slots id m. (index j : ℕ) (due : Due)
     → index ≡ item_at due.place + j → j < word_number wide → due.place < places → (pen_at m).due ≡ Some due
     → due.kind ≡ kind.Push
-    → A wide roomy room places slots id m index (λ n. n) (ItemRead wide (step slots index 0 0 none) m))
+    → A wide roomy room terms places slots id m index (λ n. n) (ItemRead wide (step slots index 0 0 none) m))
 
 abbrev pub ItemLaidAllowedBy : Form → Bool → (ℕ → Type 0) → Type 0
-ItemLaidAllowedBy A wide roomy = AtEachPen (λ room places slots id m. (index word j : ℕ) (due : Due) (x : Item)
+ItemLaidAllowedBy A wide roomy = AtEachPen (λ room terms places slots id m. (index word j : ℕ) (due : Due) (x : Item)
     → index ≡ item_at due.place + j → word ≡ word_of wide j x → j < word_number wide → due.place < places
     → (pen_at m).due ≡ Some due → due.kind ≢ kind.Push
     → IsItemOf wide x
-    → A wide roomy room places slots id m index (λ _. word)
+    → A wide roomy room terms places slots id m index (λ _. word)
     (λ _. ItemLaid wide (step slots index word 0 none) m word))
 
 abbrev pub AnswerAllowedBy : Form → Bool → (ℕ → Type 0) → Type 0
-AnswerAllowedBy A wide roomy = AtEachPen (λ room places slots id m.
+AnswerAllowedBy A wide roomy = AtEachPen (λ room terms places slots id m.
     (index word : ℕ) (due : Due) (request : Request) (answer : Answer)
     → index ≡ control_at due.place → word ≡ control_word (answered answer) → due.place < places → (pen_at m).due ≡ Some due
     → kind_of request ≡ due.kind → IsKept (request_item request) due.item → IsKept (answer_item answer) due.item
-    → MayAnswer (pen_at m).room (pen_at m).hand request answer → (roomy (pen_at m).room → answer ≢ NoMemory)
-    → A wide roomy room places slots id m index (λ _. word)
+    → MayTellOf (pen_at m).room (pen_at m).hand request answer → (roomy (pen_at m).room → answer ≢ NoMemory)
+    → A wide roomy room terms places slots id m index (λ _. word)
     (λ _. AnswerStored (step slots index word 0 none) m word))
 
 -- the slot that is held has the Book with the line of the request of its own, if it is entered
 abbrev pub ApplyAllowedBy : Form → Bool → (ℕ → Type 0) → Type 0
-ApplyAllowedBy A wide roomy = AtEachPen (λ room places slots id m.
-    (others : List (ℕ × Option _)) (request : Request) (answer : Answer)
+ApplyAllowedBy A wide roomy = AtEachPen (λ room terms places slots id m.
+    (others : List (ℕ × Slotted)) (request : Request) (answer : Answer)
     → BringsHome m request answer others → (pen_at m).leading ≡ true → IsIdle (pen_at m).standing
     → (pen_at m).posts < GREATEST_NUMBER
-    → IsProperRequestOf true request → MayAnswer (pen_at m).room (pen_at m).hand request answer
-    → A wide roomy room places slots id m lock_at (λ n. n) (Applied (step slots lock_at 0 0 none) m))
+    → IsProperRequestOf true request → MayTellOf (pen_at m).room (pen_at m).hand request answer
+    → A wide roomy room terms places slots id m lock_at (λ n. n) (Applied (step slots lock_at 0 0 none) m))
 
--- the slot that is given back has the Book with the journal in the pen's hand
+-- the slot that is given back has the Book with the journal in the pen's hand, and meets the desk's terms
 abbrev pub ReleaseAllowedBy : Form → Bool → (ℕ → Type 0) → Type 0
-ReleaseAllowedBy A wide roomy = AtEachPen (λ room places slots id m. (others : List (ℕ × Option _))
-    → ◌≡◌ {A = List _} m.1 ((0, Some (volume (pen_at m).room (pen_at m).hand)) ∷ others) → (pen_at m).leading ≡ true
-    → A wide roomy room places slots id m lock_at (λ _. 0) (λ _. Released (step slots lock_at 0 0 none) m 0))
+ReleaseAllowedBy A wide roomy = AtEachPen (λ room terms places slots id m. (others : List (ℕ × Slotted))
+    (home : HasInSlot m (pen_at m).hand others) → MeetsTerms terms home.0 → (pen_at m).leading ≡ true
+    → A wide roomy room terms places slots id m lock_at (λ _. 0) (λ _. Released (step slots lock_at 0 0 none) m 0))
 
--- the slot that is given back has the Book with the line of the operation of its own, if it is entered
+-- the slot that is given back has the Book, of the desk's terms, with the line of the operation of its own, if it is entered
 abbrev pub ReleaseWithAllowedBy : Form → Bool → (ℕ → Type 0) → Type 0
-ReleaseWithAllowedBy A wide roomy = AtEachPen (λ room places slots id m.
-    (others : List (ℕ × Option _)) (operation : Operation) (answer : Answer)
-    → BringsHomeBy m operation answer others → (pen_at m).leading ≡ true → (pen_at m).due ≡ None → IsIdle (pen_at m).standing
+ReleaseWithAllowedBy A wide roomy = AtEachPen (λ room terms places slots id m.
+    (others : List (ℕ × Slotted)) (operation : Operation) (answer : Answer) (home : BringsHomeBy m operation answer others)
+    → MeetsTerms terms home.0 → (pen_at m).leading ≡ true → (pen_at m).due ≡ None → IsIdle (pen_at m).standing
     → (pen_at m).posts < GREATEST_NUMBER
-    → IsProperOperationOf true operation → MayDo (pen_at m).room (pen_at m).hand operation answer
-    → A wide roomy room places slots id m lock_at (λ _. 0) (λ _. ReleasedWith (step slots lock_at 0 0 none) m 0))
+    → IsProperOperationOf true operation → MayTell (pen_at m).room (pen_at m).hand operation answer
+    → A wide roomy room terms places slots id m lock_at (λ _. 0) (λ _. ReleasedWith (step slots lock_at 0 0 none) m 0))
 
 abbrev pub LookAllowedBy : Form → Bool → (ℕ → Type 0) → Type 0
-LookAllowedBy A wide roomy = AtEachPen (λ room places slots id m.
+LookAllowedBy A wide roomy = AtEachPen (λ room terms places slots id m.
     (index : ℕ) (request : Request) → index ≡ control_at (pen_at m).place → (pen_at m).standing ≡ Waiting request
-    → A wide roomy room places slots id m index (λ n. n) (AnswerLooked roomy (step slots index 0 0 none) m))
+    → A wide roomy room terms places slots id m index (λ n. n) (AnswerLooked roomy (step slots index 0 0 none) m))
 
 abbrev pub TakeAllowedBy : Form → Bool → (ℕ → Type 0) → Type 0
-TakeAllowedBy A wide roomy = AtEachPen (λ room places slots id m. (index j : ℕ) (request : Request) (notice : Notice)
+TakeAllowedBy A wide roomy = AtEachPen (λ room terms places slots id m. (index j : ℕ) (request : Request) (notice : Notice)
     → index ≡ item_at (pen_at m).place + j → j < word_number wide → (pen_at m).standing ≡ Waiting request
     → (pen_at m).own ≡ Answered notice → notice_has_item notice ≡ true
-    → A wide roomy room places slots id m index (λ n. n) (ItemTaken wide (step slots index 0 0 none) m))
+    → A wide roomy room terms places slots id m index (λ n. n) (ItemTaken wide (step slots index 0 0 none) m))
 
 -- a word of the item of an answer is read, of which there is more to read
 abbrev pub SeeAllowedBy : Form → Bool → (ℕ → Type 0) → Type 0
-SeeAllowedBy A wide roomy = AtEachPen (λ room places slots id m. (index j : ℕ) (request : Request) (notice : Notice)
+SeeAllowedBy A wide roomy = AtEachPen (λ room terms places slots id m. (index j : ℕ) (request : Request) (notice : Notice)
     → index ≡ item_at (pen_at m).place + j → j < word_number wide → (pen_at m).standing ≡ Waiting request
     → (pen_at m).own ≡ Answered notice → notice_has_item notice ≡ true
-    → A wide roomy room places slots id m index (λ n. n) (ItemSeen wide (step slots index 0 0 none) m))
+    → A wide roomy room terms places slots id m index (λ n. n) (ItemSeen wide (step slots index 0 0 none) m))
 
 -- each of them, as the table asks
 abbrev pub DraftAllowed : Bool → (ℕ → Type 0) → Type 0

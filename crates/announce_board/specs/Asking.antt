@@ -7,12 +7,14 @@ use Rattle.pq_types.specs.Operation.{Asked, request_of}
 use Rattle.pq_types.specs.declared.request.Request.TheVariants.{Push, Pop, Least}
 use Rattle.pq_types.specs.Asked.{Reply}
 use Rattle.pq_types.specs.Asked.{Answer}
-use Rattle.pq_types.specs.declared.answer.Answer.TheVariants.{Entered, BookFull, NoMemory}
+use Rattle.pq_types.specs.declared.answer.Answer.TheVariants.{Entered, BookFull, NoMemory, Refused}
 use Rattle.pq_types.specs.declared.control.Kind.{Kind}
 use Rattle.pq_types.specs.declared.control.Notice.{Notice}
 use Rattle.pq_types.specs.declared.control.Control.{Control}
 use Rattle.pq_types.specs.declared.control.Control.TheVariants.{Nothing, Posted, Answered}
-use Rattle.pq_types.specs.History.{PutsIn}
+use Rattle.pq_types.specs.History.{PutsIn, Adds, EndsAtShut}
+use Rattle.pq_types.specs.declared.answer.Refusal.{Refusal}
+use Rattle.pq_types.specs.declared.answer.Refusal.TheVariants.{Shut, Unarchived, Full}
 use Rattle.pq_types.specs.Control.{request_item, answer_with, notice_has_item, posted, is_answer}
 use Rattle.pq_types.specs.Mail.{IsLineNumber}
 use Rattle.desk_core.specs.Beyond.{IsBeyond}
@@ -75,12 +77,20 @@ seen_by words p request (Posted serial kind) cell now = after_look p request (Po
 seen_by words p request (Answered notice) cell now =
     taken_if words (notice_has_item notice) (after_look p request (Answered notice) now) request notice cell now
 
--- The answer is one to such an operation, at a journal with room for so many lines: the number of an
--- entered one is not above the room. Only what wants room for an item is refused for want of memory: a push or a move.
+-- what a refusal by the queue's rules says of the operation
+abbrev pub IsBarredBy : Operation → Refusal → Type 0
+IsBarredBy operation Shut = EndsAtShut operation
+IsBarredBy operation Unarchived = Unit {0}
+IsBarredBy operation Full = Adds operation
+
+-- The answer is one to such an operation, at a journal with room for so many lines: the number of an entered
+-- one is not above the room. Only what wants room for an item is refused for want of memory: a push or a
+-- move. The queue's rules refuse it only where they may refuse such an operation.
 abbrev pub IsAnswerBy : ℕ → Operation → Answer → Type 0
 IsAnswerBy room operation (Entered number reply) = IsLineNumber number × (number ≤ room) × IsReplyTo (request_of operation) reply
 IsAnswerBy room operation BookFull = Unit {0}
 IsAnswerBy room operation NoMemory = PutsIn operation
+IsAnswerBy room operation (Refused why) = IsBarredBy operation why
 
 -- the answer is one to such a request
 abbrev pub IsAnswerTo : ℕ → Request → Answer → Type 0

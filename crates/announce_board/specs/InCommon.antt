@@ -11,7 +11,7 @@ use Rattle.pq_types.specs.Asked.{Reply}
 use Rattle.pq_types.specs.Asked.{Line}
 use Rattle.pq_types.specs.declared.request.Request.TheVariants.{Push, Pop, Least}
 use Rattle.pq_types.specs.declared.answer.Reply.TheVariants.{Pushed, Got, Empty, Least as LeastIs}
-use Rattle.pq_types.specs.Operation.{Asked, ByTicket, Remove, Move}
+use Rattle.pq_types.specs.Operation.{Asked, ByTicket, Shuts, Remove, Move}
 use Rattle.pq_types.specs.History.{line}
 
 -- the kind of a request, and its item, if it has one
@@ -30,16 +30,19 @@ abbrev pub operation_number : Operation → ℕ
 operation_number (Asked q) = request_number q
 operation_number (ByTicket (Remove ticket)) = 3
 operation_number (ByTicket (Move ticket priority)) = 4
+operation_number Shuts = 5
 
 abbrev pub ticket_asked : Operation → ℕ
 ticket_asked (Asked q) = 0
 ticket_asked (ByTicket (Remove ticket)) = ticket
 ticket_asked (ByTicket (Move ticket priority)) = ticket
+ticket_asked Shuts = 0
 
 abbrev pub item_put : Operation → Item
 item_put (Asked q) = item_asked q
 item_put (ByTicket (Remove ticket)) = item 0 0
 item_put (ByTicket (Move ticket priority)) = item priority 0
+item_put Shuts = item 0 0
 
 -- the kind of a reply, and its item, if it has one
 abbrev pub reply_number : Reply → ℕ

@@ -1,3 +1,4 @@
+pub mod Slots
 pub mod Rule
 pub mod Steps
 pub mod Allowed

@@ -1,5 +1,5 @@
 -- What the loads of a call have found, told of the seat before and after them.
-use Rattle.std.specs.Prelude.{◌≡◌, ℕ, Bool, true, false, ◌∷◌, Option, Some, None}
+use Rattle.std.specs.Prelude.{◌≡◌, ℕ, Bool, true, false, ◌∷◌, Option, Some}
 use Rattle.pq_types.specs.Item.{Item}
 use Rattle.pq_types.specs.Asked.{Request}
 use Rattle.pq_types.specs.declared.control.Notice.{Notice}
@@ -12,6 +12,8 @@ use Rattle.desk_core.specs.declared.model.Due.{Due}
 use Rattle.desk_core.specs.declared.model.View.TheVariants.{Holder}
 use Rattle.desk_core.specs.declared.model.Standing.TheVariants.{Waiting}
 use Rattle.announce_board.specs.Rule.{Seated}
+use Rattle.announce_board.specs.declared.terms.Terms.{Terms}
+use Rattle.announce_board.specs.Slots.{MeetsTerms, out}
 use Rattle.announce_board.specs.Steps.{pen_at, StandsAt, Becomes, LockWon, ControlRead, Looked}
 use Rattle.announce_board.specs.ItemWords.{read_by, taken_by}
 use Rattle.announce_board.specs.Asking.{notice_in, post_in}
@@ -35,17 +37,18 @@ pub record TakesOwn (words : ℕ) (notice : Notice) (before : Seated) (result : 
   pub now : ℕ
   pub next : Becomes before (taken_by words (pen_at before) request notice result now) after
 
--- the pen has tried the lock: it has the slot with the Book, or found the lock held
-abbrev pub TriesLock : Bool → Seated → Seated → Type 0
-TriesLock true before after = LockWon before after
-TriesLock false before after = Becomes before (after_miss (pen_at before)) after
+-- the pen has tried the lock: it has the slot with the Book, of these terms, or found the lock held
+abbrev pub TriesLock : Terms → Bool → Seated → Seated → Type 0
+TriesLock terms true before after = LockWon terms before after
+TriesLock terms false before after = Becomes before (after_miss (pen_at before)) after
 
--- the pen has won the lock, and the Book has left its slot
-pub record WinsBook (before : Seated) (book : Volume) (after : Seated) : Type 0 where
+-- the pen has won the lock, and the Book, of these terms, has left its slot
+pub record WinsBook (terms : Terms) (before : Seated) (book : Volume) (after : Seated) : Type 0 where
+  pub bounded : MeetsTerms terms book
   pub room : book.room ≡ (pen_at before).room
   pub led_not : (pen_at before).leading ≡ false
   pub knows : Knows (pen_at before).room (pen_at before) book.journal
-  pub next : ◌≡◌ {A = Seated} after (Holder (after_lead (pen_at before) book.journal), (0, None) ∷ before.1)
+  pub next : ◌≡◌ {A = Seated} after (Holder (after_lead (pen_at before) book.journal), (0, out) ∷ before.1)
 
 -- the leader read the control of this place, and this is the post that stood there
 pub record LoadsMail (place : ℕ) (before : Seated) (result : Option (ℕ × Kind)) (after : Seated) : Type 0 where

@@ -1,12 +1,13 @@
 -- Notes, by which one pen tells another what it knows of the journal: what a contract sees of one, and what the writing and the
 -- hearing of one make of the pens.
-use Rattle.std.specs.Prelude.{◌≡◌, ℕ, Bool, List, [], ◌∷◌, Option}
+use Rattle.std.specs.Prelude.{◌≡◌, ℕ, Bool, List, [], ◌∷◌}
 use mathlib.Core.Option.{none}
 use Rattle.std.specs.List.{AllByRecursion}
 use Rattle.atomic_table.specs.Seated.{TableId}
 use Rattle.atomic_table.specs.Table.{Step, Allows, Splits, Joins, step}
 use Rattle.pq_types.specs.Asked.{Line}
-use Rattle.pq_book.specs.Book.{Volume}
+use Rattle.announce_board.specs.declared.terms.Terms.{Terms}
+use Rattle.announce_board.specs.Slots.{Slotted}
 use Rattle.desk_core.specs.CallLines.{IsLineOf}
 use Rattle.desk_core.specs.Knows.{Knows}
 use Rattle.desk_core.specs.Layout.{lock_at}
@@ -62,7 +63,7 @@ CatchesUp before after =
     (journal : List Line) × Knows (pen_at before).room (pen_at before) journal
     × Becomes before (after_catch_up (pen_at before) journal) after
 
-abbrev pub CaughtUp : Step (Option Volume) → Seated → ℕ → Seated → Type 0
+abbrev pub CaughtUp : Step Slotted → Seated → ℕ → Seated → Type 0
 CaughtUp st before word after = CatchesUp before after
 
 -- the pen after it has caught up with this journal, and written a note of it
@@ -79,20 +80,20 @@ HasItsCalls p journal = AllByRecursion (λ c. IsLineOf journal p.place c) p.mine
 
 -- each pen may catch up, write a note, and hear any note; and each note may be copied
 abbrev pub CatchUpAllowed : Bool → (ℕ → Type 0) → Type 0
-CatchUpAllowed wide roomy = AtEachPen (λ room places slots id m.
-    Allows (Keeps wide roomy room places) slots id m lock_at (λ n. n) (CaughtUp (step slots lock_at 0 0 none) m))
+CatchUpAllowed wide roomy = AtEachPen (λ room terms places slots id m.
+    Allows (Keeps wide roomy room terms places) slots id m lock_at (λ n. n) (CaughtUp (step slots lock_at 0 0 none) m))
 
 abbrev pub WritingAllowed : Bool → (ℕ → Type 0) → Type 0
-WritingAllowed wide roomy = AtEachPen (λ room places slots id m.
-    Splits (Keeps wide roomy room places) id m.0 (writer m.0) (note_of m.0))
+WritingAllowed wide roomy = AtEachPen (λ room terms places slots id m.
+    Splits (Keeps wide roomy room terms places) id m.0 (writer m.0) (note_of m.0))
 
 abbrev pub HearingAllowed : Bool → (ℕ → Type 0) → Type 0
-HearingAllowed wide roomy = AtEachPen (λ room places slots id m. (other : ℕ) (note : View) → note ≡ Note (told_of note)
-    → Joins (Keeps wide roomy room places) id m.0 other note (hearer m.0 note) (Note []))
+HearingAllowed wide roomy = AtEachPen (λ room terms places slots id m. (other : ℕ) (note : View) → note ≡ Note (told_of note)
+    → Joins (Keeps wide roomy room terms places) id m.0 other note (hearer m.0 note) (Note []))
 
 abbrev pub CopyingAllowed : Bool → (ℕ → Type 0) → Type 0
-CopyingAllowed wide roomy = (room places id : ℕ) (note : View) → note ≡ Note (told_of note)
-    → Splits (Keeps wide roomy room places) id note note note
+CopyingAllowed wide roomy = (room : ℕ) (terms : Terms) (places id : ℕ) (note : View) → note ≡ Note (told_of note)
+    → Splits (Keeps wide roomy room terms places) id note note note
 
 -- a pen finds all its calls in a journal that it knows
 abbrev pub CallsAreFound : Type 0

@@ -1,6 +1,6 @@
 -- How a desk is opened and closed.
 use Rattle.std.specs.Prelude.{◌≡◌, ◌≢◌, ℕ, ◌+◌, ◌<◌, ◌≤◌, Bool, true, false, List, [], ◌∷◌}
-use Rattle.std.specs.Prelude.{length, replicate, slice_get, slice_index, Option, Some}
+use Rattle.std.specs.Prelude.{length, replicate, slice_get, slice_index, Some}
 use mathlib.Core.Option.{some}
 use lib.ListN.{get_elem?}
 use Rattle.std.specs.List.{All}
@@ -9,6 +9,7 @@ use Rattle.atomic_table.specs.Seated.{TableId}
 use Rattle.pq_types.specs.declared.journal.TheConstants.{GREATEST_NUMBER}
 use Rattle.pq_types.specs.Asked.{Line}
 use Rattle.pq_book.specs.Book.{Volume}
+use Rattle.desk_core.specs.Home.{home_of}
 use Rattle.desk_core.specs.Pen.{new_pen}
 use Rattle.desk_core.specs.Dealing.{IsReached}
 use Rattle.desk_core.specs.Desk.{Desk, Has, volume}
@@ -22,6 +23,8 @@ use Rattle.desk_core.specs.declared.model.View.TheVariants.{Dealer, Holder, Test
 use Rattle.announce_board.specs.declared.error.DeskError.{DeskError}
 use Rattle.announce_board.specs.declared.error.DeskError.TheVariants.{LinesOutOfRange, NoMemory}
 use Rattle.announce_board.specs.Rule.{Keeps, Seated, dealt_one, pen_dealt}
+use Rattle.announce_board.specs.declared.terms.Terms.{Terms}
+use Rattle.announce_board.specs.Slots.{MeetsTerms, Slotted, with_book}
 use Rattle.announce_board.specs.Steps.{pen_at}
 use Rattle.announce_board.specs.Tokens.{Running, AtDesk}
 
@@ -52,7 +55,7 @@ pub record IsHomeBook (room : ℕ) (book : Volume) : Type 0 where
   pub desk : Desk
   pub reached : IsReached desk.places room desk
   pub meets : MeetsRule desk
-  pub at_home : desk.home ≡ Some book
+  pub at_home : desk.home ≡ Some (home_of book)
   pub room_is : book.room ≡ room
 
 -- the lock is held at some such desk with this room
@@ -69,7 +72,7 @@ pub record IsHomeWith (room : ℕ) (pen : PenState) (book : Volume) : Type 0 whe
   pub desk : Desk
   pub reached : IsReached desk.places room desk
   pub meets : MeetsRule desk
-  pub at_home : desk.home ≡ Some book
+  pub at_home : desk.home ≡ Some (home_of book)
   pub room_is : book.room ≡ room
   pub seat : ℕ
   pub has : Has desk.views seat pen
@@ -99,7 +102,7 @@ pub record IsHomeWithAll (room : ℕ) (pens : List PenState) (book : Volume) : T
   pub desk : Desk
   pub reached : IsReached desk.places room desk
   pub meets : MeetsRule desk
-  pub at_home : desk.home ≡ Some book
+  pub at_home : desk.home ≡ Some (home_of book)
   pub room_is : book.room ≡ room
   pub seated : OfEachOf pens (λ p. (seat : ℕ) × Has desk.views seat p)
 
@@ -118,39 +121,41 @@ pub record HavePlaces (places : ℕ) (pens : List PenState) : Type 0 where
   pub apart :
       (j k : ℕ) (p q : PenState) → slice_get pens j ≡ Some p → slice_get pens k ≡ Some q → p.place ≡ q.place → j ≡ k
 
--- what is so of the Book of a desk with this room and so many places where a testimony of these pens has all
-pub record ClosedByAll (room places : ℕ) (pens : List PenState) (book : Volume) : Type 0 where
+-- what is so of the Book of a desk with this room, these terms and so many places where a testimony of these pens has all
+pub record ClosedByAll (room : ℕ) (terms : Terms) (places : ℕ) (pens : List PenState) (book : Volume) : Type 0 where
   pub home : IsHomeWithAll room pens book
   pub knows : AllKnow pens book
   pub only : LinesAreOfThese pens book.journal
   pub placed : HavePlaces places pens
+  pub bounded : MeetsTerms terms book
 
--- the table of a desk before all steps keeps the rule
+-- the table of a desk before all steps, with a Book of its terms that has no lines, keeps the rule
 abbrev pub OpeningKept : Bool → (ℕ → Type 0) → Type 0
-OpeningKept wide roomy = (room places : ℕ) → room ≤ GREATEST_NUMBER
-    → Keeps wide roomy room places (opening (replicate (word_count places) 0) (Some (volume room []) ∷ []) (Dealer 0 room))
+OpeningKept wide roomy = (room : ℕ) (terms : Terms) (places : ℕ) (book : Volume) → room ≤ GREATEST_NUMBER → home_of book ≡ volume room [] → MeetsTerms terms book
+    → Keeps wide roomy room terms places (opening (replicate (word_count places) 0) (with_book book ∷ []) (Dealer 0 room))
 
 -- the dealer may give out the pen of its next place
 abbrev pub DealingAllowed : Bool → (ℕ → Type 0) → Type 0
-DealingAllowed wide roomy = (room places id place known : ℕ) → place < places
-    → Splits (Keeps wide roomy room places) id (Dealer place known) (dealt_one (Dealer place known))
+DealingAllowed wide roomy = (room : ℕ) (terms : Terms) (places id place known : ℕ) → place < places
+    → Splits (Keeps wide roomy room terms places) id (Dealer place known) (dealt_one (Dealer place known))
     (pen_dealt (Dealer place known))
 
 -- What the words and the slot of a table say at its end. A lock word 0: the Book is in its slot,
--- lawful, and each pen knows its journal and does not lead. Any other: the lock is held, and where
+-- lawful, and meets the desk's terms; and each pen knows its journal and does not lead. Any other: the lock is held, and where
 -- there is one place alone its pen leads. Where a testimony has all pens, the Book is in its slot.
-pub record Ends (room places : ℕ) (s : State (Option Volume) View) : Type 0 where
-  pub free : slice_index s.words lock_at ≡ 0 → (book : Volume) × (get_elem? s.homes 0 ≡ some (some (Some book)))
+pub record Ends (room : ℕ) (terms : Terms) (places : ℕ) (s : State Slotted View) : Type 0 where
+  pub free : slice_index s.words lock_at ≡ 0 → (book : Volume) × (get_elem? s.homes 0 ≡ some (some (with_book book)))
       × (home : IsHomeBook room book) × (home.desk.views ≡ s.views)
       × ((id : ℕ) (m : Seated) → m.0 ≡ Holder (pen_at m) → get_elem? s.views id ≡ some m.0
       → Knows (pen_at m).room (pen_at m) book.journal × ((pen_at m).leading ≡ false))
+      × MeetsTerms terms book
   pub held : slice_index s.words lock_at ≢ 0
       → (slice_index s.words lock_at ≡ 1) × (held : IsHeld room) × (held.desk.views ≡ s.views)
   pub alone : slice_index s.words lock_at ≢ 0 → places ≡ 1 → (id : ℕ) (m : Seated) → m.0 ≡ Holder (pen_at m)
       → get_elem? s.views id ≡ some m.0 → (pen_at m).leading ≡ true
   pub all : (id : ℕ) (pens : List PenState) (licences : ℕ) → get_elem? s.views id ≡ some (Testimony pens licences)
       → HasAll places pens licences
-      → (book : Volume) × (get_elem? s.homes 0 ≡ some (some (Some book))) × ClosedByAll room places pens book
+      → (book : Volume) × (get_elem? s.homes 0 ≡ some (some (with_book book))) × ClosedByAll room terms places pens book
 
 abbrev pub EndsAreTold : Bool → (ℕ → Type 0) → Type 0
-EndsAreTold wide roomy = (room places : ℕ) (s : State (Option Volume) View) → Keeps wide roomy room places s → Ends room places s
+EndsAreTold wide roomy = (room : ℕ) (terms : Terms) (places : ℕ) (s : State Slotted View) → Keeps wide roomy room terms places s → Ends room terms places s

@@ -1,5 +1,5 @@
 -- The rule of a desk's table, which holds between any two atomic steps.
-use Rattle.std.specs.Prelude.{◌≡◌, ◌≢◌, ℕ, ◌+◌, ◌≤◌, Bool, true, false, List, [], ◌∷◌, length, Option, None}
+use Rattle.std.specs.Prelude.{◌≡◌, ◌≢◌, ℕ, ◌+◌, ◌≤◌, Bool, true, false, List, [], ◌∷◌, length, Option, Some, None}
 use mathlib.Core.Option as home
 use mathlib.Core.Option.{some, none}
 use lib.ListN.{get_elem?}
@@ -9,6 +9,7 @@ use Rattle.pq_types.specs.declared.answer.Answer.TheVariants.{NoMemory}
 use Rattle.pq_types.specs.declared.control.Control.{Control}
 use Rattle.pq_types.specs.Control.{answered}
 use Rattle.pq_book.specs.Book.{Volume}
+use Rattle.desk_core.specs.Home.{Home, home_of}
 use Rattle.desk_core.specs.Pen.{new_pen}
 use Rattle.desk_core.specs.Dealing.{IsReached}
 use Rattle.desk_core.specs.Desk.{Desk}
@@ -19,19 +20,22 @@ use Rattle.desk_core.specs.declared.model.Duty.TheVariants.{Active}
 use Rattle.desk_core.specs.declared.model.PenState.{PenState}
 use Rattle.desk_core.specs.declared.model.View.{View}
 use Rattle.desk_core.specs.declared.model.View.TheVariants.{Dealer, Holder, Note, Testimony}
+use Rattle.announce_board.specs.declared.terms.Terms.{Terms}
+use Rattle.announce_board.specs.Slots.{MeetsTerms, Slotted, with_book, says, out}
 
--- the Book in a slot, where it is at home
-abbrev pub book_in : home.Option (home.Option (Option Volume)) → Option Volume
+-- what the machine sees of the Book in a slot, where it is at home
+abbrev pub book_in : home.Option (home.Option Slotted) → Option Home
 book_in none = None
 book_in (some none) = None
-book_in (some (some book)) = book
+book_in (some (some (with_book book))) = Some (home_of book)
+book_in (some (some (says terms))) = None
 
--- the Book in the slot of the table, where it is at home
-abbrev pub book_at_home : List (home.Option (Option Volume)) → Option Volume
+-- and of that in the slot of the table
+abbrev pub book_at_home : List (home.Option Slotted) → Option Home
 book_at_home homes = book_in (get_elem? homes 0)
 
 -- the desk with this room and these places, lock, controls, item cells, slot and views
-abbrev pub desk_of : ℕ → ℕ → Bool → (ℕ → Control) → (ℕ → Item) → List (home.Option (Option Volume)) → List View → Desk
+abbrev pub desk_of : ℕ → ℕ → Bool → (ℕ → Control) → (ℕ → Item) → List (home.Option Slotted) → List View → Desk
 desk_of room places held control cells homes views =
     record {
       room = room;
@@ -50,11 +54,11 @@ NoneIsRefused control = (place : ℕ) → control place ≢ answered NoMemory
 -- The words of the table show some lock, controls and item cells; there is one slot; and the desk
 -- of these, with the Book of the slot and the views of the seats, is at the end of some run of the
 -- machine from its opening with a dealer, and so meets the rule of desks. Where
--- the Book is at home it has the desk's room, as that rule says. Retired pens stand in testimonies, and stay as they were; sleeping
--- pens are as new. The pens that act, the retired ones and the licences are no more than the places. `roomy n` says that every store of
--- the desk's kind has room for n items: where that is so of the journal's lines, no record says
--- NoMemory. The items of the desk are wide or narrow.
-pub record Keeps (wide : Bool) (roomy : ℕ → Type 0) (room places : ℕ) (s : State (Option Volume) View) : Type 0 where
+-- the Book is at home it has the desk's room, as that rule says, and meets the desk's terms. Retired pens stand in
+-- testimonies, and stay as they were; sleeping pens are as new. The pens that act, the retired ones and the licences are no
+-- more than the places. `roomy n` says that every store of the desk's kind has room for n items: where that is so of the
+-- journal's lines, no record says NoMemory. The items of the desk are wide or narrow.
+pub record Keeps (wide : Bool) (roomy : ℕ → Type 0) (room : ℕ) (terms : Terms) (places : ℕ) (s : State Slotted View) : Type 0 where
   pub held : Bool
   pub control : ℕ → Control
   pub cells : ℕ → Item
@@ -65,6 +69,7 @@ pub record Keeps (wide : Bool) (roomy : ℕ → Type 0) (room places : ℕ) (s :
   pub duties : DutiesAreKept s.views
   pub weight : weight_of places s.views ≤ places
   pub memory : roomy room → NoneIsRefused control
+  pub bounded : (book : Volume) → get_elem? s.homes 0 ≡ some (some (with_book book)) → MeetsTerms terms book
 
 -- the pen for which a seat stands
 abbrev pub holder_of : View → PenState
@@ -79,11 +84,11 @@ pen_of v = record (holder_of v) { duty = Active }
 
 -- what a seat knows, and the slots that it holds
 abbrev pub Seated : Type 0
-Seated = Me (Option Volume) View
+Seated = Me Slotted View
 
 -- a pen that leads holds the slot, from which the Book is out
-abbrev pub held_slots : Bool → List (ℕ × Option Volume)
-held_slots true = (0, None) ∷ []
+abbrev pub held_slots : Bool → List (ℕ × Slotted)
+held_slots true = (0, out) ∷ []
 held_slots false = []
 
 -- the dealer after it has given out the pen of its next place, and that pen

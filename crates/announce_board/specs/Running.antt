@@ -1,8 +1,12 @@
 -- What holds of a running desk between any two atomic steps, of whatever threads.
-use Rattle.std.specs.Prelude.{◌≡◌, ℕ, ◌≤◌, Bool, List, Option, slice_set}
+use Rattle.std.specs.Prelude.{◌≡◌, ℕ, ◌≤◌, Bool, List, slice_set}
+use mathlib.Core.Option.{some}
+use lib.ListN.{get_elem?}
 use Rattle.atomic_table.specs.Table.{State}
 use Rattle.pq_types.specs.Asked.{Line}
 use Rattle.pq_book.specs.Book.{Volume}
+use Rattle.announce_board.specs.declared.terms.Terms.{Terms}
+use Rattle.announce_board.specs.Slots.{MeetsTerms, Slotted, with_book}
 use Rattle.desk_core.specs.Clauses.{LockClause}
 use Rattle.desk_core.specs.Dealing.{Move, DealtRun, dealt_history}
 use Rattle.desk_core.specs.Desk.{Desk, Has, acts_number, dealer_opening}
@@ -21,8 +25,9 @@ use Rattle.announce_board.specs.Rule.{Keeps, book_at_home}
 -- dealer. The journal, that of the Book at home or in the leader's hand, linearizes what the callers have seen of that run.
 -- The positions that the pens keep are those of their acts in this history; each of its positions is some pen's, and it has
 -- no other act of a pen than those. So of the calls that any two pens have read, of which one ended before the other began, it
--- has the earlier line. The looks of that run have their places in the same order.
-pub record IsLinearized (wide : Bool) (room places : ℕ) (s : State (Option Volume) View) : Type 0 where
+-- has the earlier line. The looks of that run have their places in the same order. The Book at home meets
+-- the desk's terms.
+pub record IsLinearized (wide : Bool) (room : ℕ) (terms : Terms) (places : ℕ) (s : State Slotted View) : Type 0 where
   pub desk : Desk
   pub words : AreWords wide places s.words desk.held desk.control desk.item
   pub home : desk.home ≡ book_at_home s.homes
@@ -37,18 +42,19 @@ pub record IsLinearized (wide : Bool) (room places : ℕ) (s : State (Option Vol
   pub whole : (i : ℕ) (p : PenState) → Has s.views i p
       → IsWhole (dealt_history (dealer_opening places room) moves desk run) (acts_number s.views) p
   pub follow : CallsFollowTime desk
+  pub bounded : (book : Volume) → get_elem? s.homes 0 ≡ some (some (with_book book)) → MeetsTerms terms book
 
 -- so it is of every table that keeps the rule of desks
 abbrev pub TablesAreLinearized : Bool → (ℕ → Type 0) → Type 0
 TablesAreLinearized wide roomy =
-    (room places : ℕ) (s : State (Option Volume) View) → Keeps wide roomy room places s → IsLinearized wide room places s
+    (room : ℕ) (terms : Terms) (places : ℕ) (s : State Slotted View) → Keeps wide roomy room terms places s → IsLinearized wide room terms places s
 
 -- Where a table has gone from one state to another, both of which keep the rule, and of its seats this pen's alone has changed,
 -- to one that keeps no fewer acts, what the pen keeps more are the positions from the next one on. Each step of a table changes
 -- the seat that takes it alone.
 abbrev pub TablesForcePositions : Bool → (ℕ → Type 0) → Type 0
 TablesForcePositions wide roomy =
-    (room places : ℕ) (s s' : State (Option Volume) View) (seat : ℕ) (p w : PenState)
-    → Keeps wide roomy room places s → Keeps wide roomy room places s'
+    (room : ℕ) (terms : Terms) (places : ℕ) (s s' : State Slotted View) (seat : ℕ) (p w : PenState)
+    → Keeps wide roomy room terms places s → Keeps wide roomy room terms places s'
     → Has s.views seat p → s'.views ≡ slice_set s.views seat (Holder w) → acts_number s.views ≤ acts_number s'.views
     → KeepsTheNext (acts_number s.views) (acts_number s'.views) p w

@@ -10,8 +10,9 @@ use Rattle.pq_types.specs.declared.control.Kind.TheVariants as kind
 use Rattle.pq_types.specs.declared.control.Control.{Control}
 use Rattle.pq_types.specs.Control.{kind_of, request_item, answer_item, posted, is_posted, is_answer}
 use Rattle.pq_types.specs.History.{journal_after, MayAnswer}
+use Rattle.pq_book.specs.Book.{Volume, limits_of}
 use Rattle.pq_types.specs.Mail.{IsSerial}
-use Rattle.pq_book.specs.Book.{Volume}
+use Rattle.desk_core.specs.Home.{home_of}
 use Rattle.desk_core.specs.Desk.{volume}
 use Rattle.desk_core.specs.Knows.{Knows}
 use Rattle.desk_core.specs.Layout.{item_at}
@@ -57,8 +58,8 @@ served_by words p place serial request answer =
     (due_of place serial request) request answer
 
 -- A request stood posted there, and has its answer.
--- The serial is above each of that place in the journal in hand; the answer is one that the Book
--- may give, and the Book has what the answer leaves. At the leader's own place the serial is its
+-- The serial is above each of that place in the journal in hand; the answer is one that the Book,
+-- of these limits, may give, and the Book has what the answer leaves. At the leader's own place the serial is its
 -- last, and the request the one for which it waits.
 pub record ServesBy (words place : ℕ) (p : PenState) (p' : PenState) (book : Volume) : Type 0 where
   pub serial : ℕ
@@ -66,9 +67,9 @@ pub record ServesBy (words place : ℕ) (p : PenState) (p' : PenState) (book : V
   pub answer : Answer
   pub in_range : IsSerial serial
   pub above : AllByRecursion (λ l. place ≡ l.place → l.serial < serial) p.hand
-  pub may : MayAnswer p.room p.hand request answer
+  pub may : MayAnswer (limits_of book) p.hand request answer
   pub next : p' ≡ served_by words p place serial request answer
-  pub book_is : book ≡ volume p.room (journal_after p.hand place serial request answer)
+  pub book_is : home_of book ≡ volume p.room (journal_after p.hand place serial request answer)
   pub last : place ≡ p.place → serial ≡ p.posts
   pub own : (asked : Request) → place ≡ p.place → p.standing ≡ Waiting asked → (serial ≡ p.posts) × (request ≡ asked)
 
@@ -78,7 +79,7 @@ pub record Passes (place : ℕ) (p : PenState) (p' : PenState) (book : Volume) :
   pub control : Control
   pub not_posted : is_posted control ≡ false
   pub next : p' ≡ after_read p place control
-  pub book_is : book ≡ volume p.room p.hand
+  pub book_is : home_of book ≡ volume p.room p.hand
   pub own : (asked : Request) → place ≡ p.place → p.standing ≡ Waiting asked → is_answer control ≡ true
 
 abbrev pub ServesWhereBy : ℕ → Bool → ℕ → PenState → PenState → Volume → Type 0

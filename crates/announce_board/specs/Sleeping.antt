@@ -8,6 +8,7 @@ use Rattle.desk_core.specs.Testimonies.{after_sleeping, after_waking}
 use Rattle.desk_core.specs.declared.model.PenState.{PenState}
 use Rattle.desk_core.specs.declared.model.View.{View}
 use Rattle.desk_core.specs.declared.model.View.TheVariants.{Holder, Testimony}
+use Rattle.announce_board.specs.declared.terms.Terms.{Terms}
 use Rattle.announce_board.specs.Allowed.{AtEachPen}
 use Rattle.announce_board.specs.Rule.{Keeps, pen_of}
 use Rattle.announce_board.specs.Steps.{pen_at}
@@ -38,11 +39,11 @@ woken v licence = Holder (after_waking (pen_of v))
 
 -- each new pen may fall asleep
 abbrev pub SleepAllowed : Bool → (ℕ → Type 0) → Type 0
-SleepAllowed wide roomy = AtEachPen (λ room places slots id m. IsNew (pen_at m)
-    → Splits (Keeps wide roomy room places) id m.0 (sleeping m.0) (licence_of m.0))
+SleepAllowed wide roomy = AtEachPen (λ room terms places slots id m. IsNew (pen_at m)
+    → Splits (Keeps wide roomy room terms places) id m.0 (sleeping m.0) (licence_of m.0))
 
 -- and be woken by a testimony of no pen that has a licence
 abbrev pub WakeAllowed : Bool → (ℕ → Type 0) → Type 0
-WakeAllowed wide roomy = (room places id : ℕ) (v : View) (other : ℕ) (w : View) (licences : ℕ)
+WakeAllowed wide roomy = (room : ℕ) (terms : Terms) (places id : ℕ) (v : View) (other : ℕ) (w : View) (licences : ℕ)
     → v ≡ sleeping v → w ≡ Testimony [] licences → 0 < licences
-    → Joins (Keeps wide roomy room places) id v other w (woken v w) (Testimony [] 0)
+    → Joins (Keeps wide roomy room terms places) id v other w (woken v w) (Testimony [] 0)

@@ -1,5 +1,6 @@
 -- What each atomic step makes of its pen, and what it tells.
 use Rattle.std.specs.Prelude.{◌≡◌, ◌≢◌, ℕ, ◌+◌, Bool, false, List, ◌∷◌, Option, Some}
+use mathlib.Core.Option.{some}
 use Rattle.atomic_table.specs.Table.{Step, rest}
 use Rattle.pq_types.specs.Item.{Item, IsItemOf}
 use Rattle.pq_types.specs.Asked.{Request, Operation}
@@ -10,9 +11,11 @@ use Rattle.pq_types.specs.declared.control.Notice.{Notice}
 use Rattle.pq_types.specs.declared.control.Control.TheVariants.{Answered}
 use Rattle.pq_types.specs.Asked.{Line}
 use Rattle.pq_types.specs.Control.{kind_of, request_item, answer_item, posted, answered}
-use Rattle.pq_types.specs.History.{journal_by, MayAnswer, MayDo}
+use Rattle.pq_types.specs.History.{journal_by}
+use Rattle.desk_core.specs.Answering.{MayTellOf, MayTell}
 use Rattle.pq_types.specs.Mail.{IsProperControl, control_word}
 use Rattle.pq_book.specs.Book.{Volume}
+use Rattle.desk_core.specs.Home.{home_of}
 use Rattle.desk_core.specs.Pen.{IsKept, after_draft, after_post, after_lead, after_miss, after_read}
 use Rattle.desk_core.specs.Pen.{after_read_item, after_lay, after_answer, after_release}
 use Rattle.desk_core.specs.Pen.{after_apply, after_release_by, after_look, after_see, after_take}
@@ -27,6 +30,8 @@ use Rattle.desk_core.specs.declared.model.Due.{Due}
 use Rattle.desk_core.specs.declared.model.PenState.{PenState}
 use Rattle.desk_core.specs.declared.model.View.TheVariants.{Holder}
 use Rattle.announce_board.specs.Rule.{Seated, pen_of}
+use Rattle.announce_board.specs.declared.terms.Terms.{Terms}
+use Rattle.announce_board.specs.Slots.{MeetsTerms, Slotted, with_book, says}
 
 -- the pen has a seat at a desk that is at the end of some run of the machine, and meets the rule
 pub record StandsAt (d : Desk) (p : PenState) : Type 0 where
@@ -50,7 +55,7 @@ pub record WordDrafted (wide : Bool) (j : ℕ) (x : Item) (before after : Seated
   pub range : IsItemOf wide (desk.item (pen_at before).place)
   pub next : Becomes before (after_draft (pen_at before) (mixed wide j x (desk.item (pen_at before).place))) after
 
-abbrev pub Drafted : Bool → Step (Option Volume) → Seated → ℕ → Seated → Type 0
+abbrev pub Drafted : Bool → Step Slotted → Seated → ℕ → Seated → Type 0
 Drafted wide st before word after =
     (j : ℕ) (x : Item) → IsItemOf wide x → st.word ≡ item_at (pen_at before).place + j → st.first ≡ word_of wide j x
     → WordDrafted wide j x before after
@@ -58,7 +63,7 @@ Drafted wide st before word after =
 -- The control of a post under the next serial was stored at the pen's own place, as the act at some position of the history:
 -- it is that of the request whose item, if it has one, was drafted. What the pen knew of the journal has no line of its place
 -- above its last serial.
-abbrev pub PostStored : Step (Option Volume) → Seated → ℕ → Seated → Type 0
+abbrev pub PostStored : Step Slotted → Seated → ℕ → Seated → Type 0
 PostStored st before word after =
     (request : Request) (draft : Option Item) → (pen_at before).standing ≡ Idle draft → IsKept (request_item request) draft
     → IsProperControl (posted ((pen_at before).posts + 1) request)
@@ -68,24 +73,24 @@ PostStored st before word after =
 
 -- the lock word was loaded: where it was 1 that is a try that found the lock held, else nothing has
 -- changed
-abbrev pub LockRead : Step (Option Volume) → Seated → ℕ → Seated → Type 0
+abbrev pub LockRead : Step Slotted → Seated → ℕ → Seated → Type 0
 LockRead st before word after =
     (word ≡ 0 → after ≡ before) × (word ≢ 0 → (word ≡ 1) × Becomes before (after_miss (pen_at before)) after)
 
 -- The lock was tried. Where its word was 0 the pen, which did not lead, has the slot with the Book,
--- and knows of its journal what a pen knows of the one at home. Else its word was 1.
-pub record LockWon (before after : Seated) : Type 0 where
-  pub journal : List Line
-  pub knows : Knows (pen_at before).room (pen_at before) journal
+-- and knows of its journal what a pen knows of the one at home; and the Book meets the terms that the step
+-- names. Else its word was 1.
+pub record LockWon (terms : Terms) (before after : Seated) : Type 0 where
+  pub book : Volume
+  pub room : book.room ≡ (pen_at before).room
+  pub bounded : MeetsTerms terms book
+  pub knows : Knows (pen_at before).room (pen_at before) book.journal
   pub led_not : (pen_at before).leading ≡ false
-  pub next : ◌≡◌ {A = Seated} after (
-    Holder (after_lead (pen_at before) journal),
-    (0, Some (volume (pen_at before).room journal)) ∷ before.1,
-  )
+  pub next : ◌≡◌ {A = Seated} after (Holder (after_lead (pen_at before) book.journal), (0, with_book book) ∷ before.1)
 
-abbrev pub LockTried : Step (Option Volume) → Seated → ℕ → Seated → Type 0
+abbrev pub LockTried : Step Slotted → Seated → ℕ → Seated → Type 0
 LockTried st before word after =
-    (word ≡ 0 → LockWon before after) × (word ≢ 0 → (word ≡ 1) × Becomes before (after_miss (pen_at before)) after)
+    (word ≡ 0 → (terms : Terms) → st.said ≡ some (says terms) → LockWon terms before after) × (word ≢ 0 → (word ≡ 1) × Becomes before (after_miss (pen_at before)) after)
 
 -- the leader read this control of a desk
 pub record ControlRead (place : ℕ) (before : Seated) (word : ℕ) (after : Seated) : Type 0 where
@@ -95,7 +100,7 @@ pub record ControlRead (place : ℕ) (before : Seated) (word : ℕ) (after : Sea
   pub word_is : word ≡ control_word (desk.control place)
   pub next : Becomes before (after_read (pen_at before) place (desk.control place)) after
 
-abbrev pub MailRead : Step (Option Volume) → Seated → ℕ → Seated → Type 0
+abbrev pub MailRead : Step Slotted → Seated → ℕ → Seated → Type 0
 MailRead st before word after = (place : ℕ) → st.word ≡ control_at place → ControlRead place before word after
 
 -- the leader read word j of the item of what is due
@@ -106,7 +111,7 @@ pub record CellRead (wide : Bool) (j : ℕ) (due : Due) (before : Seated) (word 
   pub word_is : word ≡ word_of wide j (desk.item due.place)
   pub next : Becomes before (after_read_item (pen_at before) due (desk.item due.place)) after
 
-abbrev pub ItemRead : Bool → Step (Option Volume) → Seated → ℕ → Seated → Type 0
+abbrev pub ItemRead : Bool → Step Slotted → Seated → ℕ → Seated → Type 0
 ItemRead wide st before word after = (j : ℕ) (due : Due) → (pen_at before).due ≡ Some due → st.word ≡ item_at due.place + j
     → CellRead wide j due before word after
 
@@ -117,7 +122,7 @@ pub record WordLaid (wide : Bool) (j : ℕ) (due : Due) (x : Item) (before after
   pub range : IsItemOf wide (desk.item due.place)
   pub next : Becomes before (after_lay (pen_at before) due (mixed wide j x (desk.item due.place))) after
 
-abbrev pub ItemLaid : Bool → Step (Option Volume) → Seated → ℕ → Seated → Type 0
+abbrev pub ItemLaid : Bool → Step Slotted → Seated → ℕ → Seated → Type 0
 ItemLaid wide st before word after =
     (j : ℕ) (due : Due) (x : Item) → (pen_at before).due ≡ Some due → IsItemOf wide x → st.word ≡ item_at due.place + j
     → st.first ≡ word_of wide j x
@@ -125,7 +130,7 @@ ItemLaid wide st before word after =
 
 -- the leader stored the control of an answer to what is due: the request is that of the kind that
 -- is due, with the item that was read; and an item of the answer is the one that was laid
-abbrev pub AnswerStored : Step (Option Volume) → Seated → ℕ → Seated → Type 0
+abbrev pub AnswerStored : Step Slotted → Seated → ℕ → Seated → Type 0
 AnswerStored st before word after =
     (due : Due) (request : Request) (answer : Answer) → (pen_at before).due ≡ Some due
     → kind_of request ≡ due.kind → IsKept (request_item request) due.item → IsKept (answer_item answer) due.item
@@ -133,35 +138,39 @@ AnswerStored st before word after =
     → Becomes before (after_answer (pen_at before) due request answer) after
 
 -- the leader gave the slot back and freed the lock
-abbrev pub Released : Step (Option Volume) → Seated → ℕ → Seated → Type 0
+abbrev pub Released : Step Slotted → Seated → ℕ → Seated → Type 0
 Released st before word after = ◌≡◌ {A = Seated} after (Holder (after_release (pen_at before)), rest before.1)
 
--- the slot that the pen holds, or gives back, has the Book with the journal that was in its hand and the
--- line of its own operation, under its next serial, if this answer entered it
-abbrev pub BringsHomeBy : Seated → Operation → Answer → List (ℕ × Option Volume) → Type 0
+-- the slot that the pen holds, or gives back, has a Book of its room with this journal
+abbrev pub HasInSlot : Seated → List Line → List (ℕ × Slotted) → Type 0
+HasInSlot m journal others =
+    (book : Volume) × (home_of book ≡ volume (pen_at m).room journal)
+    × ◌≡◌ {A = List (ℕ × Slotted)} m.1 ((0, with_book book) ∷ others)
+
+-- it has the Book with the journal that was in its hand and the line of its own operation, under its next serial, if this answer
+-- entered it
+abbrev pub BringsHomeBy : Seated → Operation → Answer → List (ℕ × Slotted) → Type 0
 BringsHomeBy m operation answer others =
-    ◌≡◌ {A = List (ℕ × Option Volume)} m.1
-    ((0, Some (volume (pen_at m).room (journal_by (pen_at m).hand (pen_at m).place ((pen_at m).posts + 1) operation answer)))
-    ∷ others)
+    HasInSlot m (journal_by (pen_at m).hand (pen_at m).place ((pen_at m).posts + 1) operation answer) others
 
 -- the same with the line of its own request
-abbrev pub BringsHome : Seated → Request → Answer → List (ℕ × Option Volume) → Type 0
+abbrev pub BringsHome : Seated → Request → Answer → List (ℕ × Slotted) → Type 0
 BringsHome m request answer others = BringsHomeBy m (Asked request) answer others
 
 -- The leader applied a request of its own that was so answered, and loaded the lock: what stands in the
 -- slot, which it keeps, tells which line, if any, is the last. It knew the journal in its hand.
-abbrev pub Applied : Step (Option Volume) → Seated → ℕ → Seated → Type 0
+abbrev pub Applied : Step Slotted → Seated → ℕ → Seated → Type 0
 Applied st before word after =
-    (request : Request) (answer : Answer) → MayAnswer (pen_at before).room (pen_at before).hand request answer
+    (request : Request) (answer : Answer) → MayTellOf (pen_at before).room (pen_at before).hand request answer
     → BringsHome before request answer (rest before.1)
     → ((now : ℕ) × Becomes before (after_apply (pen_at before) request answer now) after)
     × Knows (pen_at before).room (pen_at before) (pen_at before).hand
 
 -- The leader gave the slot back and freed the lock, with an operation of its own that was so answered:
 -- what stood in the slot tells which line, if any, is the last. The leader knew the journal in its hand.
-abbrev pub ReleasedWith : Step (Option Volume) → Seated → ℕ → Seated → Type 0
+abbrev pub ReleasedWith : Step Slotted → Seated → ℕ → Seated → Type 0
 ReleasedWith st before word after =
-    (operation : Operation) (answer : Answer) → MayDo (pen_at before).room (pen_at before).hand operation answer
+    (operation : Operation) (answer : Answer) → MayTell (pen_at before).room (pen_at before).hand operation answer
     → BringsHomeBy before operation answer (rest before.1)
     → ((now : ℕ) × ◌≡◌ {A = Seated} after (Holder (after_release_by (pen_at before) operation answer now), rest before.1))
     × Knows (pen_at before).room (pen_at before) (pen_at before).hand
@@ -176,7 +185,7 @@ pub record Looked (request : Request) (before : Seated) (word : ℕ) (after : Se
   pub next : Becomes before (after_look (pen_at before) request (desk.control (pen_at before).place) now) after
 
 -- the same; and where every store is roomy enough for the journal, that was not the answer NoMemory
-abbrev pub AnswerLooked : (ℕ → Type 0) → Step (Option Volume) → Seated → ℕ → Seated → Type 0
+abbrev pub AnswerLooked : (ℕ → Type 0) → Step Slotted → Seated → ℕ → Seated → Type 0
 AnswerLooked roomy st before word after =
     (request : Request) → (pen_at before).standing ≡ Waiting request
     → Looked request before word after × (roomy (pen_at before).room → word ≢ control_word (answered NoMemory))
@@ -189,7 +198,7 @@ pub record WordSeen (wide : Bool) (j : ℕ) (before : Seated) (word : ℕ) (afte
   pub word_is : word ≡ word_of wide j (desk.item (pen_at before).place)
   pub next : Becomes before (after_see (pen_at before) (desk.item (pen_at before).place)) after
 
-abbrev pub ItemSeen : Bool → Step (Option Volume) → Seated → ℕ → Seated → Type 0
+abbrev pub ItemSeen : Bool → Step Slotted → Seated → ℕ → Seated → Type 0
 ItemSeen wide st before word after = (j : ℕ) → st.word ≡ item_at (pen_at before).place + j → WordSeen wide j before word after
 
 -- the pen took the item of the answer that it has seen at its own place, of which it read word j
@@ -202,7 +211,7 @@ pub record Taken (wide : Bool) (j : ℕ) (request : Request) (notice : Notice) (
   pub now : ℕ
   pub next : Becomes before (after_take (pen_at before) request notice (desk.item (pen_at before).place) now) after
 
-abbrev pub ItemTaken : Bool → Step (Option Volume) → Seated → ℕ → Seated → Type 0
+abbrev pub ItemTaken : Bool → Step Slotted → Seated → ℕ → Seated → Type 0
 ItemTaken wide st before word after =
     (j : ℕ) (request : Request) (notice : Notice) → (pen_at before).standing ≡ Waiting request
     → (pen_at before).own ≡ Answered notice

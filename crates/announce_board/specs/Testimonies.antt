@@ -1,9 +1,10 @@
 -- Testimonies of the pens of a desk, by which they are seen side by side.
-use Rattle.std.specs.Prelude.{◌≡◌, ℕ, ◌+◌, Bool, false, List, [], ◌∷◌, ◌++◌, Option}
+use Rattle.std.specs.Prelude.{◌≡◌, ℕ, ◌+◌, Bool, false, List, [], ◌∷◌, ◌++◌}
 use mathlib.Core.Option.{none}
 use Rattle.atomic_table.specs.Seated.{TableId}
 use Rattle.atomic_table.specs.Table.{Step, Allows, Splits, Joins, step}
-use Rattle.pq_book.specs.Book.{Volume}
+use Rattle.announce_board.specs.declared.terms.Terms.{Terms}
+use Rattle.announce_board.specs.Slots.{Slotted}
 use Rattle.desk_core.specs.Layout.{lock_at}
 use Rattle.desk_core.specs.Testimonies.{after_retiring}
 use Rattle.desk_core.specs.Witnessed.{AreLinearized}
@@ -68,26 +69,26 @@ abbrev pub both_testify : View → View → View
 both_testify v w = Testimony (pens_of v ++ pens_of w) (licences_of v + licences_of w)
 
 -- one load has told that the pens of the testimony fit one history, and one journal that linearizes it
-abbrev pub Compared : Step (Option Volume) → Seated → ℕ → Seated → Type 0
+abbrev pub Compared : Step Slotted → Seated → ℕ → Seated → Type 0
 Compared st before word after = (◌≡◌ {A = Seated} after before) × ((room : ℕ) × AreLinearized room (pens_of before.0))
 
 -- each pen may give testimony
 abbrev pub TestifyAllowed : Bool → (ℕ → Type 0) → Type 0
-TestifyAllowed wide roomy = AtEachPen (λ room places slots id m.
-    Splits (Keeps wide roomy room places) id m.0 m.0 (testimony_of m.0))
+TestifyAllowed wide roomy = AtEachPen (λ room terms places slots id m.
+    Splits (Keeps wide roomy room terms places) id m.0 m.0 (testimony_of m.0))
 
 -- and each that does not lead may retire
 abbrev pub RetireAllowed : Bool → (ℕ → Type 0) → Type 0
-RetireAllowed wide roomy = AtEachPen (λ room places slots id m. (pen_at m).leading ≡ false
-    → Splits (Keeps wide roomy room places) id m.0 (retiree m.0) (last_testimony m.0))
+RetireAllowed wide roomy = AtEachPen (λ room terms places slots id m. (pen_at m).leading ≡ false
+    → Splits (Keeps wide roomy room terms places) id m.0 (retiree m.0) (last_testimony m.0))
 
 -- any two testimonies may be put together
 abbrev pub GatherAllowed : Bool → (ℕ → Type 0) → Type 0
-GatherAllowed wide roomy = (room places id : ℕ) (v : View) (other : ℕ) (w : View)
+GatherAllowed wide roomy = (room : ℕ) (terms : Terms) (places id : ℕ) (v : View) (other : ℕ) (w : View)
     → v ≡ testimony_at v → w ≡ testimony_at w
-    → Joins (Keeps wide roomy room places) id v other w (both_testify v w) (Testimony [] 0)
+    → Joins (Keeps wide roomy room terms places) id v other w (both_testify v w) (Testimony [] 0)
 
 -- and the pens of each may be compared
 abbrev pub CompareAllowed : Bool → (ℕ → Type 0) → Type 0
-CompareAllowed wide roomy = (room places slots id : ℕ) (m : Seated) → m.0 ≡ testimony_at m.0
-    → Allows (Keeps wide roomy room places) slots id m lock_at (λ n. n) (Compared (step slots lock_at 0 0 none) m)
+CompareAllowed wide roomy = (room : ℕ) (terms : Terms) (places slots id : ℕ) (m : Seated) → m.0 ≡ testimony_at m.0
+    → Allows (Keeps wide roomy room terms places) slots id m lock_at (λ n. n) (Compared (step slots lock_at 0 0 none) m)

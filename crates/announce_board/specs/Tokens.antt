@@ -2,6 +2,7 @@
 use Rattle.std.specs.Prelude.{◌≡◌, ℕ, ◌+◌, ◌<◌, Bool, true, false, List, [], ◌∷◌}
 use Rattle.atomic_table.specs.Seated.{TableId}
 use Rattle.pq_book.specs.Book.{Volume}
+use Rattle.desk_core.specs.Home.{home_of}
 use Rattle.desk_core.specs.Desk.{volume}
 use Rattle.desk_core.specs.Knows.{NoneAbove}
 use Rattle.desk_core.specs.Pen.{new_pen}
@@ -12,13 +13,15 @@ use Rattle.desk_core.specs.declared.model.PenState.{PenState}
 use Rattle.desk_core.specs.declared.model.View.{View}
 use Rattle.desk_core.specs.declared.model.View.TheVariants.{Holder}
 use Rattle.announce_board.specs.Rule.{Seated, held_slots, pen_of}
+use Rattle.announce_board.specs.declared.terms.Terms.{Terms}
 use Rattle.announce_board.specs.Steps.{pen_at}
 
--- a desk: its table, the number of its places, and how many lines its journal has room for
+-- a desk: its table, the number of its places, for how many lines its journal has room, and its terms
 pub record Running : Type 0 where
   pub table : TableId
   pub places : ℕ
   pub room : ℕ
+  pub terms : Terms
 
 -- a pen: the table of its desk, and what it has done and seen
 pub record AtDesk : Type 0 where
@@ -37,20 +40,25 @@ pub record IsLeadOf (pen : AtDesk) (lead : Leading) : Type 0 where
   pub table : lead.table ≡ pen.table
   pub place : lead.place ≡ pen.state.place
   pub leads : pen.state.leading ≡ true
-  pub book : lead.book ≡ volume pen.state.room pen.state.hand
+  pub book : home_of lead.book ≡ volume pen.state.room pen.state.hand
   pub used : NoneAbove pen.state.place pen.state.posts pen.state.hand
+
+-- the lead whose Book allows so many lines until more are archived
+abbrev pub allowing : Leading → ℕ → Leading
+allowing lead lines = record lead { book = record lead.book { allowed = lines } }
 
 -- whether a pen waits for no answer
 abbrev pub is_idle : Standing → Bool
 is_idle (Idle draft) = true
 is_idle (Waiting request) = false
 
--- the table is that of a desk with these places and this room
-pub record IsDesk (table : TableId) (key_places key_room places room : ℕ) : Type 0 where
+-- the table is that of a desk with these places, this room and these terms
+pub record IsDesk (table : TableId) (key_places key_room : ℕ) (key_terms : Terms) (places room : ℕ) (terms : Terms) : Type 0 where
   pub words : table.words ≡ word_count places
   pub slots : table.slots ≡ 1
   pub places_are : places ≡ key_places
   pub room_is : room ≡ key_room
+  pub terms_are : terms ≡ key_terms
 
 -- the seat is that of a pen at this place, whose record has words in the table
 pub record IsAt (table : TableId) (m : Seated) (place : ℕ) : Type 0 where

@@ -1,26 +1,28 @@
 // How a leader applies requests of its own, one by one, and goes on leading. It posts nothing.
-ghost use Rattle.std.specs.Prelude.{◌≡◌, ◌≢◌, ℕ, ◌+◌, ◌<◌, ◌≤◌, true, [], ◌∷◌, length, Some, None};
+ghost use Rattle.std.specs.Prelude.{◌≡◌, ◌≢◌, ℕ, ◌+◌, ◌<◌, ◌≤◌, true, [], ◌∷◌, length};
 ghost use Rattle.pq_types.specs.Asked.{Reply};
 ghost use Rattle.pq_types.specs.declared.answer.Answer.TheVariants.{Entered};
 ghost use Rattle.pq_types.specs.declared.journal.TheConstants.{GREATEST_NUMBER};
 ghost use Rattle.pq_types.specs.History.{left, MayAnswer, journal_after};
-ghost use Rattle.pq_book.specs.Book.{AllHaveRoom, Volume};
+ghost use Rattle.pq_book.specs.Book.{AllHaveRoom, Volume, limits_of};
+ghost use Rattle.desk_core.specs.Home.{home_of};
 ghost use Rattle.desk_core.specs.declared.model.View.TheVariants.{Holder};
 ghost use Rattle.desk_core.specs.Desk.{volume};
 ghost use Rattle.desk_core.specs.Knows.{NoneAbove};
 ghost use Rattle.desk_core.specs.Layout.{lock_at};
 ghost use Rattle.desk_core.specs.Pen.{IsIdle, after_apply};
 ghost use Rattle.announce_board.specs.Asking.{IsAnswerTo, IsAboveAll, IsFullFor};
+ghost use Rattle.announce_board.specs.Slots.{with_book, out};
 ghost use Rattle.announce_board.specs.Steps.{pen_at};
 ghost use Rattle.announce_board.specs.Tokens.{IsLeadOf, is_idle};
 
 use crate::boxed_book::BoxedBook;
 use crate::desk::Desk;
 use crate::laws::law_steps_are_allowed;
-use crate::rule::{Apply, Board, BoardSeat};
+use crate::rule::{Apply, Board, BoardSeat, Slot};
 use crate::tokens::{Lead, Pen};
 use crate::words::LOCK;
-use desk_core::laws::law_calls_are_lines;
+use desk_core::laws::{law_books_deal, law_calls_are_lines};
 use leftist_heap::Store;
 use pq_book::Entry;
 use pq_types::laws::law_request_is_proper;
@@ -32,12 +34,12 @@ fn take_back<S: Store<Entry<P>>, P: Part>(
     seat: &mut BoardSeat<S, P>,
 ) -> BoxedBook<S, P>
     requires here { seat.old.table_id ≡ board.now.table_id }
-    requires slot { (book : Volume) × (seat.old.me.1 ≡ (0, Some book) ∷ []) }
+    requires slot { (book : Volume) × (seat.old.me.1 ≡ (0, with_book book) ∷ []) }
     ensures table { seat.new.table_id ≡ seat.old.table_id }
-    ensures book { seat.old.me.1 ≡ (0, Some result) ∷ [] }
-    ensures after { seat.new.me ≡ (seat.old.me.0, (0, None) ∷ []) }
+    ensures book { seat.old.me.1 ≡ (0, with_book result) ∷ [] }
+    ensures after { seat.new.me ≡ (seat.old.me.0, (0, out) ∷ []) }
 {
-    match board.exchange(seat, 0, None) {
+    match board.exchange(seat, 0, Slot::out()).into_inner() {
         Some(book) => book,
         None => unreachable!(),
     }
@@ -56,32 +58,34 @@ fn apply_own<S: Store<Entry<P>>, P: Part>(
     requires here { seat.old.table_id ≡ board.now.table_id }
     requires is { seat.old.me.0 ≡ Holder (pen_at seat.old.me) }
     requires lock { lock_at < board.now.table_id.words }
-    requires slot { seat.old.me.1 ≡ (0, None) ∷ [] }
+    requires slot { seat.old.me.1 ≡ (0, out) ∷ [] }
     requires leads { (pen_at seat.old.me).leading ≡ true }
     requires idle { IsIdle (pen_at seat.old.me).standing }
     requires place { place ≡ (pen_at seat.old.me).place }
     requires serial { serial ≡ (pen_at seat.old.me).posts + 1 }
     requires few { serial ≤ GREATEST_NUMBER }
     requires used { NoneAbove (pen_at seat.old.me).place (pen_at seat.old.me).posts (pen_at seat.old.me).hand }
-    requires book { book ≡ volume (pen_at seat.old.me).room (pen_at seat.old.me).hand }
+    requires book { home_of book ≡ volume (pen_at seat.old.me).room (pen_at seat.old.me).hand }
     ensures table { seat.new.table_id ≡ seat.old.table_id }
-    ensures may { MayAnswer (pen_at seat.old.me).room (pen_at seat.old.me).hand request result.1 }
+    ensures may { MayAnswer (limits_of book) (pen_at seat.old.me).hand request result.1 }
     ensures answers { IsAnswerTo (pen_at seat.old.me).room request result.1 }
     ensures behind { (number : ℕ) (reply : Reply) → result.1 ≡ Entered number reply → IsAboveAll number (pen_at seat.old.me).mine }
     ensures full { result.1 ≡ Answer.BookFull → IsFullFor (pen_at seat.new.me) }
     ensures barred { IsFullFor (pen_at seat.old.me) → (number : ℕ) (reply : Reply) → result.1 ≢ Entered number reply }
     ensures memory { AllHaveRoom S.room (pen_at seat.old.me).room → result.1 ≢ Answer.NoMemory }
     ensures spare { AllHaveRoom S.room (length (left (pen_at seat.old.me).hand) + 1) → result.1 ≢ Answer.NoMemory }
-    ensures book { result.0 ≡ volume (pen_at seat.old.me).room
+    ensures limits { limits_of result.0 ≡ limits_of book }
+    ensures book { home_of result.0 ≡ volume (pen_at seat.old.me).room
         (journal_after (pen_at seat.old.me).hand (pen_at seat.old.me).place ((pen_at seat.old.me).posts + 1) request result.1) }
-    ensures after { (now : ℕ) × (seat.new.me ≡ (Holder (after_apply (pen_at seat.old.me) request result.1 now), (0, None) ∷ [])) }
+    ensures after { (now : ℕ) × (seat.new.me ≡ (Holder (after_apply (pen_at seat.old.me) request result.1 now), (0, out) ∷ [])) }
 {
     law_steps_are_allowed::<S, P>();
     law_calls_are_lines();
+    law_books_deal();
     law_request_is_proper(&request);
     let mut book = book;
     let answer = book.boxed.apply(place, serial, request);
-    drop(board.exchange(seat, 0, Some(book)));
+    drop(board.exchange(seat, 0, Slot::with(book)));
     board.load::<Apply>(seat, LOCK);
     (take_back(board, seat), answer)
 }
@@ -112,7 +116,8 @@ impl<S: Store<Entry<P>>, P: Part> Desk<S, P> {
         requires idle { is_idle pen.old.state.standing ≡ true }
         requires few { pen.old.state.posts < GREATEST_NUMBER }
         ensures lead { IsLeadOf pen.new result.0 }
-        ensures may { MayAnswer pen.old.state.room pen.old.state.hand request result.1 }
+        ensures limits { limits_of result.0.book ≡ limits_of lead.book }
+        ensures may { MayAnswer (limits_of lead.book) pen.old.state.hand request result.1 }
         ensures answers { IsAnswerTo pen.old.state.room request result.1 }
         ensures behind { (number : ℕ) (reply : Reply) → result.1 ≡ Entered number reply → IsAboveAll number pen.old.state.mine }
         ensures full { result.1 ≡ Answer.BookFull → IsFullFor pen.new.state }

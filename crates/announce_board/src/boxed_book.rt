@@ -1,6 +1,8 @@
 // A Book on the heap.
 ghost use Rattle.std.specs.Prelude.{◌≡◌};
+ghost use Rattle.announce_board.specs.Slots.{terms_of};
 
+use crate::terms::Terms;
 use leftist_heap::Store;
 use pq_book::{Book, Entry};
 use pq_types::Part;
@@ -23,6 +25,16 @@ impl<S: Store<Entry<P>>, P: Part> Model for BoxedBook<S, P> {
 }
 
 impl<S: Store<Entry<P>>, P: Part> BoxedBook<S, P> {
+    /// Its terms, as they are now.
+    pub(crate) fn terms(&self) -> Terms
+        ensures { result ≡ terms_of self.now }
+    {
+        Terms {
+            bound: self.boxed.bound(),
+            allowed: self.boxed.allowed(),
+        }
+    }
+
     /// The Book, whose memory on the heap is freed.
     pub(crate) fn into_book(self) -> Book<S, Global, P>
         ensures { result ≡ self }

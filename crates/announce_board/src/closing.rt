@@ -1,7 +1,8 @@
 // How a desk is closed.
-ghost use Rattle.std.specs.Prelude.{◌≡◌, ◌≢◌, true, false, Some, IfOk, IfErr};
+ghost use Rattle.std.specs.Prelude.{◌≡◌, ◌≢◌, true, false, IfOk, IfErr};
 ghost use Rattle.pq_book.specs.Book.{Volume};
 ghost use Rattle.desk_core.specs.Knows.{Knows};
+ghost use Rattle.announce_board.specs.Slots.{MeetsTerms, with_book};
 ghost use Rattle.announce_board.specs.Opening.{IsHomeBook, IsHomeWith, IsHeld, IsHeldWith};
 ghost use Rattle.announce_board.specs.Opening.{HasAll, IsHomeWithAll, AllKnow, LinesAreOfThese, HavePlaces};
 
@@ -22,14 +23,14 @@ fn book_of<S: Store<Entry<P>>, P: Part>(
     lock: u64,
     slot: Slot<S, P>,
 ) -> Result<Book<S, Global, P>, LockHeld>
-    requires home { lock ≡ 0 → (book : Volume) × (slot ≡ Some book) }
-    ensures ok { IfOk result (λ book. (lock ≡ 0) × (slot ≡ Some book)) }
+    requires home { lock ≡ 0 → (book : Volume) × (slot ≡ with_book book) }
+    ensures ok { IfOk result (λ book. (lock ≡ 0) × (slot ≡ with_book book)) }
     ensures err { IfErr result (λ _. lock ≢ 0) }
 {
     if lock != 0 {
         return Err(LockHeld);
     }
-    Ok(slot.unwrap().into_book())
+    Ok(slot.into_inner().unwrap().into_book())
 }
 
 impl<S: Store<Entry<P>>, P: Part> Desk<S, P> {
@@ -37,6 +38,7 @@ impl<S: Store<Entry<P>>, P: Part> Desk<S, P> {
     /// only where a pen leads, or kept the Book for good.
     pub fn close(self) -> Result<Book<S, Global, P>, LockHeld>
         ensures ok { IfOk result (λ book. IsHomeBook self.room book) }
+        ensures terms { IfOk result (λ book. MeetsTerms self.terms book) }
         ensures err { IfErr result (λ _. IsHeld self.room) }
     {
         law_opening_and_end::<S, P>();
@@ -44,6 +46,7 @@ impl<S: Store<Entry<P>>, P: Part> Desk<S, P> {
             table,
             places: _,
             room: _,
+            terms: _,
         } = self;
         let mut closed = table.close();
         let lock = closed.word(LOCK);
@@ -59,6 +62,7 @@ impl<S: Store<Entry<P>>, P: Part> Desk<S, P> {
     pub fn close_with(self, pen: Pen<S, P>) -> Result<Book<S, Global, P>, LockHeld>
         requires table { pen.table ≡ self.table }
         ensures ok { IfOk result (λ book. IsHomeWith self.room pen.state book) }
+        ensures terms { IfOk result (λ book. MeetsTerms self.terms book) }
         ensures knows { IfOk result (λ book. Knows pen.state.room pen.state book.journal) }
         ensures led_not { IfOk result (λ _. pen.state.leading ≡ false) }
         ensures err { IfErr result (λ _. IsHeldWith self.room pen.state) }
@@ -69,6 +73,7 @@ impl<S: Store<Entry<P>>, P: Part> Desk<S, P> {
             table,
             places: _,
             room: _,
+            terms: _,
         } = self;
         let Pen { seat, .. } = pen;
         let mut closed = table.close_with(seat);
@@ -86,6 +91,7 @@ impl<S: Store<Entry<P>>, P: Part> Desk<S, P> {
         requires table { testimony.table ≡ self.table }
         requires all { HasAll self.places testimony.pens testimony.licences }
         ensures home { IsHomeWithAll self.room testimony.pens result }
+        ensures terms { MeetsTerms self.terms result }
         ensures knows { AllKnow testimony.pens result }
         ensures only { LinesAreOfThese testimony.pens result.journal }
         ensures placed { HavePlaces self.places testimony.pens }
@@ -95,11 +101,12 @@ impl<S: Store<Entry<P>>, P: Part> Desk<S, P> {
             table,
             places: _,
             room: _,
+            terms: _,
         } = self;
         let Testimony { badge } = testimony;
         let mut closed = table.close_with(badge.into_seat());
         let slot = closed.take(0);
         closed.free();
-        slot.unwrap().into_book()
+        slot.into_inner().unwrap().into_book()
     }
 }

@@ -2,11 +2,12 @@
 ghost use Rattle.std.specs.Prelude.{◌≡◌, ◌≢◌, ℕ, ◌+◌, ◌<◌, true, false, length, Some, IfSome, IfNone, MatchOption};
 ghost use Rattle.pq_types.specs.declared.journal.TheConstants.{GREATEST_NUMBER};
 ghost use Rattle.pq_types.specs.History.{left};
-ghost use Rattle.pq_book.specs.Book.{AllHaveRoom};
+ghost use Rattle.pq_book.specs.Book.{AllHaveRoom, limits_of};
 ghost use Rattle.desk_core.specs.Knows.{NoneAbove};
 ghost use Rattle.desk_core.specs.Pen.{after_miss, after_release};
 ghost use Rattle.desk_core.specs.Words.{word_number};
 ghost use Rattle.announce_board.specs.ItemWords.{drafted_by};
+ghost use Rattle.announce_board.specs.Slots.{MeetsTerms};
 ghost use Rattle.announce_board.specs.Tokens.{IsLeadOf, is_idle};
 ghost use Rattle.announce_board.specs.Asking.{asked_by, Waits, LooksBy};
 ghost use Rattle.announce_board.specs.Serving.{Wins, ServesWhereBy, ServesOtherThanBy};
@@ -15,6 +16,7 @@ use crate::asking::{look_at_record, post_request, store_item};
 use crate::locking::{put_home, win_book};
 use crate::rule::DeskTable;
 use crate::serving::serve_place;
+use crate::terms::Terms;
 use crate::tokens::{Lead, Pen};
 use leftist_heap::Store;
 use pq_book::Entry;
@@ -24,12 +26,13 @@ use std::marker::Model;
 use std::snapshot::Snapshot;
 
 /// A desk that threads share through a `&`: a lock, a publication record for each place, and a
-/// Book. A contract sees of it its table, the number of its places, and the room of its journal.
+/// Book. A contract sees of it its table, the number of its places, the room of its journal, and its terms.
 #[derive(Drop)]
 pub struct Desk<S: Store<Entry<P>>, P: Part = u32> {
     pub(crate) table: DeskTable<S, Global, P>,
     pub(crate) places: u16,
     pub(crate) room: u64,
+    pub(crate) terms: Terms,
 }
 
 impl<S: Store<Entry<P>>, P: Part> Model for Desk<S, P> {
@@ -37,9 +40,10 @@ impl<S: Store<Entry<P>>, P: Part> Model for Desk<S, P> {
 
     ghost Value = { Running };
 
-    ghost view = { λ d. record { table = d.table.shared.table_id; places = d.places; room = d.room } };
+    ghost view = { λ d. record { table = d.table.shared.table_id; places = d.places; room = d.room; terms = d.terms } };
 
-    ghost invariant = { λ d. IsDesk d.table.shared.table_id d.table.shared.key.places d.table.shared.key.room d.places d.room };
+    ghost invariant = { λ d. IsDesk d.table.shared.table_id d.table.shared.key.places d.table.shared.key.room d.table.shared.key.terms
+        d.places d.room d.terms };
 }
 
 impl<S: Store<Entry<P>>, P: Part> Desk<S, P> {
@@ -55,6 +59,13 @@ impl<S: Store<Entry<P>>, P: Part> Desk<S, P> {
         ensures { result ≡ self.now.room }
     {
         self.room
+    }
+
+    /// The terms of its queue.
+    pub fn terms(&self) -> Terms
+        ensures { result ≡ self.now.terms }
+    {
+        self.terms
     }
 
     /// The idle pen stores an item in its cell, a step for each of its words. A post that follows
@@ -106,15 +117,16 @@ impl<S: Store<Entry<P>>, P: Part> Desk<S, P> {
     }
 
     /// The pen tries the lock, in one step of the machine: a load that reads it held, or else a compare_exchange behind the load.
-    /// `None` where another pen leads.
+    /// `None` where another pen leads. The Book of the lead meets the desk's terms.
     pub fn try_lead(&self, pen: &mut Pen<S, P>) -> Option<Lead<S, P>>
         requires table { pen.old.table ≡ self.now.table }
         ensures table { pen.new.table ≡ pen.old.table }
         ensures lead { IfSome result (λ lead. IsLeadOf pen.new lead) }
         ensures wins { IfSome result (λ lead. Wins pen.old.state lead.book pen.new.state) }
+        ensures terms { IfSome result (λ lead. MeetsTerms self.now.terms lead.book) }
         ensures misses { IfNone result (pen.new.state ≡ after_miss pen.old.state) }
     {
-        let book = win_book(&self.table.shared, &mut pen.seat)?;
+        let book = win_book(&self.table.shared, &mut pen.seat, self.terms)?;
         let seat = Snapshot::of(&pen.seat);
         Some(Lead { book, seat })
     }
@@ -129,6 +141,7 @@ impl<S: Store<Entry<P>>, P: Part> Desk<S, P> {
         requires place { place < self.now.places }
         ensures table { pen.new.table ≡ pen.old.table }
         ensures lead { IsLeadOf pen.new lead.new }
+        ensures limits { limits_of lead.new.book ≡ limits_of lead.old.book }
         ensures serves { ServesWhereBy (word_number P.wide) result place pen.old.state pen.new.state lead.new.book }
         ensures memory { AllHaveRoom S.room pen.old.state.room
             → ServesOtherThanBy (word_number P.wide) Answer.NoMemory place pen.old.state pen.new.state lead.new.book }
@@ -147,6 +160,7 @@ impl<S: Store<Entry<P>>, P: Part> Desk<S, P> {
     pub fn release(&self, pen: &mut Pen<S, P>, lead: Lead<S, P>)
         requires table { pen.old.table ≡ self.now.table }
         requires lead { IsLeadOf pen.old lead }
+        requires terms { MeetsTerms self.now.terms lead.book }
         ensures { pen.new ≡ record pen.old { state = after_release pen.old.state } }
     {
         put_home(&self.table.shared, &mut pen.seat, lead.into_boxed());

@@ -17,7 +17,13 @@
 //!   posted.
 //! - `Desk::apply` carries out a request of the leader's own, which posts nothing, and goes on leading: the Book in its hand has
 //!   its line, and the pen its answer. `Desk::release_with` frees the lock with one: the Book that goes home has its line.
-//!   `Desk::release_by_ticket` frees it so with a removal or a move of an item by its ticket.
+//!   `Desk::release_by_ticket` frees it so with a removal or a move of an item by its ticket, and `Desk::release_shut`
+//!   with a shut of the queue.
+//! - The Book decides under the lock whether an operation is refused, and why. `Desk::serve`, `Desk::apply`
+//!   and the releases answer as the journal in hand and the limits of the lead's Book say. `serve` and
+//!   `apply` leave these limits; `Lead::archived` lets the Book allow more lines. The Book of each lead meets
+//!   the desk's terms: it has their bound, and allows as many lines as they do, or more
+//!   (`leading::law_leads_stay`).
 //! - `Desk::note` writes a note of the journal, which another pen of the desk may `Desk::hear`, in any thread: then each
 //!   later line of that pen is behind the journal that the note tells, which has all calls of the writer.
 //! - A pen that leads may draft, post and look meanwhile: its lead stays its own (`leading::law_leads_stay`).
@@ -54,7 +60,9 @@ mod own_request;
 mod rule;
 pub mod running;
 mod serving;
+mod shutting;
 pub mod sleeping;
+pub mod terms;
 pub mod testimony;
 pub mod tokens;
 mod words;
@@ -63,5 +71,6 @@ pub use desk::Desk;
 pub use error::{DeskError, LockHeld};
 pub use notes::Note;
 pub use sleeping::Sleeper;
+pub use terms::Terms;
 pub use testimony::Testimony;
 pub use tokens::{Lead, Pen, Stowed};

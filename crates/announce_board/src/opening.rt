@@ -1,26 +1,29 @@
 // How a desk is opened.
 ghost use Rattle.std.specs.Prelude.{◌≡◌, ◌+◌, ◌<◌, ◌≤◌, ◌↔◌, ℕ, [], length, IfOk, IsErrOf};
 ghost use Rattle.pq_types.specs.declared.journal.TheConstants.{GREATEST_NUMBER};
-ghost use Rattle.pq_book.specs.Book.{IsRoom};
+ghost use Rattle.pq_book.specs.Book.{IsRoom, IsLongRoom};
 ghost use Rattle.pq_book.specs.Pages.{IsLongPage, room_keeping};
+ghost use Rattle.desk_core.specs.Home.{home_of};
 ghost use Rattle.desk_core.specs.Desk.{volume};
 ghost use Rattle.desk_core.specs.Layout.{word_count};
 ghost use Rattle.desk_core.specs.declared.model.View.TheVariants.{Dealer};
 ghost use Rattle.announce_board.specs.Opening.{Opens, ArePens, pen_of_place};
+ghost use Rattle.announce_board.specs.Slots.{terms_of, plain_terms};
 ghost use Rattle.announce_board.specs.Tokens.{IsDesk};
 
 use crate::boxed_book::BoxedBook;
 use crate::desk::Desk;
 use crate::error::DeskError;
 use crate::laws::law_opening_and_end;
-use crate::rule::{Board, BoardSeat, DeskTable, NextPen, Plan};
+use crate::rule::{Board, BoardSeat, DeskTable, NextPen, Plan, Slot};
+use crate::terms::Terms;
 use crate::tokens::Pen;
 use crate::words::words_of;
 use atomic_table::{Refused, Table};
 use leftist_heap::{Leftist, Store};
 use pq_book::limit::room_keeping;
 use pq_book::{Book, BookError, Entry};
-use pq_types::Part;
+use pq_types::{MOST_LINES, Part};
 use std::alloc::{AllocError, Allocator, Global};
 
 impl<S: Store<Entry<P>>, P: Part> Desk<S, P> {
@@ -36,21 +39,19 @@ impl<S: Store<Entry<P>>, P: Part> Desk<S, P> {
     ) -> Result<(Desk<S, P>, Vec<Pen<S, P>>), DeskError>
         requires empty { S.content store ≡ [] }
         ensures ok { IfOk result (λ r. Opens places lines r.0 r.1.items) }
+        ensures terms { IfOk result (λ r. r.0.terms ≡ plain_terms lines) }
         ensures in_range { IfOk result (λ _. IsRoom lines) }
         ensures out_of_range { IsErrOf result DeskError.LinesOutOfRange ↔ (¬ (IsRoom lines)) }
     {
-        let book = match Book::new(alloc, store, lines) {
-            Ok(book) => book,
-            Err(BookError::LinesOutOfRange) => return Err(DeskError::LinesOutOfRange),
-            Err(BookError::NoMemory) => return Err(DeskError::NoMemory),
-        };
-        let Ok(boxed) = Box::new(alloc, book) else {
-            return Err(DeskError::NoMemory);
-        };
-        match opened(alloc, BoxedBook { boxed }, places, u64::from(lines)) {
-            Ok(made) => Ok(made),
-            Err(AllocError) => Err(DeskError::NoMemory),
+        let room = u64::from(lines);
+        if room > MOST_LINES {
+            return Err(DeskError::LinesOutOfRange);
         }
+        let plain = Terms {
+            bound: room + 1,
+            allowed: room,
+        };
+        Desk::limited(alloc, store, places, room, plain)
     }
 
     /// A desk with this empty store and so many places, and a long journal, of which the last so many
@@ -65,17 +66,50 @@ impl<S: Store<Entry<P>>, P: Part> Desk<S, P> {
     ) -> Result<(Desk<S, P>, Vec<Pen<S, P>>), AllocError>
         requires empty { S.content store ≡ [] }
         requires kept { IsLongPage kept }
-        ensures { IfOk result (λ r. Opens places (room_keeping kept) r.0 r.1.items) }
+        ensures ok { IfOk result (λ r. Opens places (room_keeping kept) r.0 r.1.items) }
+        ensures terms { IfOk result (λ r. r.0.terms ≡ plain_terms (room_keeping kept)) }
     {
         let room = room_keeping(kept);
+        let plain = Terms {
+            bound: room + 1,
+            allowed: room,
+        };
         // So many lines are in the range, so that memory alone can be missing.
-        let Ok(book) = Book::lasting(alloc, store, room) else {
-            return Err(AllocError);
+        match Desk::limited(alloc, store, places, room, plain) {
+            Ok(made) => Ok(made),
+            Err(_) => Err(AllocError),
+        }
+    }
+
+    /// A desk with this empty store and so many places, a journal of so many lines, 1 to
+    /// 72,057,594,037,927,936, else `LinesOutOfRange`, and a queue of these terms; else as `with_store`. One that
+    /// refuses rather than forget a line that is not archived allows as many lines as are kept; one that forgets
+    /// allows all.
+    pub fn limited(
+        alloc: Global,
+        store: S,
+        places: u16,
+        room: u64,
+        terms: Terms,
+    ) -> Result<(Desk<S, P>, Vec<Pen<S, P>>), DeskError>
+        requires empty { S.content store ≡ [] }
+        ensures ok { IfOk result (λ r. Opens places room r.0 r.1.items) }
+        ensures terms { IfOk result (λ r. r.0.terms ≡ terms) }
+        ensures in_range { IfOk result (λ _. IsLongRoom room) }
+        ensures out_of_range { IsErrOf result DeskError.LinesOutOfRange ↔ (¬ (IsLongRoom room)) }
+    {
+        let book = match Book::limited(alloc, store, room, terms.bound, terms.allowed) {
+            Ok(book) => book,
+            Err(BookError::LinesOutOfRange) => return Err(DeskError::LinesOutOfRange),
+            Err(BookError::NoMemory) => return Err(DeskError::NoMemory),
         };
         let Ok(boxed) = Box::new(alloc, book) else {
-            return Err(AllocError);
+            return Err(DeskError::NoMemory);
         };
-        opened(alloc, BoxedBook { boxed }, places, room)
+        match opened(alloc, BoxedBook { boxed }, places, room) {
+            Ok(made) => Ok(made),
+            Err(AllocError) => Err(DeskError::NoMemory),
+        }
     }
 }
 
@@ -95,6 +129,7 @@ impl Desk<Leftist<Entry, Global>> {
         DeskError,
     >
         ensures ok { IfOk result (λ r. Opens places lines r.0 r.1.items) }
+        ensures terms { IfOk result (λ r. r.0.terms ≡ plain_terms lines) }
         ensures in_range { IfOk result (λ _. IsRoom lines) }
         ensures out_of_range { IsErrOf result DeskError.LinesOutOfRange ↔ (¬ (IsRoom lines)) }
     {
@@ -109,15 +144,18 @@ fn opened<S: Store<Entry<P>>, P: Part>(
     places: u16,
     lines: u64,
 ) -> Result<(Desk<S, P>, Vec<Pen<S, P>>), AllocError>
-    requires book { book ≡ volume lines [] }
+    requires book { home_of book ≡ volume lines [] }
     requires lines { lines ≤ GREATEST_NUMBER }
-    ensures { IfOk result (λ r. Opens places lines r.0 r.1.items) }
+    ensures ok { IfOk result (λ r. Opens places lines r.0 r.1.items) }
+    ensures terms { IfOk result (λ r. r.0.terms ≡ terms_of book) }
 {
+    let terms = book.terms();
     let (table, pens) = laid_out(alloc, book, places, lines)?;
     let desk = Desk {
         table,
         places,
         room: lines,
+        terms,
     };
     Ok((desk, pens))
 }
@@ -130,18 +168,21 @@ pub fn laid_out<S: Store<Entry<P>>, A: Allocator + Copy, P: Part>(
     places: u16,
     lines: u64,
 ) -> Result<(DeskTable<S, A, P>, Vec<Pen<S, P>, A>), AllocError>
-    requires book { book ≡ volume lines [] }
+    requires book { home_of book ≡ volume lines [] }
     requires lines { lines ≤ GREATEST_NUMBER }
-    ensures desk { IfOk result (λ r. IsDesk r.0.shared.table_id r.0.shared.key.places r.0.shared.key.room places lines) }
+    ensures desk { IfOk result (λ r. IsDesk r.0.shared.table_id r.0.shared.key.places r.0.shared.key.room r.0.shared.key.terms
+        places lines (terms_of book)) }
     ensures counted { IfOk result (λ r. length r.1.items ≡ places) }
     ensures dealt { IfOk result (λ r. ArePens r.0.shared.table_id lines r.1.items) }
 {
     law_opening_and_end::<S, P>();
+    let terms = book.terms();
     let mut slots = Vec::with_capacity(alloc, 1)?;
-    slots.push_reserved(Some(book));
+    slots.push_reserved(Slot::with(book));
     let words = vec![in alloc; 0u64; words_of(places)]?;
     let plan = Plan {
         room: lines,
+        terms,
         places,
     };
     let (table, dealer) = match Table::new(alloc, &words, slots, &plan) {

@@ -1,27 +1,93 @@
 // What the table of a desk keeps between any two steps, and what each step tells.
 ghost use Rattle.pq_book.specs.Book.{AllHaveRoom};
+ghost use Rattle.std.specs.Prelude.{◌≡◌};
 ghost use Rattle.announce_board.specs.Rule.{Keeps, dealt_one, pen_dealt};
+ghost use Rattle.announce_board.specs.Slots.{with_book, says, out, book_of};
 ghost use Rattle.announce_board.specs.Steps.{Drafted, PostStored, LockRead, LockTried, MailRead, ItemRead, ItemLaid};
 ghost use Rattle.announce_board.specs.Steps.{AnswerStored, Applied, Released, ReleasedWith, AnswerLooked, ItemSeen, ItemTaken};
 ghost use Rattle.desk_core.specs.declared.model.View.TheVariants.{Dealer};
 
 use crate::boxed_book::BoxedBook;
+use crate::terms::{NamedTerms, Terms};
 use atomic_table::{Play, Seat, Shared, Split, Table, TableRule};
 use desk_core::View;
 use leftist_heap::Store;
 use pq_book::Entry;
 use pq_types::Part;
-use std::marker::PhantomData;
+use std::marker::{Model, PhantomData};
 
-/// What a desk is made for: the room of its journal, and the number of its places.
+/// What a desk is made for: the room of its journal, its terms, and the number of its places.
 #[derive(Drop)]
 pub struct Plan {
     pub room: u64,
+    pub terms: Terms,
     pub places: u16,
 }
 
-/// What lies in the slot of a desk's table: the Book, but while a pen leads.
-pub type Slot<S, P = u32> = Option<BoxedBook<S, P>>;
+/// What lies in the slot of a desk's table: the Book, but while a pen leads. A slot without a Book names
+/// terms, for proofs alone: by one a step says which terms the desk has.
+#[derive(Drop)]
+pub struct Slot<S: Store<Entry<P>>, P: Part = u32> {
+    book: Option<BoxedBook<S, P>>,
+    said: NamedTerms,
+}
+
+impl<S: Store<Entry<P>>, P: Part> Model for Slot<S, P> {
+    ghost use Rattle.announce_board.specs.Slots.{Slotted, slotted};
+
+    ghost Value = { Slotted };
+
+    ghost view = { λ s. slotted s.book s.said.terms };
+}
+
+impl<S: Store<Entry<P>>, P: Part> Slot<S, P> {
+    /// The slot with this Book.
+    #[inline(always)]
+    pub fn with(book: BoxedBook<S, P>) -> Self
+        ensures { result ≡ with_book book }
+    {
+        let nothing = Terms {
+            bound: 0,
+            allowed: 0,
+        };
+        Slot {
+            book: Some(book),
+            said: NamedTerms::of(&nothing),
+        }
+    }
+
+    /// The slot while a pen leads.
+    #[inline(always)]
+    pub fn out() -> Self
+        ensures { result ≡ out }
+    {
+        Slot::saying(Terms {
+            bound: 0,
+            allowed: 0,
+        })
+    }
+
+    /// A slot without a Book, which names these terms.
+    #[inline(always)]
+    pub fn saying(terms: Terms) -> Self
+        ensures { result ≡ says terms }
+    {
+        Slot {
+            book: None,
+            said: NamedTerms::of(&terms),
+        }
+    }
+
+    /// The Book, where it is there.
+    #[inline(always)]
+    #[tactic(auto, using(crate::proofs::Slots::book_back))]
+    pub fn into_inner(self) -> Option<BoxedBook<S, P>>
+        ensures { result ≡ book_of self }
+    {
+        let Slot { book, said: _ } = self;
+        book
+    }
+}
 
 /// The rule of a desk's table, whose items have parts of this type.
 pub struct DeskRule<P: Part> {
@@ -29,7 +95,7 @@ pub struct DeskRule<P: Part> {
 }
 
 impl<S: Store<Entry<P>>, P: Part> TableRule<Slot<S, P>, View, Plan> for DeskRule<P> {
-    ghost holds = { λ plan. Keeps P.wide (AllHaveRoom S.room) plan.room plan.places };
+    ghost holds = { λ plan. Keeps P.wide (AllHaveRoom S.room) plan.room plan.terms plan.places };
 
     ghost first = { λ plan. Dealer 0 plan.room };
 }
@@ -75,7 +141,7 @@ impl<S: Store<Entry<P>>, P: Part> Play<Slot<S, P>, View> for ReadLock {
     ghost then = { LockRead };
 }
 
-/// The lock is tried.
+/// The lock is tried, at a desk of the terms that the step names.
 pub struct TryLock;
 
 impl<S: Store<Entry<P>>, P: Part> Play<Slot<S, P>, View> for TryLock {

@@ -4,8 +4,10 @@ ghost use Rattle.std.specs.Prelude.{◌≡◌, ◌≢◌, ℕ, ◌+◌, ◌<◌,
 ghost use Rattle.pq_types.specs.declared.control.Kind.TheVariants as kind;
 ghost use Rattle.pq_types.specs.Control.{kind_has_item, answer_item};
 ghost use Rattle.pq_types.specs.Mail.{IsProperAnswerOf};
-ghost use Rattle.pq_types.specs.History.{left, MayAnswer};
-ghost use Rattle.pq_book.specs.Book.{AllHaveRoom};
+ghost use Rattle.pq_types.specs.History.{left};
+ghost use Rattle.pq_book.specs.Book.{AllHaveRoom, limits_of};
+ghost use Rattle.desk_core.specs.Answering.{MayTellOf};
+ghost use Rattle.desk_core.specs.Home.{home_of};
 ghost use Rattle.desk_core.specs.declared.model.Due.{Due};
 ghost use Rattle.desk_core.specs.Desk.{volume};
 ghost use Rattle.desk_core.specs.Pen.{after_answer};
@@ -21,6 +23,7 @@ use crate::item_words::{lay_words, no_item, read_words};
 use crate::laws::{law_steps_are_allowed, law_steps_tell};
 use crate::rule::{Board, BoardSeat, ReadMail, StoreAnswer};
 use crate::words::{control_index, post_in_word};
+use desk_core::laws::law_books_deal;
 use leftist_heap::Store;
 use pq_book::{Book, Entry};
 use pq_types::{Answer, Control, Item, Kind, Part, Reply, Request};
@@ -87,7 +90,7 @@ pub fn store_answer<S: Store<Entry<P>>, P: Part>(
     requires pen { IsServing board.now.table_id board.now.key.places seat.old.me place }
     requires proper { IsProperAnswerOf P.wide answer }
     requires due { (due : Due) × IsDueFor (pen_at seat.old.me) place request answer due }
-    requires may { MayAnswer (pen_at seat.old.me).room (pen_at seat.old.me).hand request answer }
+    requires may { MayTellOf (pen_at seat.old.me).room (pen_at seat.old.me).hand request answer }
     requires memory { AllHaveRoom S.room (pen_at seat.old.me).room → answer ≢ Answer.NoMemory }
     ensures table { seat.new.table_id ≡ seat.old.table_id }
     ensures after { (due : Due) → IsDueFor (pen_at seat.old.me) place request answer due
@@ -144,7 +147,7 @@ pub fn give_answer<S: Store<Entry<P>>, P: Part>(
     requires pen { IsServing board.now.table_id board.now.key.places seat.old.me place }
     requires proper { IsProperAnswerOf P.wide answer }
     requires due { (serial : ℕ) × ((pen_at seat.old.me).due ≡ Some (due_of place serial request)) }
-    requires may { MayAnswer (pen_at seat.old.me).room (pen_at seat.old.me).hand request answer }
+    requires may { MayTellOf (pen_at seat.old.me).room (pen_at seat.old.me).hand request answer }
     requires memory { AllHaveRoom S.room (pen_at seat.old.me).room → answer ≢ Answer.NoMemory }
     ensures table { seat.new.table_id ≡ seat.old.table_id }
     ensures after { (serial : ℕ) → (pen_at seat.old.me).due ≡ Some (due_of place serial request)
@@ -165,8 +168,11 @@ fn item_of<P: Part>(answer: Answer<Item<P>>) -> Option<Item<P>>
     ensures { result ≡ answer_item answer }
 {
     match answer {
-        Answer::Entered(_, Reply::Got(item)) => Some(item),
-        Answer::Entered(_, Reply::Least(item)) => Some(item),
+        Answer::Entered(_, reply) => match reply {
+            Reply::Got(item) => Some(item),
+            Reply::Least(item) => Some(item),
+            _ => None,
+        },
         _ => None,
     }
 }
@@ -181,7 +187,7 @@ pub fn serve_place<S: Store<Entry<P>>, P: Part>(
 ) -> bool
     requires here { seat.old.table_id ≡ board.now.table_id }
     requires pen { IsServing board.now.table_id board.now.key.places seat.old.me place }
-    requires book { book.old ≡ volume (pen_at seat.old.me).room (pen_at seat.old.me).hand }
+    requires book { home_of book.old ≡ volume (pen_at seat.old.me).room (pen_at seat.old.me).hand }
     ensures table { seat.new.table_id ≡ seat.old.table_id }
     ensures stays { StaysSeated seat.old.me seat.new.me }
     ensures serves { ServesWhereBy (word_number P.wide) result place (pen_at seat.old.me) (pen_at seat.new.me) book.new }
@@ -189,9 +195,11 @@ pub fn serve_place<S: Store<Entry<P>>, P: Part>(
         → ServesOtherThanBy (word_number P.wide) Answer.NoMemory place (pen_at seat.old.me) (pen_at seat.new.me) book.new }
     ensures spare { AllHaveRoom S.room (length (left (pen_at seat.old.me).hand) + 1)
         → ServesOtherThanBy (word_number P.wide) Answer.NoMemory place (pen_at seat.old.me) (pen_at seat.new.me) book.new }
-    ensures hand { book.new ≡ volume (pen_at seat.new.me).room (pen_at seat.new.me).hand }
+    ensures hand { home_of book.new ≡ volume (pen_at seat.new.me).room (pen_at seat.new.me).hand }
+    ensures limits { limits_of book.new ≡ limits_of book.old }
 {
     law_steps_tell();
+    law_books_deal();
     let Some((serial, request)) = read_request(board, seat, place) else {
         return false;
     };

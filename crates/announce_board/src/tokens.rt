@@ -1,11 +1,11 @@
 // What a thread holds of a desk: a pen, which asks; a pen put away; and a lead, while its pen
 // leads.
-ghost use Rattle.std.specs.Prelude.{◌≡◌, ◌↔◌, ◌+◌, ◌<◌, ◌≤◌, ◌++◌, false, length, drop, OnOk, OnErr, IsErrOf};
+ghost use Rattle.std.specs.Prelude.{◌≡◌, ◌↔◌, ◌+◌, ◌<◌, ◌≤◌, ◌++◌, false, length, drop, max, min, OnOk, OnErr, IsErrOf};
 ghost use Rattle.pq_book.specs.Pages.{page_of};
-ghost use Rattle.pq_book.specs.Peak.{IsPeak};
-ghost use Rattle.pq_types.specs.History.{left};
+ghost use Rattle.pq_book.specs.Peak.{IsPeak, KeepsBound};
+ghost use Rattle.pq_types.specs.History.{left, is_shut};
 ghost use Rattle.leftist_heap.specs.Store.{first_of};
-ghost use Rattle.announce_board.specs.Tokens.{is_idle};
+ghost use Rattle.announce_board.specs.Tokens.{is_idle, allowing};
 
 use crate::boxed_book::BoxedBook;
 use crate::rule::BoardSeat;
@@ -106,6 +106,39 @@ impl<S: Store<Entry<P>>, P: Part> Lead<S, P> {
         self.book.boxed.peak_items()
     }
 
+    /// Whether the queue is shut: whether the journal of the Book has a shut line.
+    pub fn is_shut(&self) -> bool
+        ensures { result ≡ is_shut self.now.book.journal }
+    {
+        self.book.boxed.is_shut()
+    }
+
+    /// The most items that pushes may leave in the queue: none of the beginnings of the journal of the Book leaves more.
+    pub fn bound(&self) -> u64
+        ensures bound { result ≡ self.now.book.bound }
+        ensures kept { KeepsBound result self.now.book.journal }
+    {
+        self.book.boxed.bound()
+    }
+
+    /// How many lines the journal of the Book may have until more are archived.
+    pub fn allowed(&self) -> u64
+        ensures allowed { result ≡ self.now.book.allowed }
+        ensures kept { length self.now.book.journal ≤ result }
+    {
+        self.book.boxed.allowed()
+    }
+
+    /// The first so many lines of the journal are archived, or all where it has fewer. From now on it may
+    /// have as many more as memory keeps. Nothing else changes, and no step is made: the lead stays its pen's
+    /// own (`leading::law_leads_stay`).
+    pub fn archived(&mut self, lines: u64)
+        ensures { self.new ≡ allowing self.old (max self.old.book.allowed
+            (min lines (length self.old.book.journal) + page_of self.old.book.room)) }
+    {
+        self.book.boxed.archived(lines);
+    }
+
     /// Copies the lines of the journal behind the first so many, which the archive has already, to its
     /// end, as `Book::lines_from`: `Forgotten` where the first of them is, else `NoMemory` where memory
     /// for them was refused. The archive is as it was then.
@@ -118,6 +151,8 @@ impl<S: Store<Entry<P>>, P: Part> Lead<S, P> {
         ensures err { OnErr result (archive.new.items ≡ archive.old.items) }
         ensures forgotten { IsErrOf result LinesError.Forgotten
             ↔ archived + page_of self.now.book.room < length self.now.book.journal }
+        // An archive with as many lines as the Book takes for archived loses none.
+        ensures kept { self.now.book.allowed ≤ archived + page_of self.now.book.room → IsErrOf result LinesError.Forgotten → ⊥ }
     {
         self.book.boxed.lines_from(archived, archive)
     }

@@ -1,5 +1,6 @@
 // Where the words of a desk stand in its table, and what its control words say. A word is asked for
-// its phase before its parts are, since most words that are read are neither a post nor an answer.
+// its phase before its parts are, since most words that are read are neither a post nor an answer. The phases
+// of answers are those from UNARCHIVED on.
 ghost use Rattle.std.specs.Prelude.{◌≡◌};
 ghost use Rattle.pq_types.specs.declared.control.Control.{Control};
 ghost use Rattle.pq_types.specs.Control.{is_answer, is_posted, notice_has_item};
@@ -7,7 +8,7 @@ ghost use Rattle.pq_types.specs.Mail.{IsProperControl, control_word};
 ghost use Rattle.desk_core.specs.Layout.{control_at, item_at, word_count};
 ghost use Rattle.announce_board.specs.Asking.{notice_in, post_in};
 
-use pq_types::control::{NOTHING, PHASES, PUSHED};
+use pq_types::control::{NOTHING, PHASES, UNARCHIVED};
 use pq_types::{Control, Kind, Notice, Outcome};
 
 /// The index of the lock.
@@ -37,14 +38,14 @@ pub fn words_of(places: u16) -> usize
 fn is_answer_word(word: u64) -> bool
     ensures { (c : Control) → control_word c ≡ word → result ≡ is_answer c }
 {
-    word % PHASES >= PUSHED
+    word % PHASES >= UNARCHIVED
 }
 
 fn is_posted_word(word: u64) -> bool
     ensures { (c : Control) → control_word c ≡ word → result ≡ is_posted c }
 {
     let phase = word % PHASES;
-    phase != NOTHING && phase < PUSHED
+    phase != NOTHING && phase < UNARCHIVED
 }
 
 /// The notice of the answer whose control has this word.

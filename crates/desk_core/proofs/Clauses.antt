@@ -9,16 +9,17 @@ use Rattle.pq_types.specs.Asked.{Request}
 use Rattle.pq_types.specs.declared.request.Request.TheVariants.{Push, Pop, Least}
 use Rattle.pq_types.specs.Asked.{Reply}
 use Rattle.pq_types.specs.Asked.{Answer}
-use Rattle.pq_types.specs.declared.answer.Answer.TheVariants.{Entered, BookFull, NoMemory}
+use Rattle.pq_types.specs.declared.answer.Answer.TheVariants.{Entered, BookFull, NoMemory, Refused}
 use Rattle.pq_types.specs.declared.control.Kind.TheVariants as kind
 use Rattle.pq_types.specs.declared.control.Control.{Control}
 use Rattle.pq_types.specs.declared.control.Control.TheVariants.{Nothing, Posted, Answered}
 use Rattle.pq_types.specs.Asked.{Line}
 use Rattle.pq_types.specs.Item.{item}
 use Rattle.pq_types.specs.Queue.{IsPush}
+use Rattle.desk_core.specs.Answering.{IsBarred}
 use Rattle.pq_types.specs.Control.{kind_of, request_item, reply_item, answer_with, posted, answered, Carries, is_posted, is_answer}
 use Rattle.pq_types.specs.History.{line}
-use Rattle.pq_book.specs.Book.{Volume}
+use Rattle.desk_core.specs.Home.{Home}
 use Rattle.desk_core.specs.declared.model.Call.{Call}
 use Rattle.desk_core.specs.declared.model.Standing.{Standing}
 use Rattle.desk_core.specs.declared.model.Standing.TheVariants.{Idle, Waiting}
@@ -27,7 +28,7 @@ use Rattle.desk_core.specs.Calls.{call, calls_of}
 use Rattle.desk_core.specs.Pen.{IsIdle}
 use Rattle.desk_core.specs.Desk.{Desk, Has, volume, put}
 use Rattle.desk_core.specs.Steps.{Drafts, Posts, Tries, Reads, ReadsItem, LaysItem, Answers, Applies, Releases, ReleasesBy, Looks, SeesItem, TakesItem}
-use Rattle.desk_core.specs.Rule.{PenRule, RuleAt, Stands, fresh, idle, unanswered, entered, full, refused, above_mine}
+use Rattle.desk_core.specs.Rule.{PenRule, RuleAt, Stands, fresh, idle, unanswered, entered, full, refused, barred, above_mine}
 use Rattle.desk_core.specs.Clauses.{HasNo, AnswerClause, ItemsClause, Clauses, RuleGivesClauses, EveryRunMeetsClauses, ItemsAreStored}
 use Rattle.desk_core.specs.Knows.{Knows, NoneAbove, LeadersKnow, HomeIsKnown}
 use Rattle.desk_core.proofs.Records.{put_else, no_post, not_both, notice_back}
@@ -66,6 +67,7 @@ module _ (room : ℕ) (journal : List Line) (control : Control) (cell : Item) (p
   never_there (entered q l r w some proper at item seen there) n = absurd (not_none p.posts n some)
   never_there (full q w some at all seen) n = absurd (not_none p.posts n some)
   never_there (refused q w some push at seen) n = absurd (not_none p.posts n some)
+  never_there (barred q why w some is at seen) n = absurd (not_none p.posts n some)
 
   idle_there : Stands room journal control cell p.place p.posts p.standing p.mine → IsIdle p.standing
       → (control ≡ Nothing) ⊎ ((a : Answer) × (control ≡ answered a))
@@ -75,6 +77,7 @@ module _ (room : ℕ) (journal : List Line) (control : Control) (cell : Item) (p
   idle_there (entered q l r w some proper at item seen there) free = absurd (not_idle p.standing q w free)
   idle_there (full q w some at all seen) free = absurd (not_idle p.standing q w free)
   idle_there (refused q w some push at seen) free = absurd (not_idle p.standing q w free)
+  idle_there (barred q why w some is at seen) free = absurd (not_idle p.standing q w free)
 
   waiting_control : Stands room journal control cell p.place p.posts p.standing p.mine → (q : Request) → p.standing ≡ Waiting q
       → (control ≡ posted p.posts q) ⊎ ((a : Answer) × (control ≡ answered a) × AnswerClause room journal p q a)
@@ -84,6 +87,8 @@ module _ (room : ℕ) (journal : List Line) (control : Control) (cell : Item) (p
   waiting_control (entered u l r w some proper at item seen there) q v =
       inr (Entered l r, at, (proper.0, there ∙ ap (λ y. Some (line p.place p.posts y r)) (one_request p.standing u q w v)))
   waiting_control (full u w some at all seen) q v = inr (BookFull, at, (all, no_line journal p.place p.posts p.mine seen (below q v)))
+  waiting_control (barred u why w some is at seen) q v =
+      inr (Refused why, at, (subst (λ y. IsBarred y why) (one_request p.standing u q w v) is.0, is.1, no_line journal p.place p.posts p.mine seen (below q v)))
   waiting_control (refused u w some push at seen) q v =
       inr (NoMemory, at, (subst IsPush (one_request p.standing u q w v) push, no_line journal p.place p.posts p.mine seen (below q v)))
 
@@ -96,6 +101,7 @@ module _ (room : ℕ) (journal : List Line) (control : Control) (cell : Item) (p
   posted_cell (entered u l r w some proper at item seen there) q v h = absurd (not_both control h (ap is_answer at))
   posted_cell (full u w some at all seen) q v h = absurd (not_both control h (ap is_answer at))
   posted_cell (refused u w some push at seen) q v h = absurd (not_both control h (ap is_answer at))
+  posted_cell (barred u why w some is at seen) q v h = absurd (not_both control h (ap is_answer at))
 
   -- the cell of an entered answer whose line has this reply
   answered_cell : Stands room journal control cell p.place p.posts p.standing p.mine → (q : Request) (l : ℕ) (r : Reply) → p.standing ≡ Waiting q
@@ -111,6 +117,7 @@ module _ (room : ℕ) (journal : List Line) (control : Control) (cell : Item) (p
       subst (λ y. Carries (reply_item y) cell) (ap (λ (y : Line). y.reply) k) item
   answered_cell (full u w some at all seen) q l r v e f = absurd (let g : answered BookFull ≡ answered (Entered l r) = sym at ∙ e in cc)
   answered_cell (refused u w some push at seen) q l r v e f = absurd (let g : answered NoMemory ≡ answered (Entered l r) = sym at ∙ e in cc)
+  answered_cell (barred u why w some is at seen) q l r v e f = absurd (let g : answered (Refused why) ≡ answered (Entered l r) = sym at ∙ e in cc)
 
   its_lines : Stands room journal control cell p.place p.posts p.standing p.mine
       → (calls_of p.place journal ≡ p.mine)
@@ -122,6 +129,7 @@ module _ (room : ℕ) (journal : List Line) (control : Control) (cell : Item) (p
   its_lines (entered q l r w some proper at item seen there) = inr (q, l, r, w, at, seen)
   its_lines (full q w some at all seen) = inl seen
   its_lines (refused q w some push at seen) = inl seen
+  its_lines (barred q why w some is at seen) = inl seen
 
 not_true : (b : Bool) → (b ≡ true → ⊥) → b ≡ false
 not_true true h = absurd (h refl)
@@ -174,7 +182,7 @@ module _ (d : Desk) (journal : List Line) (chief : ℕ) (r : RuleAt d journal ch
             (λ t. inl (t.0, t.1, λ i p a. not_true p.leading (λ l. not_both_locks d.held t.0 (r.led i p a l).1)))
             (λ t. inr (t.0, t.1, (chief, t.2.0, t.2.1, t.2.2, (r.led chief t.2.0 t.2.1 t.2.2).2, λ j q b l. (r.led j q b l).0)))
             r.lock;
-        journal = record { legal = r.lawful.legal; rise = r.lawful.rise; within = r.lawful.within };
+        journal = record { legal = r.lawful.legal; rise = r.lawful.rise; heeds = r.lawful.heeds; within = r.lawful.within };
         controls = λ i p a.
             (let m = r.pens i p a in
             let c = d.control p.place in
@@ -225,7 +233,7 @@ home_is_known d seat p journal m a at_home =
     (λ t.
     (let e : Some (volume d.room m.0) ≡ Some (volume d.room journal) = sym t.1 ∙ at_home in
     let g : volume d.room m.0 ≡ volume d.room journal = cc in
-    let f : m.0 ≡ journal = ap (λ (b : Volume). b.journal) g in
+    let f : m.0 ≡ journal = ap (λ (b : Home). b.journal) g in
     subst (Knows d.room p) f (knows d m.0 m.1 m.2 seat p a)))
     (λ t. absurd (let e : None ≡ Some (volume d.room journal) = sym t.1 ∙ at_home in cc))
     m.2.lock

@@ -9,7 +9,7 @@ use Rattle.pq_types.specs.declared.request.Request.TheVariants.{Push, Pop, Least
 use Rattle.pq_types.specs.Asked.{Reply}
 use Rattle.pq_types.specs.declared.answer.Reply.TheVariants.{Pushed, Got, Empty, Least as LeastIs}
 use Rattle.pq_types.specs.Asked.{Answer}
-use Rattle.pq_types.specs.declared.answer.Answer.TheVariants.{Entered, BookFull, NoMemory}
+use Rattle.pq_types.specs.declared.answer.Answer.TheVariants.{Entered, BookFull, NoMemory, Refused}
 use Rattle.pq_types.specs.declared.control.Kind.TheVariants as kind
 use Rattle.pq_types.specs.declared.control.Outcome.TheVariants as outcome
 use Rattle.pq_types.specs.declared.control.Notice.TheVariants as notice
@@ -18,7 +18,7 @@ use Rattle.pq_types.specs.Item.{item}
 use Rattle.pq_types.specs.Control.{posted, answered, is_answer, request_item}
 use Rattle.pq_types.specs.Operation.{request_of}
 use Rattle.pq_types.specs.History.{line, SerialsRise}
-use Rattle.pq_book.specs.Book.{Volume}
+use Rattle.desk_core.specs.Home.{Home}
 use Rattle.desk_core.specs.Calls.{call, calls_of}
 use Rattle.desk_core.specs.Clauses.{LockClause, AnswerClause, CallsClause}
 use Rattle.desk_core.specs.Desk.{Desk, Has, volume, with_control, with_cell, locked, freed, with_pen, opening}
@@ -57,7 +57,7 @@ in_hand d journal seat p held has leads (inl (free, home, none)) = absurd (true�
 in_hand d journal seat p held has leads (inr (locked, out, (i, q, there, q_leads, hand, only))) =
     ap (λ (x : PenState). x.hand) (same_pen d seat i p q has there (only seat p has leads)) ∙ hand
 
-abbrev journal_in : Option Volume → List Line
+abbrev journal_in : Option Home → List Line
 journal_in None = []
 journal_in (Some book) = book.journal
 
@@ -113,12 +113,14 @@ line_of journal room p request reply (Entered n (LeastIs x)) e (inl r) c = let f
 line_of journal room p request reply (Entered n (LeastIs x)) e (inr r) c = let f : answered (Entered 1 Empty) ≡ answered (Entered n (LeastIs x)) = subst (λ y. answered (Entered 1 y) ≡ answered (Entered n (LeastIs x))) r e in absurd (cc)
 line_of journal room p request reply BookFull e r c = absurd (cc)
 line_of journal room p request reply NoMemory e r c = absurd (cc)
+line_of journal room p request reply (Refused why) e r c = absurd (cc)
 
 -- no answer to a pop says that memory was refused
 not_refused : (a : Answer) (room : ℕ) (journal : List Line) (p : PenState) → answered NoMemory ≡ answered a → AnswerClause room journal p Pop a → ⊥
 not_refused (Entered n reply) room journal p e c = absurd (cc)
 not_refused BookFull room journal p e c = absurd (cc)
 not_refused NoMemory room journal p e c = c.0
+not_refused (Refused why) room journal p e c = absurd (cc)
 
 -- the pen at 0 drafts the first of two words
 abbrev half_drafted : PenState
@@ -282,7 +284,7 @@ asking_needs =
         (
           _,
           (new_pen 4 1, refl, inl (refl, (_, refl, refl))),
-          (_, (other_led, refl, refl, lit< tt, refl), (_, (other_read, due_to 0 1 kind.Pop None, Pop, refl, refl, refl, refl, tt, tt, (lit< tt, refl, refl), refl), refl)),
+          (_, (other_led, refl, refl, lit< tt, refl), (_, (other_read, due_to 0 1 kind.Pop None, Pop, refl, refl, refl, refl, tt, tt, (lit< tt, refl, refl, λ ends. refl), refl), refl)),
         ),
       );
       post = (popped, refl, lit< tt, tt, refl);
@@ -309,7 +311,7 @@ asking_needs =
             (pop_led, refl, refl, lit< tt, refl),
             (
               _,
-              (pop_read, due_to 0 1 kind.Pop None, Pop, refl, refl, refl, refl, tt, tt, (lit< tt, refl, refl), refl),
+              (pop_read, due_to 0 1 kind.Pop None, Pop, refl, refl, refl, refl, tt, tt, (lit< tt, refl, refl, λ ends. refl), refl),
               (_, (pop_answered, refl, refl, refl), (_, (pop_released, Pop, refl, refl, refl), refl)),
             ),
           ),
@@ -361,7 +363,7 @@ leading_needs =
       pushed_item_lost = λ journal lock h.
           not_same ((h 0 (after_lay push_read (due_to 0 1 kind.Push None) (item 9 9)) refl).posted (Push (item 5 7)) refl refl);
       entered = _;
-      answer_unread = (push_read, due_to 0 1 kind.Push None, Push (item 9 9), refl, refl, refl, refl, tt, (lit< tt, refl, refl), refl);
+      answer_unread = (push_read, due_to 0 1 kind.Push None, Push (item 9 9), refl, refl, refl, refl, tt, (lit< tt, refl, refl, λ ends. refl), refl);
       other_entered = λ journal lock h.
           (let hand = in_hand entered_falsely journal 0 answered_falsely refl refl refl lock in
           ⊎_elim
@@ -393,7 +395,7 @@ leading_needs =
                   (first_read, due_to 1 1 kind.Push None, refl, refl, refl, refl, refl),
                   (
                     _,
-                    (first_item, due_to 1 1 kind.Push (Some (item 5 7)), Push (item 5 7), refl, refl, refl, refl, refl, tt, (lit< tt, refl, refl), refl),
+                    (first_item, due_to 1 1 kind.Push (Some (item 5 7)), Push (item 5 7), refl, refl, refl, refl, refl, tt, (lit< tt, refl, refl, λ ends. refl), refl),
                     (_, (first_answered, refl, refl, lit< tt, refl), refl),
                   ),
                 ),
@@ -402,7 +404,7 @@ leading_needs =
           ),
         ),
       );
-      answer_unlaid = (second_read, due_to 0 1 kind.Pop None, Pop, refl, refl, refl, refl, tt, (lit< tt, refl, refl), refl);
+      answer_unlaid = (second_read, due_to 0 1 kind.Pop None, Pop, refl, refl, refl, refl, tt, (lit< tt, refl, refl, λ ends. refl), refl);
       other_shown = λ journal lock h.
           (let hand = in_hand shown_falsely journal 0 second_answered refl refl refl lock in
           let at : slice_get journal 1 ≡ Some (line 0 1 Pop (Got (item 5 7))) = ap (λ (j : List Line). slice_get j 1) (sym hand) in
@@ -417,7 +419,7 @@ leading_needs =
           (λ t. let e : answered NoMemory ≡ posted 1 Pop = t in cc)
           (λ t. not_refused t.0 4 journal (after_answer pop_read (due_to 0 1 kind.Pop None) Pop NoMemory) t.1 t.2)
           ((h 0 (after_answer pop_read (due_to 0 1 kind.Pop None) Pop NoMemory) refl).waits Pop refl);
-      answer_and_owe = (pop_read, due_to 0 1 kind.Pop None, Pop, refl, refl, refl, refl, tt, tt, (lit< tt, refl, refl), refl);
+      answer_and_owe = (pop_read, due_to 0 1 kind.Pop None, Pop, refl, refl, refl, refl, tt, tt, (lit< tt, refl, refl, λ ends. refl), refl);
       due_twice = λ h.
           (let e : answered (Entered 1 Empty) ≡ posted 1 Pop = (h 0 (record pop_answered { due = Some (due_to 0 1 kind.Pop None) }) refl (due_to 0 1 kind.Pop None) refl).1 in cc);
       answered = _;
@@ -428,10 +430,10 @@ leading_needs =
         (
           _,
           (new_pen 4 1, refl, inl (refl, (_, refl, refl))),
-          (_, (other_led, refl, refl, lit< tt, refl), (_, (other_read, due_to 0 1 kind.Pop None, Pop, refl, refl, refl, refl, tt, tt, (lit< tt, refl, refl), refl), refl)),
+          (_, (other_led, refl, refl, lit< tt, refl), (_, (other_read, due_to 0 1 kind.Pop None, Pop, refl, refl, refl, refl, tt, tt, (lit< tt, refl, refl, λ ends. refl), refl), refl)),
         ),
       );
-      answer_again = (other_answered, popped, 0, Pop, refl, refl, refl, refl, refl, (lit< tt, refl, refl), refl);
+      answer_again = (other_answered, popped, 0, Pop, refl, refl, refl, refl, refl, (lit< tt, refl, refl, λ ends. refl), refl);
       call_missed = λ journal lock h. missed_call journal popped refl refl (in_hand done_again journal 1 other_again refl refl refl lock) (h 0 popped refl);
       serial_repeated = λ journal lock h. same_serial journal (in_hand done_again journal 1 other_again refl refl refl lock) h.rise;
       led = _;
@@ -447,7 +449,7 @@ leading_needs =
             (other_led, refl, refl, lit< tt, refl),
             (
               _,
-              (other_read, due_to 0 1 kind.Pop None, Pop, refl, refl, refl, refl, tt, tt, (lit< tt, refl, refl), refl),
+              (other_read, due_to 0 1 kind.Pop None, Pop, refl, refl, refl, refl, tt, tt, (lit< tt, refl, refl, λ ends. refl), refl),
               (_, (other_answered, refl, refl, refl), (_, (popped, refl, inl (refl, (_, refl, refl))), refl)),
             ),
           ),
@@ -472,7 +474,7 @@ leading_needs =
           (
             _,
             (pop_led, refl, refl, lit< tt, refl),
-            (_, (pop_read, due_to 0 1 kind.Pop None, Pop, refl, refl, refl, refl, tt, tt, (lit< tt, refl, refl), refl), refl),
+            (_, (pop_read, due_to 0 1 kind.Pop None, Pop, refl, refl, refl, refl, tt, tt, (lit< tt, refl, refl, λ ends. refl), refl), refl),
           ),
         ),
       );

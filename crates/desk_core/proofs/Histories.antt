@@ -3,7 +3,7 @@ use Rattle.std.proofs.Common.{◌≡◌, ◌≢◌, ℕ, zero, suc, ◌+◌, ◌
 use Rattle.std.specs.List.{AllByRecursion}
 use Rattle.pq_types.specs.Asked.{Operation}
 use Rattle.pq_types.specs.Asked.{Answer}
-use Rattle.pq_types.specs.declared.answer.Answer.TheVariants.{Entered, BookFull, NoMemory}
+use Rattle.pq_types.specs.declared.answer.Answer.TheVariants.{Entered, BookFull, NoMemory, Refused}
 use Rattle.pq_types.specs.Asked.{Line}
 use Rattle.pq_types.specs.History.{line_of}
 use Rattle.desk_core.specs.Calls.{call_of}
@@ -12,6 +12,9 @@ use Rattle.desk_core.specs.Clauses.{HasNo}
 use Rattle.desk_core.specs.Linearizable.{Act, Begins, Ends, IsIn, Precedes, IsTrueOf}
 use Rattle.desk_core.specs.declared.model.Call.{Call}
 use Rattle.desk_core.proofs.Journals.{all_more, get_more}
+use Rattle.desk_core.proofs.Stand.{bars_more}
+use Rattle.pq_types.specs.declared.answer.Refusal.{Refusal}
+use Rattle.desk_core.specs.Answering.{Bars}
 
 module _ {A : Type 0} where
   pub get_behind : (xs ys : List A) (i : ℕ) → slice_get (xs ++ ys) (length xs + i) ≡ slice_get ys i
@@ -152,11 +155,19 @@ module _ (Over : ℕ → ℕ → Type 0) (acts : List Act) (journal journal' : L
       (λ t. absurd (let e = ap length t.1 in omega (arith, e, length-append journal (t.0 ∷ []), within, full)))
       g
 
+  pub still_barred : (why : Refusal) → Bars journal why → Bars journal' why
+  still_barred why bars =
+      ⊎_elim
+      (λ e. subst (λ js. Bars js why) (sym e) bars)
+      (λ t. subst (λ js. Bars js why) (sym t.1) (bars_more journal (t.0 ∷ []) why bars))
+      g
+
   pub still_true : (room : ℕ) → length journal' ≤ room → (place serial : ℕ) (answer : Answer) → Over place serial
       → IsTrueOf room journal place serial answer → IsTrueOf room journal' place serial answer
   still_true room within place serial (Entered number reply) over h = (h.0, still_there place (call_of number serial h.0 reply) h.1)
   still_true room within place serial BookFull over h = (still_full room within h.0, still_none place serial over h.1)
   still_true room within place serial NoMemory over h = still_none place serial over h
+  still_true room within place serial (Refused why) over h = (still_barred why h.0, still_none place serial over h.1)
 
 module _ (room : ℕ) (Over Over' : ℕ → ℕ → Type 0) (old new : List Act) (journal journal' : List Line) (k : Kept room Over old journal) (a : Adds room Over Over' old new journal journal') (within : length journal' ≤ room) where
   order_keeps : (place place' : ℕ) (b c : Call) → IsLineOf journal' place b → IsLineOf journal' place' c → Precedes (old ++ new) place b.serial place' c.serial

@@ -6,7 +6,7 @@ use Rattle.pq_types.specs.Asked.{Operation}
 use Rattle.pq_types.specs.Asked.{Reply}
 use Rattle.pq_types.specs.Asked.{Line}
 use Rattle.pq_types.specs.History.{line_of}
-use Rattle.pq_types.specs.Laws.{EntersOneMore, StaysLegal, StillRises, EntriesStayInRange, RepliesAreProper}
+use Rattle.pq_types.specs.Laws.{EntersOneMore, StaysLegal, StillRises, StillHeeds, EntriesStayInRange, RepliesAreProper}
 use Rattle.desk_core.specs.declared.model.Call.{Call}
 use Rattle.desk_core.specs.Calls.{call_of, calls_from}
 
@@ -35,6 +35,7 @@ pub record QueueLaws : Type 0 where
   pub rise : StillRises
   pub entries : EntriesStayInRange
   pub reply : RepliesAreProper
+  pub heeds : StillHeeds
 
 split_before : (b : Bool) (c : Call) (xs ys : List Call) → (if b then c ∷ (xs ++ ys) else xs ++ ys) ≡ (if b then c ∷ xs else xs) ++ ys
 split_before true c xs ys = refl

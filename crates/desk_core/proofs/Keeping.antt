@@ -6,9 +6,10 @@ use Rattle.pq_types.specs.Queue.{IsProperRequestOf, IsProperReplyOf, AreItemsOf}
 use Rattle.pq_types.specs.Mail.{IsSerial, IsLineNumber, IsProperAnswerOf, IsProperControl}
 use Rattle.desk_core.specs.declared.model.Standing.TheVariants.{Waiting}
 use Rattle.pq_types.specs.Control.{kind_of, request_item, answered, Carries}
-use Rattle.pq_types.specs.History.{left, MayAnswer}
+use Rattle.pq_types.specs.History.{left}
+use Rattle.desk_core.specs.Answering.{MayTellOf}
 use Rattle.pq_types.specs.Asked.{Answer}
-use Rattle.pq_types.specs.declared.answer.Answer.TheVariants.{Entered, BookFull, NoMemory}
+use Rattle.pq_types.specs.declared.answer.Answer.TheVariants.{Entered, BookFull, NoMemory, Refused}
 use Rattle.pq_types.specs.Asked.{Line}
 use Rattle.pq_types.specs.declared.journal.TheConstants.{GREATEST_NUMBER}
 use Rattle.desk_core.specs.declared.model.Due.{Due}
@@ -67,13 +68,14 @@ pub take : TakeItemKeeps
 take d i p m a q n now waits own = (m.0, m.1, take_keeps d m.0 m.1 m.2 i p a now q n waits own)
 
 -- an answer that a Book may give is proper
-may_proper : QueueLaws → (room : ℕ) (hand : List Line) (q : Request) (x : Answer) → room ≤ GREATEST_NUMBER → AreItemsOf true (left hand) → MayAnswer room hand q x
+may_proper : QueueLaws → (room : ℕ) (hand : List Line) (q : Request) (x : Answer) → room ≤ GREATEST_NUMBER → AreItemsOf true (left hand) → MayTellOf room hand q x
     → IsProperAnswerOf true x × IsProperControl (answered x)
 may_proper laws room hand q (Entered l r) small items may =
     let n : IsLineNumber l = (omega (arith, may.1), omega (arith, small, may.0, may.1)) in
     ((n, subst (IsProperReplyOf true) (sym may.2) (laws.reply true (left hand) q items)), n)
 may_proper laws room hand q BookFull small items may = (tt, tt)
 may_proper laws room hand q NoMemory small items may = (tt, tt)
+may_proper laws room hand q (Refused why) small items may = (tt, tt)
 
 -- what is due is a new post, of the pen that waits there for this request
 module _ (d : Desk) (i : ℕ) (p : PenState) (m : MeetsRule d) (a : Has d.views i p) (due : Due) (is_due : p.due ≡ Some due) where

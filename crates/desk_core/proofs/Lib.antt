@@ -36,3 +36,4 @@ pub mod WorkedHistories
 pub mod Guards
 pub mod Looking
 pub mod WorkedLooks
+pub mod Shut

@@ -8,7 +8,7 @@ use Rattle.pq_types.specs.Asked.{Answer}
 use Rattle.pq_types.specs.declared.control.Control.TheVariants.{Nothing}
 use Rattle.pq_types.specs.Asked.{Line}
 use Rattle.pq_types.specs.Control.{kind_of, posted}
-use Rattle.pq_book.specs.Book.{Volume}
+use Rattle.desk_core.specs.Home.{Home}
 use Rattle.desk_core.specs.CallLines.{IsLineOf}
 use Rattle.desk_core.specs.Clauses.{HasNo, LockClause}
 use Rattle.desk_core.specs.Desk.{Desk, Has, volume, fresh_desk, pens_from, opening}
@@ -104,7 +104,7 @@ module _ (places room : ℕ) (views : List View) (meets : MeetsRule (fresh_desk 
       (λ t.
       (let e : Some (volume room []) ≡ Some (volume room journal) = t.1 in
       let f : volume room [] ≡ volume room journal = cc in
-      sym (ap (λ (b : Volume). b.journal) f)))
+      sym (ap (λ (b : Home). b.journal) f)))
       (λ t. absurd (let e : false ≡ true = t.0 in cc))
       r.lock
 
@@ -127,7 +127,7 @@ at_lock d history journal at = (clauses_hold d journal at.chief at.rule).lock
 linearizes : (d : Desk) (history : List Act) (journal : List Line) → At d history journal → TakeTurns (λ _. 0) (λ _. false) history
     → Linearizes d.room history journal
 linearizes d history journal at turns =
-    record { turns = turns; legal = at.rule.lawful.legal; once = at.rule.lawful.rise; begun = at.kept.begun; ended = at.kept.ended; order = at.kept.order }
+    record { turns = turns; legal = at.rule.lawful.legal; once = at.rule.lawful.rise; heeds = at.rule.lawful.heeds; begun = at.kept.begun; ended = at.kept.ended; order = at.kept.order }
 
 -- so all runs from a fresh desk are linearizable
 module _ (laws : QueueLaws) (places room : ℕ) (views : List View) (meets : MeetsRule (fresh_desk places room views)) where

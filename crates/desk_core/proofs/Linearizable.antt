@@ -9,11 +9,12 @@ use Rattle.pq_types.specs.Asked.{Request}
 use Rattle.pq_types.specs.Asked.{Operation}
 use Rattle.pq_types.specs.Operation.{Asked}
 use Rattle.pq_types.specs.Asked.{Answer}
-use Rattle.pq_types.specs.declared.answer.Answer.TheVariants.{Entered, BookFull, NoMemory}
+use Rattle.pq_types.specs.declared.answer.Answer.TheVariants.{Entered, BookFull, NoMemory, Refused}
 use Rattle.pq_types.specs.declared.control.Control.TheVariants.{Answered}
 use Rattle.pq_types.specs.Asked.{Line}
 use Rattle.pq_types.specs.Control.{answer_with, request_item, answer_item, answered, Carries, is_answer}
-use Rattle.pq_types.specs.History.{line_of, journal_by, journal_after, MayAnswer, MayDo}
+use Rattle.pq_types.specs.History.{line_of, journal_by, journal_after}
+use Rattle.desk_core.specs.Answering.{MayTellOf, MayTell}
 use Rattle.desk_core.specs.Calls.{call, calls_of, gained}
 use Rattle.desk_core.specs.CallLines.{IsLineOf}
 use Rattle.desk_core.specs.Clauses.{HasNo}
@@ -34,7 +35,7 @@ use Rattle.desk_core.proofs.Records.{kept_carries, same_request, told_is, with_c
 use Rattle.desk_core.proofs.Journals.{QueueLaws, all_weaker, get_last, lines_below}
 use Rattle.desk_core.proofs.Splits.{split_keeps, each_dealt, stays_out}
 use Rattle.desk_core.proofs.Views.{has_here, has_else, each_after, same_pen}
-use Rattle.desk_core.proofs.Stand.{not_idle, full_stands, answered_stands}
+use Rattle.desk_core.proofs.Stand.{barred_stands, own_bars, not_idle, full_stands, answered_stands}
 use Rattle.desk_core.proofs.StepFacts.{draft_keeps, post_keeps, lead_keeps, miss_keeps, read_keeps, read_item_keeps, lay_keeps, answer_keeps, release_keeps, release_by_keeps, look_keeps, see_keeps, take_keeps, poster, apply_keeps}
 use Rattle.desk_core.proofs.Clauses.{knows}
 use Rattle.desk_core.proofs.CallLines.{calls_are_lines}
@@ -279,6 +280,7 @@ gains_after : (over : ℕ → ℕ → Type 0) (seen : List Act) (journal : List 
 gains_after over seen journal k s o (Entered n r) busy has = inr (line_of k s o r, refl, busy, has)
 gains_after over seen journal k s o BookFull busy has = inl refl
 gains_after over seen journal k s o NoMemory busy has = inl refl
+gains_after over seen journal k s o (Refused why) busy has = inl refl
 
 -- what a pen is told that finds an answer in its record, with its item, is true
 module _ (d : Desk) (journal : List Line) (chief : ℕ) (r : RuleAt d journal chief) (i : ℕ) (p : PenState) (a : Has d.views i p) where
@@ -298,6 +300,10 @@ module _ (d : Desk) (journal : List Line) (chief : ℕ) (r : RuleAt d journal ch
     none_used q waits (seen ∙ append-nil p.mine),
   )
   calls_true q NoMemory waits at seen = none_used q waits (seen ∙ append-nil p.mine)
+  calls_true q (Refused why) waits at seen = (
+    barred_stands d.room journal (d.control p.place) (d.item p.place) p.place p.posts p.mine p.standing q why waits at (r.pens i p a).stands,
+    none_used q waits (seen ∙ append-nil p.mine),
+  )
 
   pub told_true : (q : Request) (x : Answer) → p.standing ≡ Waiting q → d.control p.place ≡ answered x → Carries (answer_item x) (d.item p.place)
       → IsTrueOf d.room journal p.place p.posts x
@@ -306,7 +312,7 @@ module _ (d : Desk) (journal : List Line) (chief : ℕ) (r : RuleAt d journal ch
       (answered_stands d.room journal (d.control p.place) (d.item p.place) p.place p.posts p.mine p.standing q x waits at has (r.pens i p a).stands).1
 
   -- the answer to a request of its own is true behind it
-  own_true : (o : Operation) (x : Answer) → MayDo d.room journal o x
+  own_true : (o : Operation) (x : Answer) → MayTell d.room journal o x
       → IsTrueOf d.room (journal_by journal p.place (p.posts + 1) o x) p.place (p.posts + 1) x
   own_true o (Entered n y) may =
       let number = may.1 in
@@ -321,6 +327,7 @@ module _ (d : Desk) (journal : List Line) (chief : ℕ) (r : RuleAt d journal ch
       )
   own_true o BookFull may = (may, unused d journal chief r i p a)
   own_true o NoMemory may = unused d journal chief r i p a
+  own_true o (Refused why) may = (own_bars d.room journal o why may, unused d journal chief r i p a)
 
 told_waits : (q q' : Request) (o : Option Answer) → standing_told q o ≡ Waiting q' → Waiting q ≡ Waiting q'
 told_waits q q' None e = e
@@ -419,7 +426,7 @@ module _ (laws : QueueLaws) (d : Desk) (old : List Act) (journal : List Line) (a
       let k = p.place in
       let s = p.posts + 1 in
       let w = after_apply p q x (time d) in
-      let may : MayAnswer d.room journal q x = subst (λ js. MayAnswer d.room js q x) (r.led i p a leads).2 may_hand in
+      let may : MayTellOf d.room journal q x = subst (λ js. MayTellOf d.room js q x) (r.led i p a leads).2 may_hand in
       let js = journal_after journal k s q x in
       let new = Begins k s (Asked q) ∷ Ends k s x ∷ [] in
       let t : Steps d e i p w = record { has = a; views = ap (λ (y : Desk). y.views) same; room = ap (λ (y : Desk). y.room) same; place = refl; posts = omega arith; idle = λ u. inl (omega arith) } in
@@ -440,7 +447,7 @@ module _ (laws : QueueLaws) (d : Desk) (old : List Act) (journal : List Line) (a
       let k = p.place in
       let s = p.posts + 1 in
       let w = after_release_by p q x (time d) in
-      let may : MayDo d.room journal q x = subst (λ js. MayDo d.room js q x) (r.led i p a leads).2 may_hand in
+      let may : MayTell d.room journal q x = subst (λ js. MayTell d.room js q x) (r.led i p a leads).2 may_hand in
       let js = journal_by journal k s q x in
       let new = Begins k s q ∷ Ends k s x ∷ [] in
       let t : Steps d e i p w = record { has = a; views = ap (λ (y : Desk). y.views) same; room = ap (λ (y : Desk). y.room) same; place = refl; posts = omega arith; idle = λ u. inl (omega arith) } in

@@ -6,7 +6,7 @@ use native.Mathlib.Decide.{ℕ_discrete}
 use Rattle.pq_types.specs.Item.{Item}
 use Rattle.pq_types.specs.declared.control.Control.{Control}
 use Rattle.pq_types.specs.Control.{posted, answered, is_answer}
-use Rattle.pq_book.specs.Book.{Volume}
+use Rattle.desk_core.specs.Home.{Home}
 use Rattle.desk_core.specs.declared.model.PenState.{PenState}
 use Rattle.desk_core.specs.declared.model.View.TheVariants.{Holder}
 use Rattle.desk_core.specs.Pen.{IsIdle, after_draft, after_post, after_lead, after_miss, after_read, after_read_item, after_lay, after_answer, after_apply, after_release, after_release_by, after_look, after_see, after_take}
@@ -31,7 +31,7 @@ pub record Moved (d d' : Desk) (seat : ℕ) : Type 0 where
   pub own : (serial : ℕ) → serial ≤ before.posts → IsAnswered d before serial → IsAnswered d' after serial
 
 -- a step that is no post, and takes no answer away
-still : (d : Desk) (held : Bool) (control : ℕ → Control) (item : ℕ → Item) (home : Option Volume) (seat : ℕ) (p w : PenState) → Has d.views seat p
+still : (d : Desk) (held : Bool) (control : ℕ → Control) (item : ℕ → Item) (home : Option Home) (seat : ℕ) (p w : PenState) → Has d.views seat p
     → w.place ≡ p.place → w.posts ≡ p.posts → (IsIdle p.standing → IsIdle w.standing)
     → ((place : ℕ) → is_answer (d.control place) ≡ true → is_answer (control place) ≡ true) → Moved d (becomes d held control item home seat w) seat
 still d held control item home seat p w a place posts free stay =
@@ -51,7 +51,7 @@ still d held control item home seat p w a place posts free stay =
     }
 
 -- a step that stores in no control, and leaves the pen idle if it was
-same_controls : (d : Desk) (held : Bool) (item : ℕ → Item) (home : Option Volume) (seat : ℕ) (p w : PenState) → Has d.views seat p → w.place ≡ p.place
+same_controls : (d : Desk) (held : Bool) (item : ℕ → Item) (home : Option Home) (seat : ℕ) (p w : PenState) → Has d.views seat p → w.place ≡ p.place
     → w.posts ≡ p.posts → (IsIdle p.standing → IsIdle w.standing)
     → Moved d (becomes d held d.control item home seat w) seat
 same_controls d held item home seat p w a place posts free = still d held d.control item home seat p w a place posts free (λ k h. h)

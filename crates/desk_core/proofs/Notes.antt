@@ -10,7 +10,7 @@ use Rattle.atomic_table.proofs.Lists.{at_set, set_else, set_again, at_longer, at
 use Rattle.pq_types.specs.Item.{Item}
 use Rattle.pq_types.specs.declared.control.Control.{Control}
 use Rattle.pq_types.specs.Asked.{Line}
-use Rattle.pq_book.specs.Book.{Volume}
+use Rattle.desk_core.specs.Home.{Home}
 use Rattle.desk_core.specs.Clauses.{LockClause}
 use Rattle.desk_core.specs.Desk.{Desk, Has, volume}
 use Rattle.desk_core.specs.Notes.{after_catch_up, after_writing, with_told, after_hearing, CatchUpKeeps, WritingKeeps, HearingKeeps, CopyingKeeps}
@@ -270,7 +270,7 @@ one_journal d a b u v =
     (λ t.
     (let e : Some (volume d.room a) ≡ Some (volume d.room b) = sym s.1 ∙ t.1 in
     let f : volume d.room a ≡ volume d.room b = cc in
-    ap (λ (y : Volume). y.journal) f))
+    ap (λ (y : Home). y.journal) f))
     (λ t. absurd (not_both_locks d.held s.0 t.0))
     v)
     (λ s.

@@ -7,7 +7,7 @@ use Rattle.pq_types.specs.declared.request.Request.TheVariants.{Push, Pop, Least
 use Rattle.pq_types.specs.Asked.{Reply}
 use Rattle.pq_types.specs.declared.answer.Reply.TheVariants as reply
 use Rattle.pq_types.specs.Asked.{Answer}
-use Rattle.pq_types.specs.declared.answer.Answer.TheVariants.{Entered, BookFull, NoMemory}
+use Rattle.pq_types.specs.declared.answer.Answer.TheVariants.{Entered, BookFull, NoMemory, Refused}
 use Rattle.pq_types.specs.declared.control.Kind.{Kind}
 use Rattle.pq_types.specs.declared.control.Kind.TheVariants as kind
 use Rattle.pq_types.specs.declared.control.Outcome.{Outcome}
@@ -74,6 +74,7 @@ same_answer cell (Entered l q) (Entered m r) p u e =
     cc
 same_answer cell BookFull BookFull p u e = refl
 same_answer cell NoMemory NoMemory p u e = refl
+same_answer cell (Refused why) (Refused other) p u e = let f : why ≡ other = cc in ap Refused f
 same_answer cell a b p u e = absurd (cc e)
 
 -- a reply with the item of the cell is one that the cell carries
@@ -87,6 +88,7 @@ pub with_cell_answer : (n : Notice) (cell : Item) → Carries (answer_item (answ
 with_cell_answer (notice.Entered l o) cell = with_cell_outcome o cell
 with_cell_answer notice.BookFull cell = tt
 with_cell_answer notice.NoMemory cell = tt
+with_cell_answer (notice.Refused why) cell = tt
 
 outcome_back : (o : Outcome) (cell : Item) → outcome_of (reply_with o cell) ≡ o
 outcome_back outcome.Pushed cell = refl
@@ -98,6 +100,7 @@ pub notice_back : (n : Notice) (cell : Item) → notice_of (answer_with n cell) 
 notice_back (notice.Entered l o) cell = ap (notice.Entered l) (outcome_back o cell)
 notice_back notice.BookFull cell = refl
 notice_back notice.NoMemory cell = refl
+notice_back (notice.Refused why) cell = refl
 
 -- an answer that a control tells by itself is its answer, and has no item
 pub told_is : (c : Control) (a : Answer) → told_by c ≡ Some a → (c ≡ answered a) × (answer_item a ≡ None)
@@ -109,3 +112,4 @@ told_is (Answered (notice.Entered l outcome.Least)) a e = absurd (cc e)
 told_is (Answered (notice.Entered l outcome.Empty)) a e = let f : Entered l reply.Empty ≡ a = cc in (ap answered f, ap answer_item (sym f))
 told_is (Answered notice.BookFull) a e = let f : BookFull ≡ a = cc in (ap answered f, ap answer_item (sym f))
 told_is (Answered notice.NoMemory) a e = let f : NoMemory ≡ a = cc in (ap answered f, ap answer_item (sym f))
+told_is (Answered (notice.Refused why)) a e = let f : (Refused why) ≡ a = cc in (ap answered f, ap answer_item (sym f))

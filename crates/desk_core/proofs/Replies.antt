@@ -7,7 +7,7 @@ use Rattle.pq_types.specs.Asked.{Operation}
 use Rattle.pq_types.specs.Asked.{Request}
 use Rattle.pq_types.specs.declared.request.Request.TheVariants.{Push, Pop, Least}
 use Rattle.pq_types.specs.Asked.{Line}
-use Rattle.pq_types.specs.Operation.{Asked, ByTicket, ticket_of, request_of}
+use Rattle.pq_types.specs.Operation.{Asked, ByTicket, Shuts, ticket_of, request_of}
 use Rattle.pq_types.specs.Queue.{reply_to}
 use Rattle.pq_types.specs.Entry.{Entry, item_of, item_at, taken, entries_after, reply_by}
 use Rattle.pq_types.specs.History.{IsLegalFrom}
@@ -31,6 +31,7 @@ taken_fits (Some x) = inr (x, refl)
 line_fits : (es : List Entry) (o : Operation) → IsReplyTo (request_of o) (reply_by es o)
 line_fits es (Asked q) = queue_replies (map item_of es) q
 line_fits es (ByTicket ticketed) = taken_fits (item_at (ticket_of ticketed) es)
+line_fits es Shuts = inl refl
 
 abbrev Fits : Call → Type 0
 Fits c = IsReplyTo (request_of c.operation) c.reply

@@ -71,7 +71,7 @@ opening_meets places room small =
           owned = λ k ne. absurd (ne refl);
         };
         dealers = λ i m u e. absurd (let t = pen_at room places 0 i (Dealer m u) e in let f : Dealer m u ≡ Holder (new_pen room (0 + i)) = t.0 in cc);
-        lawful = record { legal = tt; rise = tt; within = zero-le; items = tt };
+        lawful = record { legal = tt; rise = tt; heeds = tt; within = zero-le; items = tt };
         pens = λ i p a.
             subst (λ (v : PenState). PenRule room [] ((opening places room).control v.place) ((opening places room).item v.place) v) (sym (one i p a).0)
             record {
@@ -117,7 +117,7 @@ dealer_meets places room small =
               sym g,
               record { first = t.1; pens = λ j p a. absurd (nobody j p a); lines = λ k le. refl },
             ));
-        lawful = record { legal = tt; rise = tt; within = zero-le; items = tt };
+        lawful = record { legal = tt; rise = tt; heeds = tt; within = zero-le; items = tt };
         pens = λ i p a. absurd (nobody i p a);
         notes = λ i told e. absurd (let t = only_dealer room i (Note told) e in let f : Dealer 0 room ≡ Note told = t.0 in cc);
       },

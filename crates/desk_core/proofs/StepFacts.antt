@@ -9,7 +9,7 @@ use Rattle.pq_types.specs.Asked.{Request, Operation}
 use Rattle.pq_types.specs.Operation.{Asked}
 use Rattle.pq_types.specs.Entry.{IsProperOperationOf}
 use Rattle.pq_types.specs.Asked.{Answer}
-use Rattle.pq_types.specs.declared.answer.Answer.TheVariants.{Entered, BookFull, NoMemory}
+use Rattle.pq_types.specs.declared.answer.Answer.TheVariants.{Entered, BookFull, NoMemory, Refused}
 use Rattle.pq_types.specs.declared.control.Kind.{Kind}
 use Rattle.pq_types.specs.declared.control.Kind.TheVariants as kind
 use Rattle.pq_types.specs.declared.control.Outcome.{Outcome}
@@ -21,8 +21,9 @@ use Rattle.pq_types.specs.Asked.{Line}
 use Rattle.pq_types.specs.declared.journal.TheConstants.{GREATEST_NUMBER}
 use Rattle.pq_types.specs.Queue.{IsProperRequestOf}
 use Rattle.pq_types.specs.Control.{kind_of, request_item, answer_item, answer_with, posted, answered, Carries, is_posted, is_answer}
-use Rattle.pq_types.specs.History.{journal_by, journal_after, MayAnswer, MayDo}
-use Rattle.pq_book.specs.Book.{Volume}
+use Rattle.pq_types.specs.History.{journal_by, journal_after}
+use Rattle.desk_core.specs.Answering.{MayTellOf, MayTell}
+use Rattle.desk_core.specs.Home.{Home}
 use Rattle.desk_core.specs.declared.model.Call.{Call}
 use Rattle.desk_core.specs.declared.model.Standing.{Standing}
 use Rattle.desk_core.specs.declared.model.Standing.TheVariants.{Idle, Waiting}
@@ -133,13 +134,13 @@ module _ (d : Desk) (journal : List Line) (chief : ℕ) (r : RuleAt d journal ch
       record { told = mine.told; counted = mine.counted; stands = mine.stands; looked = mine.looked; known = mine.known; own = mine.own; blank = mine.blank; filled = mine.filled; barred = mine.barred; seen = mine.seen }
 
   -- it wins the lock
-  pub lead_keeps : (book : Volume) → d.held ≡ false → d.home ≡ Some book → RuleAt (with_pen (locked d) i (after_lead p book.journal)) journal i
+  pub lead_keeps : (book : Home) → d.held ≡ false → d.home ≡ Some book → RuleAt (with_pen (locked d) i (after_lead p book.journal)) journal i
   lead_keeps book free at_home =
       let mine = r.pens i p a in
       let js = book.journal in
       let same : js ≡ journal =
       ⊎_elim
-      (λ t. let e : Some book ≡ Some (volume d.room journal) = sym at_home ∙ t.1 in let f : book ≡ volume d.room journal = cc in ap (λ (b : Volume). b.journal) f)
+      (λ t. let e : Some book ≡ Some (volume d.room journal) = sym at_home ∙ t.1 in let f : book ≡ volume d.room journal = cc in ap (λ (b : Home). b.journal) f)
       (λ t. absurd (not_both_locks d.held free t.0)) r.lock in
       keeps d journal chief r i p a true d.control d.item None journal i (after_lead p js) record {
         place = refl;
@@ -283,14 +284,14 @@ module _ (d : Desk) (journal : List Line) (chief : ℕ) (r : RuleAt d journal ch
 
   -- it applies a request of its own, and goes on leading
   pub apply_keeps : (now : ℕ) → QueueLaws → (q : Request) (x : Answer) → p.leading ≡ true → IsIdle p.standing → p.posts < GREATEST_NUMBER
-      → IsProperRequestOf true q → MayAnswer d.room p.hand q x
+      → IsProperRequestOf true q → MayTellOf d.room p.hand q x
       → RuleAt (with_pen d i (after_apply p q x now)) (journal_after journal p.place (p.posts + 1) q x) chief
   apply_keeps now laws q x leads free few proper may_hand =
       let mine = r.pens i p a in
       let t = r.led i p a leads in
       let k = p.place in
       let s = p.posts + 1 in
-      let may : MayAnswer d.room journal q x = subst (λ js. MayAnswer d.room js q x) t.2 may_hand in
+      let may : MayTellOf d.room journal q x = subst (λ js. MayTellOf d.room js q x) t.2 may_hand in
       let js = journal_after journal k s q x in
       let w = after_apply p q x now in
       keeps d journal chief r i p a d.held d.control d.item d.home js chief w record {
@@ -337,14 +338,14 @@ module _ (d : Desk) (journal : List Line) (chief : ℕ) (r : RuleAt d journal ch
 
   -- it releases the lock with an operation of its own
   pub release_by_keeps : (now : ℕ) → QueueLaws → (q : Operation) (x : Answer) → p.leading ≡ true → p.due ≡ None → IsIdle p.standing → p.posts < GREATEST_NUMBER
-      → IsProperOperationOf true q → MayDo d.room p.hand q x
+      → IsProperOperationOf true q → MayTell d.room p.hand q x
       → RuleAt (with_pen (freed d (journal_by p.hand p.place (p.posts + 1) q x)) i (after_release_by p q x now)) (journal_by journal p.place (p.posts + 1) q x) chief
   release_by_keeps now laws q x leads none free few proper may_hand =
       let mine = r.pens i p a in
       let t = r.led i p a leads in
       let k = p.place in
       let s = p.posts + 1 in
-      let may : MayDo d.room journal q x = subst (λ js. MayDo d.room js q x) t.2 may_hand in
+      let may : MayTell d.room journal q x = subst (λ js. MayTell d.room js q x) t.2 may_hand in
       let js = journal_by journal k s q x in
       let hand = journal_by p.hand k s q x in
       let same : hand ≡ js = ap (λ h. journal_by h k s q x) t.2 in
@@ -413,6 +414,7 @@ module _ (d : Desk) (journal : List Line) (chief : ℕ) (r : RuleAt d journal ch
   filled_there q waits (Some BookFull) e h =
       full_stands d.room journal (d.control p.place) (d.item p.place) p.place p.posts p.mine p.standing q waits (told_is (d.control p.place) BookFull e).0 (r.pens i p a).stands
   filled_there q waits (Some NoMemory) e h = (r.pens i p a).filled h
+  filled_there q waits (Some (Refused why)) e h = (r.pens i p a).filled h
 
   -- and no entered answer is there, as long as it waits
   barred_there : (q : Request) → p.standing ≡ Waiting q → (o : Option Answer) → full_told p.told_full o ≡ true → (u : Request) (n : ℕ) (y : Outcome)
@@ -506,7 +508,7 @@ module _ (d : Desk) (journal : List Line) (chief : ℕ) (r : RuleAt d journal ch
 
   -- it answers what is due
   pub answer_keeps : QueueLaws → (due : Due) (q : Request) (x : Answer) → p.due ≡ Some due → kind_of q ≡ due.kind → IsKept (request_item q) due.item
-      → IsKept (answer_item x) due.item → MayAnswer d.room p.hand q x
+      → IsKept (answer_item x) due.item → MayTellOf d.room p.hand q x
       → RuleAt (with_pen (with_control d due.place (answered x)) i (after_answer p due q x)) (journal_after journal due.place due.serial q x) chief
   answer_keeps laws due q x is_due is_kind known laid may_hand =
       let k = due.place in
@@ -515,7 +517,7 @@ module _ (d : Desk) (journal : List Line) (chief : ℕ) (r : RuleAt d journal ch
       let dd = r.due i p a due is_due in
       let leads = dd.0 in
       let t = r.led i p a leads in
-      let may : MayAnswer d.room journal q x = subst (λ js. MayAnswer d.room js q x) t.2 may_hand in
+      let may : MayTellOf d.room journal q x = subst (λ js. MayTellOf d.room js q x) t.2 may_hand in
       let asked : Carries (request_item q) (d.item k) = kept_carries (request_item q) due.item (d.item k) known dd.2 in
       let gives : Carries (answer_item x) (d.item k) = kept_carries (answer_item x) due.item (d.item k) laid dd.2 in
       let js = journal_after journal k s q x in

@@ -1,5 +1,5 @@
 -- What each kind of step tells and leaves.
-use Rattle.std.proofs.Common.{◌≡◌, ◌≢◌, ℕ, ◌<◌, ⊎_elim, true, false, List, ◌++◌, length, refl, ap, sym, ◌∙◌, subst, arith}
+use Rattle.std.proofs.Common.{Bool, ◌≡◌, ◌≢◌, ℕ, ◌<◌, ⊎_elim, true, false, List, ◌++◌, length, refl, ap, sym, ◌∙◌, subst, arith}
 use Rattle.std.specs.Prelude.{Option, Some, None, ◌↔◌}
 use Rattle.std.specs.List.{AllByRecursion}
 use Rattle.pq_types.specs.Item.{Item}
@@ -9,7 +9,7 @@ use Rattle.pq_types.specs.declared.request.Request.TheVariants.{Push, Pop, Least
 use Rattle.pq_types.specs.Asked.{Reply}
 use Rattle.pq_types.specs.declared.answer.Reply.TheVariants as reply
 use Rattle.pq_types.specs.Asked.{Answer}
-use Rattle.pq_types.specs.declared.answer.Answer.TheVariants.{Entered, BookFull, NoMemory}
+use Rattle.pq_types.specs.declared.answer.Answer.TheVariants.{Entered, BookFull, NoMemory, Refused}
 use Rattle.pq_types.specs.declared.control.Kind.TheVariants as kind
 use Rattle.pq_types.specs.declared.control.Outcome.TheVariants as outcome
 use Rattle.pq_types.specs.declared.control.Notice.{Notice}
@@ -18,8 +18,10 @@ use Rattle.pq_types.specs.declared.control.Control.{Control}
 use Rattle.pq_types.specs.declared.control.Control.TheVariants.{Nothing, Posted, Answered}
 use Rattle.pq_types.specs.Asked.{Line}
 use Rattle.pq_types.specs.Control.{kind_of, request_item, notice_has_item, answer_item, reply_item, answer_with, answered, Carries, is_posted, is_answer, has_item}
-use Rattle.pq_types.specs.History.{MayDo}
-use Rattle.pq_book.specs.Book.{Volume}
+use Rattle.pq_types.specs.History.{EndsAtShut, IsHeard, is_shut}
+use Rattle.pq_types.specs.declared.answer.Refusal.TheVariants.{Shut, Unarchived, Full}
+use Rattle.desk_core.specs.Answering.{MayTell}
+use Rattle.desk_core.specs.Home.{Home}
 use Rattle.desk_core.specs.declared.model.Call.{Call}
 use Rattle.desk_core.specs.declared.model.Standing.TheVariants.{Waiting}
 use Rattle.desk_core.specs.declared.model.Due.{Due}
@@ -67,11 +69,27 @@ nothing_due place Nothing e = refl
 nothing_due place (Posted s k) e = absurd (let f : true ≡ false = e in cc)
 nothing_due place (Answered n) e = refl
 
+both_ways : {b : Bool} → b ≡ true → b ≡ false → ⊥
+both_ways {b} t f = absurd (let e : true ≡ false = sym t ∙ f in cc)
+
 -- BookFull is answered exactly where the journal is full
-when_full : (room : ℕ) (hand : List Line) (q : Operation) (x : Answer) → MayDo room hand q x → (x ≡ BookFull) ↔ (length hand ≡ room)
+when_full : (room : ℕ) (hand : List Line) (q : Operation) (x : Answer) → MayTell room hand q x → (x ≡ BookFull) ↔ (length hand ≡ room)
 when_full room hand q (Entered l r) may = (λ e. absurd (cc e), λ e. absurd (let lt = may.0 in omega arith))
 when_full room hand q BookFull may = (λ e. may, λ e. refl)
 when_full room hand q NoMemory may = (λ e. absurd (cc e), λ e. absurd (let lt = may.0 in omega arith))
+when_full room hand q (Refused Shut) may = (λ e. absurd (cc e), λ e. absurd (let lt = may.0 in omega arith))
+when_full room hand q (Refused Unarchived) may = (λ e. absurd (cc e), λ e. absurd (let lt = may.0 in omega arith))
+when_full room hand q (Refused Full) may = (λ e. absurd (cc e), λ e. absurd (let lt = may.0 in omega arith))
+
+-- Shut is answered exactly where a shut refuses it, and the journal has room
+when_shut : (room : ℕ) (hand : List Line) (q : Operation) (x : Answer) → MayTell room hand q x
+    → (x ≡ Refused Shut) ↔ ((length hand < room) × EndsAtShut q × (is_shut hand ≡ true))
+when_shut room hand q (Entered l r) may = (λ e. absurd (cc e), λ e. absurd (both_ways e.2 (may.3 e.1)))
+when_shut room hand q BookFull may = (λ e. absurd (cc e), λ e. absurd (let lt = e.0 in omega (arith, lt, may)))
+when_shut room hand q NoMemory may = (λ e. absurd (cc e), λ e. absurd (both_ways e.2 (may.2 e.1)))
+when_shut room hand q (Refused Shut) may = (λ e. may, λ e. refl)
+when_shut room hand q (Refused Unarchived) may = (λ e. absurd (cc e), λ e. absurd (both_ways e.2 (may.1 e.1)))
+when_shut room hand q (Refused Full) may = (λ e. absurd (cc e), λ e. absurd (both_ways e.2 (may.2 e.1)))
 
 -- an item that the pen knows whole is one that it does not wait for
 told_nothing : (c : Control) → is_answer c ≡ false → told_by c ≡ None
@@ -88,6 +106,7 @@ item_left (Answered (notice.Entered l outcome.Least)) e = refl
 item_left (Answered (notice.Entered l outcome.Empty)) e = absurd (let f : false ≡ true = e in cc)
 item_left (Answered notice.BookFull) e = absurd (let f : false ≡ true = e in cc)
 item_left (Answered notice.NoMemory) e = absurd (let f : false ≡ true = e in cc)
+item_left (Answered (notice.Refused why)) e = absurd (let f : false ≡ true = e in cc)
 
 told_answer : (x : Answer) → answer_item x ≡ None → told_by (answered x) ≡ Some x
 told_answer (Entered l reply.Pushed) e = refl
@@ -96,6 +115,7 @@ told_answer (Entered l (reply.Least y)) e = absurd (cc e)
 told_answer (Entered l reply.Empty) e = refl
 told_answer BookFull e = refl
 told_answer NoMemory e = refl
+told_answer (Refused why) e = refl
 
 still_waits : (p : PenState) (q : Request) (o : Option Answer) → p.standing ≡ Waiting q → o ≡ None
     → SameAsker p (record p { standing = standing_told q o; mine = mine_told p.mine p.posts q o })
@@ -129,6 +149,7 @@ entered_item (notice.Entered l outcome.Least) cell has = (l, reply.Least cell, r
 entered_item (notice.Entered l outcome.Empty) cell has = absurd (let f : false ≡ true = has in cc)
 entered_item notice.BookFull cell has = absurd (let f : false ≡ true = has in cc)
 entered_item notice.NoMemory cell has = absurd (let f : false ≡ true = has in cc)
+entered_item (notice.Refused why) cell has = absurd (let f : false ≡ true = has in cc)
 
 module _ (p : PenState) (q : Request) (n : Notice) (d d' : Desk) (waits : p.standing ≡ Waiting q) (here : d.control p.place ≡ Answered n) (has : notice_has_item n ≡ true) where
   see_tells : AfterSee d d' p (after_see p (d.item p.place))
@@ -222,7 +243,7 @@ steps_tell d e (Tries i) m (p, a, t) =
       a,
       has_here d.views i p w a,
       record {
-        won = λ _. (refl, ⊎_elim (λ t. (let f : Some book ≡ Some (volume d.room m.0) = sym u.1.1 ∙ t.1 in let g : book ≡ volume d.room m.0 = cc in u.1.1 ∙ ap Some (g ∙ ap (λ (b : Volume). volume d.room b.journal) (sym g)))) (λ t. absurd (not_both_locks d.held u.0 t.0)) m.2.lock, refl, refl, refl);
+        won = λ _. (refl, ⊎_elim (λ t. (let f : Some book ≡ Some (volume d.room m.0) = sym u.1.1 ∙ t.1 in let g : book ≡ volume d.room m.0 = cc in u.1.1 ∙ ap Some (g ∙ ap (λ (b : Home). volume d.room b.journal) (sym g)))) (λ t. absurd (not_both_locks d.held u.0 t.0)) m.2.lock, refl, refl, refl);
         missed = λ h. absurd (not_both_locks d.held u.0 h);
         held = refl;
         read = ap (λ b. Some (word.Lock b)) (sym u.0);
@@ -319,6 +340,7 @@ steps_tell d e (Answers i x) m (p, due, q, a, leads, is_due, is_kind, known, lai
         was = is_due;
         waits = (o.0, o.1, o.2, o.3, o.4, o.5);
         full = when_full d.room p.hand (Asked q) x may;
+        shut = when_shut d.room p.hand (Asked q) x may;
         stands = put_here d.control due.place (answered x);
         hand = refl;
         done = refl;
@@ -341,6 +363,7 @@ steps_tell d e (Applies i q x) m (p, a, leads, free, few, proper, may, same) =
         leading = leads;
         hand = refl;
         full = when_full d.room p.hand (Asked q) x may;
+        shut = when_shut d.room p.hand (Asked q) x may;
         posts = refl;
         mine = refl;
         below = subst (λ o. AllByRecursion (λ (c : Call). c.serial < above_mine p.posts o) p.mine) free.1 (m.2.pens i p a).looked;
@@ -386,6 +409,7 @@ steps_tell d e (ReleasesBy i q x) m (p, a, leads, none, free, few, proper, may, 
         known = refl;
         home = refl;
         full = when_full d.room p.hand q x may;
+        shut = when_shut d.room p.hand q x may;
         posts = refl;
         mine = refl;
         below = subst (λ o. AllByRecursion (λ (c : Call). c.serial < above_mine p.posts o) p.mine) free.1 (m.2.pens i p a).looked;

@@ -7,7 +7,7 @@ use Rattle.atomic_table.proofs.Lists.{at_set, at_snoc}
 use Rattle.pq_types.specs.Asked.{Line}
 use Rattle.pq_types.specs.Asked.{Request, Reply, Answer}
 use Rattle.pq_types.specs.Operation.{Asked}
-use Rattle.pq_types.specs.declared.answer.Answer.TheVariants.{Entered, BookFull, NoMemory}
+use Rattle.pq_types.specs.declared.answer.Answer.TheVariants.{Entered, BookFull, NoMemory, Refused}
 use Rattle.desk_core.specs.CallLines.{IsLineOf}
 use Rattle.desk_core.specs.Calls.{call, call_of}
 use Rattle.desk_core.specs.Clauses.{HasNo}
@@ -288,3 +288,4 @@ refused_stand_nowhere room pens h i p at serial n ended unread =
     of (Entered number reply) there = absurd (unread ((h.witnessed i p at).read serial n number reply ended there))
     of BookFull there = (h.linearizes.ended p.place serial BookFull (n, there)).1
     of NoMemory there = h.linearizes.ended p.place serial NoMemory (n, there)
+    of (Refused why) there = (h.linearizes.ended p.place serial (Refused why) (n, there)).1

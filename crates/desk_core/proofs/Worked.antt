@@ -85,7 +85,7 @@ three_pens_run = (
                   (leads_0, refl, refl, lit< tt, refl),
                   (
                     _,
-                    (read_0, due_to 0 1 kind.Pop None, Pop, refl, refl, refl, refl, tt, tt, (lit< tt, refl, refl), refl),
+                    (read_0, due_to 0 1 kind.Pop None, Pop, refl, refl, refl, refl, tt, tt, (lit< tt, refl, refl, λ ends. refl), refl),
                     (
                       _,
                       (answered_0, refl, refl, lit< tt, refl),
@@ -94,7 +94,7 @@ three_pens_run = (
                         (read_1, due_to 1 1 kind.Push None, refl, refl, refl, refl, refl),
                         (
                           _,
-                          (item_1, due_to 1 1 kind.Push (Some (item 9 9)), Push (item 9 9), refl, refl, refl, refl, refl, tt, (lit< tt, refl, refl), refl),
+                          (item_1, due_to 1 1 kind.Push (Some (item 9 9)), Push (item 9 9), refl, refl, refl, refl, refl, tt, (lit< tt, refl, refl, λ ends. refl), refl),
                           (
                             _,
                             (answered_1, refl, refl, lit< tt, refl),
@@ -103,7 +103,7 @@ three_pens_run = (
                               (read_3, due_to 3 1 kind.Push None, refl, refl, refl, refl, refl),
                               (
                                 _,
-                                (item_3, due_to 3 1 kind.Push (Some (item 4 8)), Push (item 4 8), refl, refl, refl, refl, refl, tt, (lit< tt, refl, refl), refl),
+                                (item_3, due_to 3 1 kind.Push (Some (item 4 8)), Push (item 4 8), refl, refl, refl, refl, refl, tt, (lit< tt, refl, refl, λ ends. refl), refl),
                                 (_, (answered_3, refl, refl, refl), refl),
                               ),
                             ),
@@ -166,7 +166,7 @@ half_written_run =
           (half_read, refl, refl, lit< tt, refl),
           (
             _,
-            (whole_read, due_to 1 1 kind.Pop None, Pop, refl, refl, refl, refl, tt, tt, (lit< tt, refl, refl), refl),
+            (whole_read, due_to 1 1 kind.Pop None, Pop, refl, refl, refl, refl, tt, tt, (lit< tt, refl, refl, λ ends. refl), refl),
             (_, (whole_answered, refl, refl, refl), (_, (half_posted, Pop, refl, refl, refl), refl)),
           ),
         ),
@@ -267,7 +267,7 @@ full_journal_run =
                 (first_read, due_to 0 1 kind.Push None, refl, refl, refl, refl, refl),
                 (
                   _,
-                  (first_item, due_to 0 1 kind.Push (Some (item 5 7)), Push (item 5 7), refl, refl, refl, refl, refl, tt, (lit< tt, refl, refl), refl),
+                  (first_item, due_to 0 1 kind.Push (Some (item 5 7)), Push (item 5 7), refl, refl, refl, refl, refl, tt, (lit< tt, refl, refl, λ ends. refl), refl),
                   (
                     _,
                     (first_answered, refl, refl, refl),
@@ -294,7 +294,7 @@ full_journal_run =
               (second_read, due_to 0 2 kind.Pop None, refl, refl, refl, (λ e. cc e), (lit< tt, lit< tt), refl),
               (
                 _,
-                (second_laid, due_to 0 2 kind.Pop (Some (item 5 7)), Pop, refl, refl, refl, refl, tt, refl, (lit< tt, refl, refl), refl),
+                (second_laid, due_to 0 2 kind.Pop (Some (item 5 7)), Pop, refl, refl, refl, refl, tt, refl, (lit< tt, refl, refl, λ ends. refl), refl),
                 (_, (second_answered, refl, refl, refl), (_, (second_released, Pop, refl, refl, refl), refl)),
               ),
             ),
@@ -347,13 +347,13 @@ own_requests_run =
         (new_pen 2 0, refl, inl (refl, (_, refl, refl))),
         (
           _,
-          (after_lead (new_pen 2 0) [], refl, refl, refl, (None, refl), lit< tt, (lit< tt, lit< tt), (lit< tt, refl, refl), refl),
+          (after_lead (new_pen 2 0) [], refl, refl, refl, (None, refl), lit< tt, (lit< tt, lit< tt), (lit< tt, refl, refl, λ ends. refl), refl),
           (
             _,
             (own_first, refl, inl (refl, (_, refl, refl))),
             (
               _,
-              (own_leads, refl, refl, refl, (None, refl), lit< tt, tt, (lit< tt, refl, refl), refl),
+              (own_leads, refl, refl, refl, (None, refl), lit< tt, tt, (lit< tt, refl, refl, λ ends. refl), refl),
               (
                 _,
                 (own_second, refl, inl (refl, (_, refl, refl))),

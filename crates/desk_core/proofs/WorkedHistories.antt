@@ -53,7 +53,7 @@ overtaking_run =
           (new_pen 4 1, refl, inl (refl, (_, refl, refl))),
           (
             _,
-            (leads_1, refl, refl, refl, (None, refl), lit< tt, (lit< tt, lit< tt), (lit< tt, refl, refl), refl),
+            (leads_1, refl, refl, refl, (None, refl), lit< tt, (lit< tt, lit< tt), (lit< tt, refl, refl, λ ends. refl), refl),
             (
               _,
               (entered_1, refl, inl (refl, (_, refl, refl))),
@@ -65,7 +65,7 @@ overtaking_run =
                   (read_1, due_to 0 1 kind.Pop None, refl, refl, refl, (λ e. cc e), (lit< tt, lit< tt), refl),
                   (
                     _,
-                    (laid_1, due_to 0 1 kind.Pop (Some (item 5 7)), Pop, refl, refl, refl, refl, tt, refl, (lit< tt, refl, refl), refl),
+                    (laid_1, due_to 0 1 kind.Pop (Some (item 5 7)), Pop, refl, refl, refl, refl, tt, refl, (lit< tt, refl, refl, λ ends. refl), refl),
                     (
                       _,
                       (answered_1, refl, refl, refl),
@@ -104,10 +104,10 @@ together_run =
           (new_pen 4 1, refl, inl (refl, (_, refl, refl))),
           (
             _,
-            (leads_1, refl, refl, (None, refl), lit< tt, (lit< tt, lit< tt), (lit< tt, refl, refl), refl),
+            (leads_1, refl, refl, (None, refl), lit< tt, (lit< tt, lit< tt), (lit< tt, refl, refl, λ ends. refl), refl),
             (
               _,
-              (applied_1, refl, refl, (None, refl), lit< tt, (lit< tt, lit< tt), (lit< tt, refl, refl), refl),
+              (applied_1, refl, refl, (None, refl), lit< tt, (lit< tt, lit< tt), (lit< tt, refl, refl, λ ends. refl), refl),
               (_, (applied_2, refl, refl, refl), refl),
             ),
           ),
@@ -133,7 +133,7 @@ coming_out_run =
             (
               _,
               (new_pen 4 1, refl, inl (refl, (_, refl, refl))),
-              (_, (leads_1, refl, refl, refl, (None, refl), lit< tt, (lit< tt, lit< tt), (lit< tt, refl, refl), refl), refl),
+              (_, (leads_1, refl, refl, refl, (None, refl), lit< tt, (lit< tt, lit< tt), (lit< tt, refl, refl, λ ends. refl), refl), refl),
             ),
           ),
         ),

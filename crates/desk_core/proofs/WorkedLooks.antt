@@ -30,7 +30,7 @@ looks_between =
         (new_pen 4 0, refl, inl (refl, (_, refl, refl))),
         (
           _,
-          (leads_0, refl, refl, refl, (None, refl), lit< tt, (lit< tt, lit< tt), (lit< tt, refl, refl), refl),
+          (leads_0, refl, refl, refl, (None, refl), lit< tt, (lit< tt, lit< tt), (lit< tt, refl, refl, λ ends. refl), refl),
           (
             _,
             (new_pen 4 1, refl, inl (refl, (_, refl, refl))),
@@ -40,7 +40,7 @@ looks_between =
               (
                 _,
                 (entered_0, refl, inl (refl, (_, refl, refl))),
-                (_, (again_0, refl, refl, refl, (None, refl), lit< tt, (lit< tt, lit< tt), (lit< tt, refl, refl), refl), refl),
+                (_, (again_0, refl, refl, refl, (None, refl), lit< tt, (lit< tt, lit< tt), (lit< tt, refl, refl, λ ends. refl), refl), refl),
               ),
             ),
           ),

@@ -5,7 +5,7 @@ use Rattle.pq_types.specs.Asked.{Reply}
 use Rattle.pq_types.specs.Asked.{Operation}
 use Rattle.pq_types.specs.Operation.{Asked}
 use Rattle.pq_types.specs.Asked.{Answer}
-use Rattle.pq_types.specs.declared.answer.Answer.TheVariants.{Entered, BookFull, NoMemory}
+use Rattle.pq_types.specs.declared.answer.Answer.TheVariants.{Entered, BookFull, NoMemory, Refused}
 use Rattle.pq_types.specs.Asked.{Line}
 use Rattle.desk_core.specs.declared.model.Call.{Call}
 
@@ -33,6 +33,7 @@ abbrev pub gained_by : ℕ → Operation → Answer → List Call
 gained_by serial operation (Entered number reply) = call_of number serial operation reply ∷ []
 gained_by serial operation BookFull = []
 gained_by serial operation NoMemory = []
+gained_by serial operation (Refused why) = []
 
 -- the call that an answer to the post with this serial and request adds
 abbrev pub gained : ℕ → Request → Answer → List Call

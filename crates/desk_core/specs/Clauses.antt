@@ -7,14 +7,15 @@ use Rattle.pq_types.specs.Asked.{Request}
 use Rattle.pq_types.specs.declared.request.Request.TheVariants.{Push}
 use Rattle.pq_types.specs.Asked.{Reply}
 use Rattle.pq_types.specs.Asked.{Answer}
-use Rattle.pq_types.specs.declared.answer.Answer.TheVariants.{Entered, BookFull, NoMemory}
+use Rattle.pq_types.specs.declared.answer.Answer.TheVariants.{Entered, BookFull, NoMemory, Refused}
 use Rattle.pq_types.specs.declared.control.Kind.TheVariants as kind
 use Rattle.pq_types.specs.declared.control.Control.{Control}
 use Rattle.pq_types.specs.declared.control.Control.TheVariants.{Nothing, Posted}
 use Rattle.pq_types.specs.Asked.{Line}
 use Rattle.pq_types.specs.declared.journal.TheConstants.{GREATEST_NUMBER}
 use Rattle.pq_types.specs.Queue.{IsPush}
-use Rattle.pq_types.specs.History.{line, IsLegal, SerialsRise}
+use Rattle.pq_types.specs.History.{line, IsLegal, SerialsRise, HeedsShut}
+use Rattle.desk_core.specs.Answering.{Bars, IsBarred}
 use Rattle.pq_types.specs.Mail.{IsLineNumber}
 use Rattle.pq_types.specs.Control.{request_item, reply_item, posted, answered, Carries, is_posted, is_answer}
 use Rattle.desk_core.specs.Calls.{call, calls_of}
@@ -35,11 +36,12 @@ LockClause d journal =
     × ((i : ℕ) × (p : PenState) × Has d.views i p × (p.leading ≡ true) × (p.hand ≡ journal)
     × ((j : ℕ) (q : PenState) → Has d.views j q → q.leading ≡ true → j ≡ i)))
 
--- Journal. It is a legal history of the one-thread queue, the serials of each place rise, and it
--- has room for its lines.
+-- Journal. It is a legal history of the one-thread queue, the serials of each place rise, no push
+-- stands behind a shut line, and it has room for its lines.
 pub record JournalClause (room : ℕ) (journal : List Line) : Type 0 where
   pub legal : IsLegal journal
   pub rise : SerialsRise journal
+  pub heeds : HeedsShut journal
   pub within : length journal ≤ room
 
 -- the journal has no line of this place with this serial
@@ -53,6 +55,7 @@ AnswerClause room journal p request (Entered number reply) =
     IsLineNumber number × (slice_get journal (number - 1) ≡ Some (line p.place p.posts request reply))
 AnswerClause room journal p request BookFull = (length journal ≡ room) × HasNo journal p.place p.posts
 AnswerClause room journal p request NoMemory = IsPush request × HasNo journal p.place p.posts
+AnswerClause room journal p request (Refused why) = IsBarred request why × Bars journal why × HasNo journal p.place p.posts
 
 -- Controls. A pen that has used no serial has nothing in its control; an idle pen has an answer there, or nothing, and that only
 -- where it has never posted: it has stored and seen nothing there; a pen that waits has there its request under its last serial,

@@ -9,7 +9,7 @@ use Rattle.pq_types.specs.declared.control.Control.{Control}
 use Rattle.pq_types.specs.declared.control.Control.TheVariants.{Nothing}
 use Rattle.pq_types.specs.Asked.{Line}
 use Rattle.pq_types.specs.Item.{item}
-use Rattle.pq_book.specs.Book.{Volume}
+use Rattle.desk_core.specs.Home.{Home}
 use Rattle.desk_core.specs.Pen.{new_pen}
 use Rattle.desk_core.specs.declared.model.PenState.{PenState}
 use Rattle.desk_core.specs.declared.model.View.{View}
@@ -24,7 +24,7 @@ pub record Desk : Type 0 where
   pub held : Bool
   pub control : ℕ → Control
   pub item : ℕ → Item
-  pub home : Option Volume
+  pub home : Option Home
   pub views : List View
 
 -- of how many acts a seat keeps the positions
@@ -48,7 +48,7 @@ abbrev pub Has : List View → ℕ → PenState → Type 0
 Has views seat p = get_elem? views seat ≡ some (Holder p)
 
 -- a Book as others see it: its room and its journal
-abbrev pub volume : ℕ → List Line → Volume
+abbrev pub volume : ℕ → List Line → Home
 volume room journal = record { room = room; journal = journal }
 
 -- the cells after this was stored at this place

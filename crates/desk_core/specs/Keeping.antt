@@ -13,7 +13,8 @@ use Rattle.pq_types.specs.Asked.{Line}
 use Rattle.pq_types.specs.declared.journal.TheConstants.{GREATEST_NUMBER}
 use Rattle.pq_types.specs.Queue.{IsProperRequestOf}
 use Rattle.pq_types.specs.Control.{kind_of, request_item, answer_item, posted, answered, is_answer}
-use Rattle.pq_types.specs.History.{journal_by, MayAnswer, MayDo}
+use Rattle.pq_types.specs.History.{journal_by}
+use Rattle.desk_core.specs.Answering.{MayTellOf, MayTell}
 use Rattle.pq_types.specs.Mail.{IsSerial, IsProperAnswerOf, IsProperControl}
 use Rattle.desk_core.specs.Pen.{IsIdle, IsKept, after_draft, after_post, after_lead, after_miss, after_read, after_read_item}
 use Rattle.desk_core.specs.Pen.{after_lay, after_answer, after_apply, after_release, after_release_by}
@@ -72,7 +73,7 @@ LayItemKeeps = OfEachPen (λ d seat p. (due : Due) (x : Item) → p.due ≡ Some
 abbrev pub AnswerKeeps : Type 0
 AnswerKeeps = OfEachPen (λ d seat p.
     (due : Due) (request : Request) (answer : Answer) → p.due ≡ Some due → kind_of request ≡ due.kind
-    → IsKept (request_item request) due.item → IsKept (answer_item answer) due.item → MayAnswer d.room p.hand request answer
+    → IsKept (request_item request) due.item → IsKept (answer_item answer) due.item → MayTellOf d.room p.hand request answer
     → MeetsRule (with_pen (with_control d due.place (answered answer)) seat (after_answer p due request answer)))
 
 -- a leader that is idle and has a serial left may apply a proper request of its own, answered as a Book
@@ -80,7 +81,7 @@ AnswerKeeps = OfEachPen (λ d seat p.
 abbrev pub ApplyKeeps : Type 0
 ApplyKeeps = OfEachPen (λ d seat p.
     (request : Request) (answer : Answer) (now : ℕ) → p.leading ≡ true → IsIdle p.standing → p.posts < GREATEST_NUMBER
-    → IsProperRequestOf true request → MayAnswer d.room p.hand request answer
+    → IsProperRequestOf true request → MayTellOf d.room p.hand request answer
     → MeetsRule (with_pen d seat (after_apply p request answer now)))
 
 -- it may release
@@ -92,7 +93,7 @@ ReleaseKeeps = OfEachPen (λ d seat p. p.leading ≡ true → MeetsRule (with_pe
 abbrev pub ReleaseByKeeps : Type 0
 ReleaseByKeeps = OfEachPen (λ d seat p.
     (operation : Operation) (answer : Answer) (now : ℕ) → p.leading ≡ true → p.due ≡ None → IsIdle p.standing
-    → p.posts < GREATEST_NUMBER → IsProperOperationOf true operation → MayDo d.room p.hand operation answer
+    → p.posts < GREATEST_NUMBER → IsProperOperationOf true operation → MayTell d.room p.hand operation answer
     → MeetsRule
     (with_pen (freed d (journal_by p.hand p.place (p.posts + 1) operation answer)) seat
     (after_release_by p operation answer now)))
@@ -133,7 +134,7 @@ pub record IsNew (d : Desk) (p : PenState) (due : Due) : Type 0 where
   pub own : due.place ≡ p.place → due.serial ≡ p.posts
   pub proper : (request : Request) → kind_of request ≡ due.kind → IsKept (request_item request) due.item
       → IsProperRequestOf true request
-  pub answers : (request : Request) (answer : Answer) → MayAnswer d.room p.hand request answer
+  pub answers : (request : Request) (answer : Answer) → MayTellOf d.room p.hand request answer
       → IsProperAnswerOf true answer × IsProperControl (answered answer)
 
 abbrev pub DueIsNew : Type 0

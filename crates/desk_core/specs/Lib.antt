@@ -1,3 +1,4 @@
+pub mod Answering
 pub mod Calls
 pub mod Pen
 pub mod Desk
@@ -26,5 +27,6 @@ pub mod Beyond
 pub mod WorkedHistories
 pub mod WrongSteps
 pub mod Guards
+pub mod Home
 pub mod Looking
 pub mod WorkedLooks

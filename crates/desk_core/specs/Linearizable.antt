@@ -3,13 +3,14 @@
 use Rattle.std.specs.Prelude.{◌≡◌, ℕ, ◌+◌, ◌<◌, ◌≤◌, Bool, true, false, List, []}
 use Rattle.std.specs.Prelude.{◌∷◌, ◌++◌, length, slice_get, Option, Some, None}
 use Rattle.pq_types.specs.Asked.{Operation}
-use Rattle.pq_types.specs.Operation.{Asked}
+use Rattle.pq_types.specs.Operation.{Asked, Shuts}
 use Rattle.pq_types.specs.Asked.{Answer}
-use Rattle.pq_types.specs.declared.answer.Answer.TheVariants.{Entered, BookFull, NoMemory}
+use Rattle.pq_types.specs.declared.answer.Answer.TheVariants.{Entered, BookFull, NoMemory, Refused}
 use Rattle.pq_types.specs.Asked.{Line}
 use Rattle.pq_types.specs.declared.journal.TheConstants.{GREATEST_NUMBER}
 use Rattle.pq_types.specs.Control.{answer_with}
-use Rattle.pq_types.specs.History.{IsLegal, SerialsRise}
+use Rattle.pq_types.specs.History.{IsLegal, SerialsRise, HeedsShut, EndsAtShut}
+use Rattle.desk_core.specs.Answering.{Bars}
 use Rattle.desk_core.specs.Calls.{call_of}
 use Rattle.desk_core.specs.CallLines.{IsLineOf}
 use Rattle.desk_core.specs.Clauses.{HasNo, LockClause}
@@ -73,12 +74,14 @@ pub record Precedes (history : List Act) (place serial place' serial' : ℕ) : T
   pub begins : slice_get history begin ≡ Some (Begins place' serial' operation)
 
 -- What a call was told is true, where the journal has room for so many lines: an entered one has that line,
--- with that reply, and a refused one none; and one that was told that the journal is full finds it so.
+-- with that reply, and a refused one none. If the answer was that the journal is full, or the queue shut,
+-- that is so.
 abbrev pub IsTrueOf : ℕ → List Line → ℕ → ℕ → Answer → Type 0
 IsTrueOf room journal place serial (Entered number reply) =
     (operation : Operation) × IsLineOf journal place (call_of number serial operation reply)
 IsTrueOf room journal place serial BookFull = (length journal ≡ room) × HasNo journal place serial
 IsTrueOf room journal place serial NoMemory = HasNo journal place serial
+IsTrueOf room journal place serial (Refused why) = Bars journal why × HasNo journal place serial
 
 -- The calls of each place take turns, where these are the last serials that the places used, and these calls are
 -- under way: a call begins, under a new serial, while none of its place is; and what ends is the one that began last there.
@@ -89,15 +92,16 @@ TakeTurns last open_at (Begins place serial operation ∷ history) =
 TakeTurns last open_at (Ends place serial answer ∷ history) =
     (open_at place ≡ true) × (last place ≡ serial) × TakeTurns last (put open_at place false) history
 
--- The journal, which has room for so many lines, linearizes the history. The calls of each place take turns. The
--- journal is a legal history of the one-thread queue, in which each
--- call stands at most once. Only calls that have begun stand there, each with its operation; a call
--- that has ended was told what is true there; and of two calls of which one has ended before the
--- other began it has the earlier line.
+-- The journal, which has room for so many lines, linearizes the history. The calls of each place take turns.
+-- The journal is a legal history of the one-thread queue, in which each call stands at most once, and no push
+-- after a shut. Only calls that have begun stand there, each with its operation; a call that has ended was
+-- told what is true there; and of two calls of which one has ended before the other began it has the earlier
+-- line.
 pub record Linearizes (room : ℕ) (history : List Act) (journal : List Line) : Type 0 where
   pub turns : TakeTurns (λ _. 0) (λ _. false) history
   pub legal : IsLegal journal
   pub once : SerialsRise journal
+  pub heeds : HeedsShut journal
   pub begun : (place : ℕ) (c : Call) → IsLineOf journal place c → IsIn history (Begins place c.serial c.operation)
   pub ended : (place serial : ℕ) (answer : Answer) → IsIn history (Ends place serial answer)
       → IsTrueOf room journal place serial answer
@@ -130,3 +134,11 @@ LinesAreWithinCalls =
     → ((answer : Answer) → IsIn (history (opening places room) before m past) (Ends place c.serial answer)
     → c.number ≤ length journal)
     × ((operation : Operation) → IsIn (history m after d rest) (Begins place c.serial operation) → length journal < c.number)
+
+-- A shut ends pushes: where a call that has shut the queue ended before another began, the other is no push
+-- with a line, and no other shut.
+abbrev pub ShutEndsPushes : Type 0
+ShutEndsPushes =
+    (room : ℕ) (history : List Act) (journal : List Line) (place place' : ℕ) (b c : Call) → Linearizes room history journal
+    → IsLineOf journal place b → b.operation ≡ Shuts → IsLineOf journal place' c
+    → Precedes history place b.serial place' c.serial → EndsAtShut c.operation → ⊥

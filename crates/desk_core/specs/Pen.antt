@@ -4,7 +4,7 @@ use Rattle.pq_types.specs.Item.{Item}
 use Rattle.pq_types.specs.Asked.{Request, Operation}
 use Rattle.pq_types.specs.Operation.{Ticketed, Asked, ByTicket}
 use Rattle.pq_types.specs.Asked.{Answer}
-use Rattle.pq_types.specs.declared.answer.Answer.TheVariants.{Entered, BookFull, NoMemory}
+use Rattle.pq_types.specs.declared.answer.Answer.TheVariants.{Entered, BookFull, NoMemory, Refused}
 use Rattle.pq_types.specs.declared.answer.Reply.TheVariants.{Pushed, Empty}
 use Rattle.pq_types.specs.declared.control.Kind.{Kind}
 use Rattle.pq_types.specs.declared.control.Outcome.TheVariants as outcome
@@ -138,6 +138,7 @@ abbrev pub told_full_by : Bool → Answer → Bool
 told_full_by before (Entered number reply) = before
 told_full_by before BookFull = true
 told_full_by before NoMemory = before
+told_full_by before (Refused why) = before
 
 -- when the calls of a pen began whose next one is an own request, carried out at this position: it began there, and ended at the next
 abbrev pub own_begins : PenState → ℕ → List (ℕ × ℕ)
@@ -199,6 +200,7 @@ told_by (Answered (notice.Entered number outcome.Least)) = None
 told_by (Answered (notice.Entered number outcome.Empty)) = Some (Entered number Empty)
 told_by (Answered notice.BookFull) = Some BookFull
 told_by (Answered notice.NoMemory) = Some NoMemory
+told_by (Answered (notice.Refused why)) = Some (Refused why)
 
 -- the standing of a pen that waited for this request, the answered calls that it has, and whether it was told that the journal is
 -- full, after it was told this answer or none

@@ -8,7 +8,9 @@ use lib.ListN.{get_elem?}
 use Rattle.pq_types.specs.Item.{Item}
 use Rattle.pq_types.specs.Asked.{Request}
 use Rattle.pq_types.specs.Asked.{Reply}
-use Rattle.pq_types.specs.declared.answer.Answer.TheVariants.{Entered, BookFull, NoMemory}
+use Rattle.pq_types.specs.declared.answer.Answer.TheVariants.{Entered, BookFull, NoMemory, Refused}
+use Rattle.pq_types.specs.declared.answer.Refusal.{Refusal}
+use Rattle.desk_core.specs.Answering.{Bars, IsBarred}
 use Rattle.pq_types.specs.declared.control.Outcome.{Outcome}
 use Rattle.pq_types.specs.declared.control.Notice.TheVariants as notice
 use Rattle.pq_types.specs.declared.control.Control.{Control}
@@ -17,7 +19,7 @@ use Rattle.pq_types.specs.Asked.{Line}
 use Rattle.pq_types.specs.declared.journal.TheConstants.{GREATEST_NUMBER}
 use Rattle.pq_types.specs.Queue.{IsProperRequestOf, AreItemsOf, IsPush}
 use Rattle.pq_types.specs.Control.{request_item, reply_item, Carries, posted, answered, is_answer}
-use Rattle.pq_types.specs.History.{line, left, IsLegal, SerialsRise}
+use Rattle.pq_types.specs.History.{line, left, IsLegal, SerialsRise, HeedsShut}
 use Rattle.pq_types.specs.Mail.{IsProperAnswerOf}
 use Rattle.desk_core.specs.Calls.{call, calls_of}
 use Rattle.desk_core.specs.Pen.{new_pen}
@@ -60,6 +62,11 @@ pub data Stands (room : ℕ) (journal : List Line) (control : Control) (cell : I
   full :
       (q : Request) → standing ≡ Waiting q → 0 < posts → control ≡ answered BookFull → length journal ≡ room
       → calls_of place journal ≡ mine
+      → Stands room journal control cell place posts standing mine
+  -- it waits: refused by the queue's rules
+  barred :
+      (q : Request) (why : Refusal) → standing ≡ Waiting q → 0 < posts → IsBarred q why × Bars journal why
+      → control ≡ answered (Refused why) → calls_of place journal ≡ mine
       → Stands room journal control cell place posts standing mine
   -- it waits: a push refused for want of memory
   refused :
@@ -131,11 +138,12 @@ pub record IsDealer (views : List View) (journal : List Line) (seat next : ℕ) 
   pub pens : (j : ℕ) (p : PenState) → Has views j p → p.place < next
   pub lines : (place : ℕ) → next ≤ place → calls_of place journal ≡ []
 
--- the journal by itself: a legal history in which the serials of each place rise, with room for its
--- lines, and with items in the range
+-- the journal by itself: a legal history in which the serials of each place rise, and no push stands behind a shut line,
+-- with room for its lines, and with items in the range
 pub record Lawful (room : ℕ) (journal : List Line) : Type 0 where
   pub legal : IsLegal journal
   pub rise : SerialsRise journal
+  pub heeds : HeedsShut journal
   pub within : length journal ≤ room
   pub items : AreItemsOf true (left journal)
 

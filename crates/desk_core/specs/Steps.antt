@@ -13,8 +13,9 @@ use Rattle.pq_types.specs.declared.journal.TheConstants.{GREATEST_NUMBER}
 use Rattle.pq_types.specs.Item.{IsItemOf}
 use Rattle.pq_types.specs.Queue.{IsProperRequestOf}
 use Rattle.pq_types.specs.Control.{kind_of, request_item, answer_item, notice_has_item, posted, answered}
-use Rattle.pq_types.specs.History.{journal_by, MayAnswer, MayDo}
-use Rattle.pq_book.specs.Book.{Volume}
+use Rattle.pq_types.specs.History.{journal_by}
+use Rattle.desk_core.specs.Answering.{MayTellOf, MayTell}
+use Rattle.desk_core.specs.Home.{Home}
 use Rattle.desk_core.specs.Pen.{IsIdle, IsKept, after_draft, after_post, after_lead, after_miss, after_read, after_read_item}
 use Rattle.desk_core.specs.Pen.{after_lay, after_answer, after_apply, after_release, after_release_by, after_look, after_see, after_take}
 use Rattle.desk_core.specs.Desk.{Desk, Has, time, with_control, with_cell, locked, freed, with_pen}
@@ -84,7 +85,7 @@ StepsPost d seat request d' =
 abbrev pub StepsTry : Desk → ℕ → Desk → Type 0
 StepsTry d seat d' =
     (p : PenState) × Has d.views seat p
-    × (((d.held ≡ false) × ((book : Volume) × (d.home ≡ Some book) × (d' ≡ with_pen (locked d) seat (after_lead p book.journal))))
+    × (((d.held ≡ false) × ((book : Home) × (d.home ≡ Some book) × (d' ≡ with_pen (locked d) seat (after_lead p book.journal))))
     ⊎ ((d.held ≡ true) × (d' ≡ with_pen d seat (after_miss p))))
 
 -- The leader reads the mail at a place: the control alone.
@@ -114,7 +115,7 @@ StepsAnswer d seat answer d' =
     (p : PenState) × (due : Due) × (request : Request)
     × Has d.views seat p × (p.leading ≡ true) × (p.due ≡ Some due)
     × (kind_of request ≡ due.kind) × IsKept (request_item request) due.item × IsKept (answer_item answer) due.item
-    × MayAnswer d.room p.hand request answer
+    × MayTellOf d.room p.hand request answer
     × (d' ≡ with_pen (with_control d due.place (answered answer)) seat (after_answer p due request answer))
 
 -- A leader that is idle and has a serial left applies a request of its own, answered as a Book with its
@@ -125,7 +126,7 @@ StepsApply d seat request answer d' =
     (p : PenState)
     × Has d.views seat p × (p.leading ≡ true) × IsIdle p.standing × (p.posts < GREATEST_NUMBER)
     × IsProperRequestOf true request
-    × MayAnswer d.room p.hand request answer
+    × MayTellOf d.room p.hand request answer
     × (d' ≡ with_pen d seat (after_apply p request answer (time d)))
 
 -- The leader puts the Book home with the journal in its hand, and frees the lock.
@@ -142,7 +143,7 @@ StepsReleaseBy d seat operation answer d' =
     (p : PenState)
     × Has d.views seat p × (p.leading ≡ true) × (p.due ≡ None) × IsIdle p.standing × (p.posts < GREATEST_NUMBER)
     × IsProperOperationOf true operation
-    × MayDo d.room p.hand operation answer
+    × MayTell d.room p.hand operation answer
     × (d' ≡ with_pen (freed d (journal_by p.hand p.place (p.posts + 1) operation answer)) seat
     (after_release_by p operation answer (time d)))
 

@@ -6,11 +6,13 @@ use Rattle.pq_types.specs.Asked.{Request, Operation}
 use Rattle.pq_types.specs.declared.request.Request.TheVariants.{Push}
 use Rattle.pq_types.specs.Asked.{Reply}
 use Rattle.pq_types.specs.Asked.{Answer}
-use Rattle.pq_types.specs.declared.answer.Answer.TheVariants.{Entered, BookFull}
+use Rattle.pq_types.specs.declared.answer.Answer.TheVariants.{Entered, BookFull, Refused}
+use Rattle.pq_types.specs.declared.answer.Refusal.TheVariants.{Shut}
+use Rattle.pq_types.specs.Operation.{Asked}
 use Rattle.pq_types.specs.declared.control.Kind.{Kind}
 use Rattle.pq_types.specs.declared.control.Control.TheVariants.{Posted}
 use Rattle.pq_types.specs.Control.{answer_item, reply_item, posted, answered, is_posted, is_answer, has_item}
-use Rattle.pq_types.specs.History.{journal_by, journal_after}
+use Rattle.pq_types.specs.History.{journal_by, journal_after, EndsAtShut, IsHeard, is_shut}
 use Rattle.desk_core.specs.Calls.{call, gained, gained_by}
 use Rattle.desk_core.specs.Pen.{due_to}
 use Rattle.desk_core.specs.Desk.{Desk, Has, volume}
@@ -111,9 +113,10 @@ pub record AfterLay (d d' : Desk) (x : Item) (p p' : PenState) : Type 0 where
   pub round : SameRound p p'
   pub asker : SameAsker p p'
 
--- The answer, BookFull exactly where the journal in hand is full, stands at the place that was due:
--- to the request which waits there. The journal gains its line, if it is entered; nothing is due,
--- and the place and its answer are what the leader last saw at its own place, if it is that.
+-- The answer, BookFull exactly where the journal in hand is full, else Shut exactly where a shut refuses
+-- it, stands at the place that was due: to the request which waits there. The journal gains its line, if
+-- it is entered; nothing is due, and the place and its answer are what the leader last saw at its own
+-- place, if it is that.
 pub record AfterAnswer (d d' : Desk) (answer : Answer) (p p' : PenState) : Type 0 where
   pub due : Due
   pub request : Request
@@ -121,6 +124,7 @@ pub record AfterAnswer (d d' : Desk) (answer : Answer) (p p' : PenState) : Type 
   pub waits : (i : ℕ) × (q : PenState) × Has d.views i q × (q.place ≡ due.place) × (q.posts ≡ due.serial)
       × (q.standing ≡ Waiting request)
   pub full : (answer ≡ BookFull) ↔ (length p.hand ≡ d.room)
+  pub shut : (answer ≡ Refused Shut) ↔ ((length p.hand < d.room) × EndsAtShut (Asked request) × (is_shut p.hand ≡ true))
   pub stands : d'.control due.place ≡ answered answer
   pub hand : p'.hand ≡ journal_after p.hand due.place due.serial request answer
   pub done : p'.due ≡ None
@@ -132,13 +136,15 @@ pub record AfterAnswer (d d' : Desk) (answer : Answer) (p p' : PenState) : Type 
   pub asker : SameAsker p p'
 
 -- The pen leads on. The journal in its hand has the line of its own request, under its next serial, if
--- it is entered; it is BookFull exactly where that journal was full. The serial is used, and an entered
--- answer joins its calls, whose serials were below it; no word of its record has changed, and it is idle
--- without a draft. The lock is as it was, and so is what the pen knew before it led.
+-- it is entered; it is BookFull exactly where that journal was full, else Shut exactly where a shut
+-- refuses it. The serial is used, and an entered answer joins its calls, whose serials were below it;
+-- no word of its record has changed, and it is idle without a draft. The lock is as it was, and so is
+-- what the pen knew before it led.
 pub record AfterApply (d d' : Desk) (request : Request) (answer : Answer) (p p' : PenState) : Type 0 where
   pub leading : p'.leading ≡ true
   pub hand : p'.hand ≡ journal_after p.hand p.place p'.posts request answer
   pub full : (answer ≡ BookFull) ↔ (length p.hand ≡ d.room)
+  pub shut : (answer ≡ Refused Shut) ↔ ((length p.hand < d.room) × EndsAtShut (Asked request) × (is_shut p.hand ≡ true))
   pub posts : p'.posts ≡ p.posts + 1
   pub mine : p'.mine ≡ p.mine ++ gained p'.posts request answer
   pub below : AllByRecursion (λ c. c.serial < p'.posts) p.mine
@@ -166,15 +172,16 @@ pub record AfterRelease (d d' : Desk) (p p' : PenState) : Type 0 where
 
 -- The lock is free, and the Book at home with the journal that was in hand and the line of the pen's
 -- own request, under its next serial, if it is entered; it is BookFull exactly where that journal was
--- full. The pen keeps that journal as what it knows, the serial is used, and an entered answer joins
--- its calls, whose serials were below it; no word of its record has changed, and it is idle without a
--- draft.
+-- full, else Shut exactly where a shut refuses it. The pen keeps that journal as what it knows, the
+-- serial is used, and an entered answer joins its calls, whose serials were below it; no word of its
+-- record has changed, and it is idle without a draft.
 pub record AfterReleaseBy (d d' : Desk) (operation : Operation) (answer : Answer) (p p' : PenState) : Type 0 where
   pub leading : p'.leading ≡ false
   pub held : d'.held ≡ false
   pub known : p'.known ≡ journal_by p.hand p.place p'.posts operation answer
   pub home : d'.home ≡ Some (volume d.room p'.known)
   pub full : (answer ≡ BookFull) ↔ (length p.hand ≡ d.room)
+  pub shut : (answer ≡ Refused Shut) ↔ ((length p.hand < d.room) × EndsAtShut operation × (is_shut p.hand ≡ true))
   pub posts : p'.posts ≡ p.posts + 1
   pub mine : p'.mine ≡ p.mine ++ gained_by p'.posts operation answer
   pub below : AllByRecursion (λ c. c.serial < p'.posts) p.mine

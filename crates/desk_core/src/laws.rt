@@ -16,7 +16,8 @@ ghost use Rattle.desk_core.specs.Layout.{WordsAreReadBack, ZerosAreFresh, CacheL
 ghost use Rattle.desk_core.specs.Words.{WordsTellItems, MixedByWord, WordsMix};
 ghost use Rattle.desk_core.specs.Leads.{PostedAreAnswered, AnswersStay, LeadersKnowTheirAnswers};
 ghost use Rattle.desk_core.specs.Leads.{AnswersStayKnown, LeadersNoteWhatTheyRead};
-ghost use Rattle.desk_core.specs.Linearizable.{EveryRunIsLinearizable, OrderStays, LinesAreWithinCalls};
+ghost use Rattle.desk_core.specs.Linearizable.{EveryRunIsLinearizable, OrderStays, LinesAreWithinCalls, ShutEndsPushes};
+ghost use Rattle.desk_core.specs.Answering.{BooksDeal};
 ghost use Rattle.desk_core.specs.Looking.{LooksAreMore, LooksFindTheJournal};
 ghost use Rattle.desk_core.specs.Looking.{EveryRunLinearizesLooks, EveryDealtRunLinearizesLooks};
 ghost use Rattle.desk_core.specs.Needs.{OwnRequestNeeds};
@@ -31,7 +32,7 @@ ghost use Rattle.desk_core.specs.WorkedHistories.{ComingOut, Overtaking, Togethe
 ghost use Rattle.desk_core.specs.WorkedLooks.{LooksBetween};
 ghost use Rattle.desk_core.specs.Worked.{ThreePens, HalfWritten, FullJournal, OwnRequests};
 
-use pq_types::laws::{law_items_stay_in_range, law_one_more_line, law_words_differ};
+use pq_types::laws::{law_items_stay_in_range, law_one_more_line, law_shut, law_words_differ};
 
 /// In every run of the desk's steps, in whatever order the pens take them: the rule of the desk
 /// holds between any two steps, and whatever desk meets it meets each of its plain clauses. Both
@@ -49,6 +50,7 @@ pub fn law_desk_runs()
     ensures stored { ItemsAreStored }
 {
     law_one_more_line();
+    law_shut();
     law_items_stay_in_range();
 }
 
@@ -74,6 +76,7 @@ pub fn law_each_step_keeps_the_rule()
     ensures seated { PensAreSeated }
 {
     law_one_more_line();
+    law_shut();
     law_items_stay_in_range();
 }
 
@@ -122,6 +125,7 @@ pub fn law_linearizable()
     ensures within { LinesAreWithinCalls }
 {
     law_one_more_line();
+    law_shut();
     law_items_stay_in_range();
 }
 
@@ -133,6 +137,7 @@ pub fn law_dealt_runs_are_linearizable()
     ensures within { DealtLinesAreWithinCalls }
 {
     law_one_more_line();
+    law_shut();
     law_items_stay_in_range();
 }
 
@@ -146,6 +151,7 @@ pub fn law_looks_are_within()
     ensures more { LooksAreMore }
 {
     law_one_more_line();
+    law_shut();
     law_items_stay_in_range();
 }
 
@@ -156,6 +162,7 @@ pub fn law_reached_desks()
     ensures goes_on { MovesReach }
 {
     law_one_more_line();
+    law_shut();
     law_items_stay_in_range();
 }
 
@@ -168,6 +175,7 @@ pub fn law_times()
     ensures order { TimesOrderCalls }
 {
     law_one_more_line();
+    law_shut();
     law_items_stay_in_range();
 }
 
@@ -177,6 +185,7 @@ pub fn law_positions_are_forced()
     ensures { PositionsAreForced }
 {
     law_one_more_line();
+    law_shut();
     law_items_stay_in_range();
 }
 
@@ -188,6 +197,7 @@ pub fn law_testimonies()
     ensures refused { RefusedStandNowhere }
 {
     law_one_more_line();
+    law_shut();
     law_items_stay_in_range();
 }
 
@@ -254,6 +264,7 @@ pub fn law_posted_are_answered()
     ensures noted { LeadersNoteWhatTheyRead }
 {
     law_one_more_line();
+    law_shut();
     law_items_stay_in_range();
 }
 
@@ -273,3 +284,14 @@ pub fn law_words_show_the_desk()
 {
     law_words_differ();
 }
+
+/// Whatever a Book may answer, the machine's combiner may. The machine knows the journal and its room; a Book
+/// also knows its bound, and how many lines it allows.
+pub fn law_books_deal()
+    ensures { BooksDeal }
+{}
+
+/// A shut ends pushes, in every history that a journal linearizes.
+pub fn law_shut_ends_pushes()
+    ensures { ShutEndsPushes }
+{}

@@ -19,7 +19,7 @@ use Rattle.flat_queue.specs.Members.{Joined}
 use Rattle.flat_queue.specs.Calling.{StaysMember, HasPostedOne, MakesCall, PostsAndWaitsBy, WaitsOn, IsTold, ended}
 use Rattle.flat_queue.specs.OwnRequest.{TriesOrWaitsBy}
 use Rattle.flat_queue.specs.Turns.{FindsLockHeld, WaitedBy, EndsWaitingBy}
-use Rattle.flat_queue.specs.CallSteps.{CallStage, Came, FitsStage, came_to, answer_of, PostsOnceBy, TriesOnceBy, TriesUnlessShutBy, AsksOnceBy, CallStepsBy, HasTried, HasPostedBy, HasComeToBy}
+use Rattle.flat_queue.specs.CallSteps.{CallStage, Came, FitsStage, came_to, answer_of, PostsOnceBy, TriesOnceBy, AsksOnceBy, CallStepsBy, HasTried, HasPostedBy, HasComeToBy}
 use Rattle.flat_queue.specs.declared.error.CallError.TheVariants as error
 use Rattle.flat_queue.specs.declared.gate.Turn.{Turn}
 use Rattle.flat_queue.specs.declared.gate.Turn.TheVariants.{Lead, Look, GiveUp}
@@ -27,7 +27,7 @@ use Rattle.flat_queue.specs.declared.call_steps.CallStage.TheVariants as stage
 use Rattle.flat_queue.specs.declared.call_steps.Came.TheVariants as came
 use Rattle.flat_queue.specs.declared.call_steps.CallStepped.TheVariants as stepped
 use Rattle.flat_queue.proofs.Knew.{told_beyond, told_times}
-use Rattle.flat_queue.proofs.OwnRequests.{all_left, one_less, entered_later, waited_later}
+use Rattle.flat_queue.proofs.OwnRequests.{all_left, one_less, called_own, entered_later, waited_later}
 use Rattle.flat_queue.proofs.Turns.{waited_at_first, waited_on, ends_told, ends_untold}
 use Rattle.flat_queue.proofs.Waits.{starts_trans, stays_trans, at_first, waits_trans, looked_on, took}
 
@@ -85,7 +85,6 @@ look_on e = cc e
 pub waits_so_far : (words : ℕ) (may : Turn → Type 0) (room : Type 0) (a b c : Joined) (next : CallStage) → WaitsOn a b → WaitedBy words may a b → AsksOnceBy words may room b (stepped.Goes next) c
     → WaitsOn a c × WaitedBy words may a c
 waits_so_far words may room a b c (stage.Tries request tries) w t h = absurd h
-waits_so_far words may room a b c (stage.TriesUnlessShut request tries) w t h = absurd h
 waits_so_far words may room a b c stage.Looks w t (l, looked, says, leads) = (
   waits_trans a b c w (waits_trans b l c (looked_on words b l looked.0 looked.1) (took words Lead l c (inl leads))),
   waited_on words may Lead a b l c t looked says (inl leads) lead_on,
@@ -194,12 +193,24 @@ told_call words a c request now answer.NoMemory room none few w =
       never_gives_up = λ e. cc e;
       memory = λ r e. w.memory r refl;
     }
+told_call words a c request now (answer.Refused why) room none few w =
+    let s = told_so words a c request now (answer.Refused why) w.told in
+    record {
+      ok = tt;
+      err = (s.answers, none_more a c (Idle None) a.pen.mine s.one);
+      full = λ e. absurd (cc e);
+      spent = (λ e. absurd (cc e), λ le. absurd (omega (arith, le, few)));
+      turns = λ f. (Some (answer.Refused why), refl, (now, w.turns));
+      never_gives_up = λ e. cc e;
+      memory = λ r e. absurd (cc e);
+    }
 
 -- what a call comes to by an answer, in the two ways of saying it
 came_as : (x : Answer) → ended (Some x) ≡ came_to (came.Answered x)
 came_as (Entered number reply) = refl
 came_as answer.BookFull = refl
 came_as answer.NoMemory = refl
+came_as (answer.Refused why) = refl
 
 -- tries use no serial
 tried_few : (a m : Joined) (left : ℕ) → HasTried a m left → a.pen.posts < most_posts a.queue.room → m.pen.posts < most_posts m.queue.room
@@ -211,10 +222,11 @@ tried_few a m left h few =
 -- what a call comes to that ends with a try
 tries_end : (words : ℕ) (room : Type 0) (a m c : Joined) (request : Request) (tries : ℕ) (end : Came) → a.pen.posts < most_posts a.queue.room → HasTried a m (tries + 1)
     → TriesOnceBy words (λ turn. turn ≡ Lead) room request tries m (stepped.Ends end) c → MakesCall (TriesOrWaitsBy words) (λ told. told) room a request (came_to end) c
-tries_end words room a m c request tries (came.Answered x) few t h =
+tries_end words room a m c request tries (came.Answered x) few t (some, carries, fits, memory) =
     subst (λ r. MakesCall (TriesOrWaitsBy words) (λ told. told) room a request r c) (came_as x)
-    (entered_later words a m c (tries + 1) request room (ended (Some x)) (omega arith) t few h)
-tries_end words room a m c request tries came.Spent few t h = entered_later words a m c (tries + 1) request room (Err error.Spent) (omega arith) t few h
+    (entered_later words a m c (tries + 1) request room (ended (Some x)) (omega arith) t few (called_own words x m c request room carries fits some memory))
+tries_end words room a m c request tries came.Spent few t (none, same) =
+    let some = tried_few a m (tries + 1) t few in absurd (omega (arith, none, some))
 tries_end words room a m c request tries came.Held few t h = absurd (let e = h.0 in cc e)
 tries_end words room a m c request tries came.Posted few t h = absurd h
 
@@ -236,7 +248,6 @@ pub steps_end : (words : ℕ) (room : Type 0) (a m c : Joined) (request : Reques
     → CallStepsBy words (λ turn. turn ≡ Lead) room at m (stepped.Ends end) c → MakesCall (TriesOrWaitsBy words) (λ told. told) room a request (came_to end) c
 steps_end words room a m c request (stage.Tries next tries) end few (same, t) h =
     tries_end words room a m c request tries end few t (subst (λ r. TriesOnceBy words (λ turn. turn ≡ Lead) room r tries m (stepped.Ends end) c) same h)
-steps_end words room a m c request (stage.TriesUnlessShut next tries) end few t h = absurd t
 steps_end words room a m c request stage.Looks end few (held, t, p) h = asks_end words room a held m c request end few t p h
 steps_end words room a m c request stage.Waits end few (held, t, p) h = asks_end words room a held m c request end few t p h
 
@@ -252,7 +263,6 @@ one_left a m c tries t held = let e : (tries + 1) - 1 ≡ tries = omega arith in
 tries_go : (words : ℕ) (room : Type 0) (a m c : Joined) (request : Request) (tries : ℕ) (next : CallStage) → HasTried a m (tries + 1)
     → TriesOnceBy words (λ turn. turn ≡ Lead) room request tries m (stepped.Goes next) c → HasComeToBy words a request next c
 tries_go words room a m c request tries (stage.Tries again left) t (same, less, (few, held)) = (same, subst (HasTried a c) (sym less) (one_left a m c tries t held))
-tries_go words room a m c request tries (stage.TriesUnlessShut again left) t h = absurd h
 tries_go words room a m c request tries stage.Looks t (none, (h, (few, held), p)) = (h, subst (HasTried a h) none (one_left a m h tries t held), just_posted words h c request p)
 tries_go words room a m c request tries stage.Waits t h = absurd h
 
@@ -266,7 +276,6 @@ asks_go words room h m c request next p k =
 asks_come : (words : ℕ) (room : Type 0) (a h m c : Joined) (request : Request) (next : CallStage) → HasTried a h 0 → HasPostedBy words request h m
     → AsksOnceBy words (λ turn. turn ≡ Lead) room m (stepped.Goes next) c → HasComeToBy words a request next c
 asks_come words room a h m c request (stage.Tries again left) t p k = absurd k
-asks_come words room a h m c request (stage.TriesUnlessShut again left) t p k = absurd k
 asks_come words room a h m c request stage.Looks t p k = (h, t, asks_go words room h m c request stage.Looks p k)
 asks_come words room a h m c request stage.Waits t p k = (h, t, asks_go words room h m c request stage.Waits p k)
 
@@ -275,7 +284,6 @@ pub steps_go : (words : ℕ) (room : Type 0) (a m c : Joined) (request : Request
     → CallStepsBy words (λ turn. turn ≡ Lead) room at m (stepped.Goes next) c → HasComeToBy words a request next c
 steps_go words room a m c request (stage.Tries again tries) next (same, t) h =
     tries_go words room a m c request tries next t (subst (λ r. TriesOnceBy words (λ turn. turn ≡ Lead) room r tries m (stepped.Goes next) c) same h)
-steps_go words room a m c request (stage.TriesUnlessShut again tries) next t h = absurd t
 steps_go words room a m c request stage.Looks next (held, t, p) h = asks_come words room a held m c request next t p h
 steps_go words room a m c request stage.Waits next (held, t, p) h = asks_come words room a held m c request next t p h
 
@@ -294,7 +302,6 @@ pub tries_fit : (words : ℕ) (may : Turn → Type 0) (room : Type 0) (m c : Joi
     → TriesOnceBy words may room request tries m (stepped.Goes next) c → FitsStill next m c
 tries_fit words may room m c request tries (stage.Tries again left) i (same, less, (few, held)) =
     (ap (λ (z : Joined). z.queue) held, ap (λ (z : Joined). is_idle z.pen.standing) held ∙ i)
-tries_fit words may room m c request tries (stage.TriesUnlessShut again left) i h = absurd h
 tries_fit words may room m c request tries stage.Looks i (none, (h, (few, held), p)) =
     let fits = posted_fits words h c request p in (fits.0 ∙ ap (λ (z : Joined). z.queue) held, fits.1)
 tries_fit words may room m c request tries stage.Waits i h = absurd h
@@ -305,23 +312,12 @@ waits_fit m c i w = (w.stays.queue, ap is_idle w.standing ∙ i)
 asks_fit : (words : ℕ) (may : Turn → Type 0) (room : Type 0) (m c : Joined) (next : CallStage) → is_idle m.pen.standing ≡ false
     → AsksOnceBy words may room m (stepped.Goes next) c → FitsStill next m c
 asks_fit words may room m c (stage.Tries again left) i h = absurd h
-asks_fit words may room m c (stage.TriesUnlessShut again left) i h = absurd h
 asks_fit words may room m c stage.Looks i h = waits_fit m c i (waits_so_far words may room m m c stage.Looks (at_first m) (waited_at_first words may m) h).0
 asks_fit words may room m c stage.Waits i h = waits_fit m c i (waits_so_far words may room m m c stage.Waits (at_first m) (waited_at_first words may m) h).0
-
-pub shut_fit : (words : ℕ) (may : Turn → Type 0) (room : Type 0) (m c : Joined) (request : Request) (tries : ℕ) (next : CallStage) → is_idle m.pen.standing ≡ true
-    → TriesUnlessShutBy words may room request tries m (stepped.Goes next) c → FitsStill next m c
-shut_fit words may room m c request tries (stage.Tries again left) i h = absurd h
-shut_fit words may room m c request tries (stage.TriesUnlessShut again left) i (same, less, (few, held)) =
-    (ap (λ (z : Joined). z.queue) held, ap (λ (z : Joined). is_idle z.pen.standing) held ∙ i)
-shut_fit words may room m c request tries stage.Looks i (none, (h, (few, held), p)) =
-    let fits = posted_fits words h c request p in (fits.0 ∙ ap (λ (z : Joined). z.queue) held, fits.1)
-shut_fit words may room m c request tries stage.Waits i h = absurd h
 
 -- a step after which a call goes on leaves its member fit for the next one
 pub steps_fit : (words : ℕ) (may : Turn → Type 0) (room : Type 0) (m c : Joined) (at next : CallStage) → FitsStage at m → CallStepsBy words may room at m (stepped.Goes next) c → FitsStill next m c
 steps_fit words may room m c (stage.Tries request tries) next i h = tries_fit words may room m c request tries next i h
-steps_fit words may room m c (stage.TriesUnlessShut request tries) next i h = shut_fit words may room m c request tries next i h
 steps_fit words may room m c stage.Looks next i h = asks_fit words may room m c next i h
 steps_fit words may room m c stage.Waits next i h = asks_fit words may room m c next i h
 

@@ -1,5 +1,5 @@
 -- What the members keep with whom a queue is closed is of one history, which the Book's journal linearizes.
-use Rattle.std.proofs.Common.{◌≡◌, ℕ, ◌≤◌, inl, inr, true, List, length, map, slice_get, refl, sym, ◌∙◌, subst}
+use Rattle.std.proofs.Common.{◌≡◌, ℕ, ◌≤◌, inl, inr, true, List, length, map, slice_get, refl, sym, ap, ◌∙◌, subst}
 use Rattle.std.specs.Prelude.{Some, None}
 use Rattle.std.proofs.lemmas.Option.{slice_get_within}
 use Rattle.pq_types.specs.Asked.{Line, Request}
@@ -11,6 +11,7 @@ use Rattle.desk_core.specs.CallLines.{CallsAreLines}
 use Rattle.desk_core.specs.Clauses.{LockClause}
 use Rattle.desk_core.specs.Dealing.{EveryDealtRunIsLinearizable, dealt_history}
 use Rattle.desk_core.specs.Desk.{Desk, dealer_opening, volume}
+use Rattle.desk_core.specs.Home.{Home, home_of}
 use Rattle.desk_core.specs.Linearizable.{Act, Linearizes}
 use Rattle.desk_core.specs.Rule.{Lock}
 use Rattle.desk_core.specs.Testimonies.{after_retiring}
@@ -35,13 +36,17 @@ whole_before : (history : List Act) (until : ℕ) (p : PenState) → IsWhole his
 whole_before history until p w = record { begun = w.begun; ended = w.ended }
 
 -- the room of the desk is that of the Book at home, and so is its journal
-home_room : (d : Desk) (journal : List Line) (chief : ℕ) (book : Volume) → Lock d journal chief → d.home ≡ Some book → d.room ≡ book.room
-home_room d journal chief book (inl (free, home)) at = let same : Some (volume d.room journal) ≡ Some book = sym home ∙ at in cc
-home_room d journal chief book (inr (held, home, led)) at = absurd (let none : None ≡ Some book = sym home ∙ at in cc)
+home_room : (d : Desk) (journal : List Line) (chief : ℕ) (book : Volume) → Lock d journal chief → d.home ≡ Some (home_of book) → d.room ≡ book.room
+home_room d journal chief book (inl (free, home)) at =
+    let some : Some (volume d.room journal) ≡ Some (home_of book) = sym home ∙ at in
+    let same : volume d.room journal ≡ home_of book = cc in ap (λ (h : Home). h.room) same
+home_room d journal chief book (inr (held, home, led)) at = absurd (let none : None ≡ Some (home_of book) = sym home ∙ at in cc)
 
-home_journal : (d : Desk) (journal : List Line) (book : Volume) → LockClause d journal → d.home ≡ Some book → journal ≡ book.journal
-home_journal d journal book (inl (free, home, none)) at = let same : Some (volume d.room journal) ≡ Some book = sym home ∙ at in cc
-home_journal d journal book (inr (held, home, led)) at = absurd (let none : None ≡ Some book = sym home ∙ at in cc)
+home_journal : (d : Desk) (journal : List Line) (book : Volume) → LockClause d journal → d.home ≡ Some (home_of book) → journal ≡ book.journal
+home_journal d journal book (inl (free, home, none)) at =
+    let some : Some (volume d.room journal) ≡ Some (home_of book) = sym home ∙ at in
+    let same : volume d.room journal ≡ home_of book = cc in ap (λ (h : Home). h.journal) same
+home_journal d journal book (inr (held, home, led)) at = absurd (let none : None ≡ Some (home_of book) = sym home ∙ at in cc)
 
 room_is : (room : ℕ) (pens : List PenState) (book : Volume) → (h : IsHomeWithAll room pens book) → h.desk.room ≡ room
 room_is room pens book h = let (journal, chief, rule) = h.meets in home_room h.desk journal chief book rule.lock h.at_home ∙ h.room_is

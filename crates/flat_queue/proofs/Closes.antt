@@ -1,5 +1,5 @@
 -- What a queue that is closed with all its members leaves.
-use Rattle.std.proofs.Common.{◌≡◌, ℕ, zero, suc, ◌+◌, ◌-◌, ◌<◌, ◌≤◌, true, List, [], ◌∷◌, ◌++◌, length, map, slice_get, Some, refl, sym, ◌∙◌, ap, subst, arith}
+use Rattle.std.proofs.Common.{◌≡◌, ℕ, zero, suc, ◌+◌, ◌-◌, ◌<◌, ◌≤◌, List, [], ◌∷◌, length, map, slice_get, Some, refl, sym, ◌∙◌, ap, subst, arith}
 use Rattle.std.proofs.lemmas.List.{length-map, append-nil}
 use Rattle.std.specs.Prelude.{Option, None}
 use Rattle.std.specs.List.{All}
@@ -10,12 +10,11 @@ use Rattle.pq_types.specs.Asked.{Line}
 use Rattle.pq_book.specs.Book.{Volume}
 use Rattle.desk_core.specs.Knows.{Knows}
 use Rattle.desk_core.specs.Testimonies.{after_retiring}
-use Rattle.desk_core.specs.declared.model.Duty.TheVariants.{Retired}
 use Rattle.desk_core.specs.declared.model.PenState.{PenState}
 use Rattle.announce_board.specs.Opening.{HasAll, IsHomeWithAll, AllKnow, LinesAreOfThese, HavePlaces}
-use Rattle.flat_queue.specs.Closing.{ClosesAll, ClosedAreLinearized, OfEachMember, LinesAreTheirs, retired_pen}
+use Rattle.flat_queue.specs.Closing.{ClosesAll, ClosedAreLinearized, OfEachMember, retired_pen}
 use Rattle.announce_board.specs.Testimonies.{Testified}
-use Rattle.flat_queue.specs.Gathered.{Gathers, GathersBoth, IsOf}
+use Rattle.flat_queue.specs.Gathered.{Gathers, GathersBoth}
 use Rattle.flat_queue.specs.Members.{QueueName, Joined}
 use Rattle.flat_queue.proofs.Idle.{idle_known}
 

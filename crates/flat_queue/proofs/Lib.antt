@@ -14,9 +14,9 @@ pub mod Misses
 pub mod OwnRequests
 pub mod UpTos
 pub mod TicketUses
+pub mod Shuttings
 pub mod Together
 pub mod Lookings
-pub mod Countings
 pub mod Tellings
 pub mod Idle
 pub mod Closes

@@ -1,5 +1,5 @@
 -- What a look at the first item under the lock comes to.
-use Rattle.std.proofs.Common.{◌≡◌, ℕ, ◌<◌, sym, subst, Bool, List, [], ◌∷◌, length}
+use Rattle.std.proofs.Common.{◌≡◌, ℕ, ◌<◌, sym, subst, arith, Bool, List, [], ◌∷◌, length}
 use Rattle.pq_types.specs.Item.{Item}
 use Rattle.pq_types.specs.declared.request.Request.TheVariants.{Pop}
 use Rattle.pq_types.specs.Asked.{Reply}
@@ -8,7 +8,7 @@ use Rattle.pq_types.specs.Asked.{Answer}
 use Rattle.pq_types.specs.declared.answer.Answer.TheVariants.{Entered}
 use Rattle.pq_types.specs.declared.answer.Answer.TheVariants as answer
 use Rattle.pq_types.specs.Queue.{reply_to}
-use Rattle.pq_types.specs.History.{left}
+use Rattle.pq_types.specs.History.{left, is_shut}
 use Rattle.pq_book.specs.Book.{Volume}
 use Rattle.leftist_heap.specs.Store.{first_of}
 use Rattle.desk_core.specs.Pen.{after_release}
@@ -66,11 +66,13 @@ serves_others words hinted a b c d book stays won sweeps release spare =
     }
 
 -- what such a look tells is what it leaves there
-pub left_looks : (words : ℕ) (wants : Wanted) (a d : Joined) (told : Looked) → ServesOthersBy words a d → IsLeft wants (first_of (left d.pen.known)) told → LooksFirstBy words wants a told d
+pub left_looks : (words : ℕ) (wants : Wanted) (a d : Joined) (told : Looked) → ServesOthersBy words a d → IsLeft wants (first_of (left d.pen.known)) (is_shut d.pen.known) told → LooksFirstBy words wants a told d
 left_looks words wants a d (looked.Taken number x) h l = absurd l
 left_looks words wants a d (looked.Stays x) h l = (h, l)
 left_looks words wants a d looked.Nothing h l = (h, l)
+left_looks words wants a d looked.Over h l = (h, l)
 left_looks words wants a d looked.BookFull h l = absurd l
+left_looks words wants a d (looked.Refused why) h l = absurd l
 
 -- a pop where the first item is wanted takes that out
 pop_takes : (words : ℕ) (wants : Wanted) (a c : Joined) (number : ℕ) (reply : Reply) (xs : List Item) → CarriesOutBy words a Pop (Entered number reply) c
@@ -85,6 +87,10 @@ pop_takes words wants a c number reply (x ∷ xs) h fits is first =
 pub popped_looks : (words : ℕ) (wants : Wanted) (a c : Joined) (x : Answer) (h : CarriesOutBy words a Pop x c) → IsAnswerTo a.queue.room Pop x
     → (length h.ready.pen.hand < h.ready.pen.room → IsFirstWanted wants (first_of (left h.ready.pen.hand))) → LooksFirstBy words wants a (looked_by x) c
 popped_looks words wants a c (Entered number reply) h fits first =
-    let may = h.released.may in pop_takes words wants a c number reply (left h.ready.pen.hand) h fits may.2 (first may.0)
+    let may = h.released.may in
+    let space = may.0.space in
+    let room = h.released.room in
+    pop_takes words wants a c number reply (left h.ready.pen.hand) h fits may.2 (first (omega (arith, space, room)))
 popped_looks words wants a c answer.BookFull h fits first = (h, fits)
 popped_looks words wants a c answer.NoMemory h fits first = absurd fits
+popped_looks words wants a c (answer.Refused why) h fits first = (h, fits)

@@ -13,7 +13,7 @@ use Rattle.flat_queue.specs.Members.{Joined}
 use Rattle.flat_queue.specs.Turns.{FindsLockHeld, Misses}
 use Rattle.flat_queue.specs.Calling.{HasPostedOne, IsEntered, IsCalled, IsRefused, MakesCall}
 use Rattle.flat_queue.specs.declared.error.CallError.{CallError}
-use Rattle.flat_queue.specs.declared.error.CallError.TheVariants.{NoMemory, BookFull, Spent, GaveUp}
+use Rattle.flat_queue.specs.declared.error.CallError.TheVariants.{NoMemory, BookFull, Refused, Spent, GaveUp}
 
 -- The member, but for what its pen last read and the number of its steps
 abbrev pub missed_as : Joined → Option Word → ℕ → Joined
@@ -94,6 +94,7 @@ refused_behind : (a c : Joined) (read : Option Word) (steps : ℕ) (request : Re
     → IsRefused ⊥ (missed_as a read steps) request error c → IsRefused ⊥ a request error c
 refused_behind a c read steps request NoMemory few h = (h.0, one_behind a c read steps _ _ h.1)
 refused_behind a c read steps request BookFull few h = one_behind a c read steps _ _ h
+refused_behind a c read steps request (Refused why) few h = (h.0, one_behind a c read steps _ _ h.1)
 refused_behind a c read steps request Spent few h = absurd (let le = h.0 in omega (arith, le, few))
 refused_behind a c read steps request GaveUp few h = absurd h.0
 

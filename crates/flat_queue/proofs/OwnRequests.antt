@@ -12,21 +12,26 @@ use Rattle.pq_types.specs.declared.answer.Answer.TheVariants as answer
 use Rattle.pq_types.specs.declared.control.Control.{Control}
 use Rattle.pq_types.specs.declared.control.Control.TheVariants.{Nothing, Posted, Answered}
 use Rattle.pq_types.specs.Control.{is_posted}
-use Rattle.pq_types.specs.History.{journal_by}
-use Rattle.pq_book.specs.Book.{Volume}
+use Rattle.pq_types.specs.History.{MayDo, journal_by}
+use Rattle.pq_book.specs.Book.{Volume, limits_of}
+use Rattle.pq_types.specs.declared.answer.Refusal.{Refusal}
 use Rattle.desk_core.specs.Calls.{gained_by}
-use Rattle.desk_core.specs.Pen.{due_at}
+use Rattle.desk_core.specs.Desk.{volume}
+use Rattle.desk_core.specs.Home.{Home, home_of}
+use Rattle.desk_core.specs.Pen.{due_at, after_release_by}
 use Rattle.desk_core.specs.Rule.{StartsWith}
 use Rattle.desk_core.specs.declared.model.Due.{Due}
 use Rattle.desk_core.specs.declared.model.PenState.{PenState}
 use Rattle.desk_core.specs.declared.model.Standing.{Standing}
 use Rattle.desk_core.specs.declared.model.Standing.TheVariants.{Idle}
 use Rattle.desk_core.specs.declared.model.Call.{Call}
-use Rattle.announce_board.specs.Asking.{IsAnswerBy, IsAnswerTo, IsAboveAll}
+use Rattle.announce_board.specs.Asking.{IsAnswerBy, IsAnswerTo, IsAboveAll, IsFullFor}
+use Rattle.announce_board.specs.Slots.{MeetsTerms}
+use Rattle.announce_board.specs.declared.terms.Terms.{Terms}
 use Rattle.announce_board.specs.Serving.{ServesWhereBy, Wins, found_posted_by, laid_and_answered_by, due_of}
 use Rattle.flat_queue.specs.Limits.{most_posts}
 use Rattle.flat_queue.specs.Memory.{HasSpareRoom}
-use Rattle.flat_queue.specs.Members.{Joined, StaysAtPlace}
+use Rattle.flat_queue.specs.Members.{Joined, HasTerms, StaysAtPlace}
 use Rattle.flat_queue.specs.Sweeping.{SweepsBy}
 use Rattle.flat_queue.specs.TrailSweeping.{IsTrailSweptBy}
 use Rattle.flat_queue.specs.Turns.{FindsLockHeld}
@@ -37,6 +42,17 @@ use Rattle.flat_queue.specs.declared.error.CallError.{CallError}
 use Rattle.flat_queue.specs.declared.error.CallError.TheVariants.{NoMemory, Spent}
 use Rattle.flat_queue.proofs.Misses.{HasMissed, missed_none, missed_on, call_behind}
 use Rattle.flat_queue.proofs.Waits.{starts_trans, starts_by, sweeps_start}
+
+-- a Book that meets the terms has limits that do
+pub book_terms : (terms : Terms) (book : Volume) → MeetsTerms terms book → HasTerms terms (limits_of book)
+book_terms terms book h = record { bound = h.0; allowed = h.1 }
+
+-- a release by an operation, as the lead's Book may answer it
+pub releases_of : (before after : Joined) (operation : Operation) (x : Answer) (book : Volume) (now : ℕ) → home_of book ≡ volume before.pen.room before.pen.hand → MeetsTerms before.queue.terms book
+    → MayDo (limits_of book) before.pen.hand operation x → ((number : ℕ) (reply : Reply) → x ≡ Entered number reply → IsAboveAll number before.pen.mine) → (x ≡ answer.BookFull → IsFullFor after.pen)
+    → after ≡ record before { pen = after_release_by before.pen operation x now } → ReleasesOperation before operation x after
+releases_of before after operation x book now home meets may behind full is =
+    record { limits = limits_of book; room = ap (λ (h : Home). h.room) home; terms = book_terms before.queue.terms book meets; may = may; behind = behind; full = full; now = now; after_is = is }
 
 -- a place that was served leaves nothing due
 none_due : (control : Control) → is_posted control ≡ false → (place : ℕ) → due_at place control ≡ None
@@ -146,6 +162,7 @@ own_turns : (words : ℕ) (x : Answer) (a c : Joined) (request : Request) → Ca
 own_turns words (Entered number reply) a c request h = (Entered number reply, refl, h)
 own_turns words answer.BookFull a c request h = (answer.BookFull, refl, h)
 own_turns words answer.NoMemory a c request h = (answer.NoMemory, refl, h)
+own_turns words (answer.Refused why) a c request h = (answer.Refused why, refl, h)
 
 -- what it gains that carried its operation out
 gained_own : (words : ℕ) (x : Answer) (a c : Joined) (operation : Operation) → CarriesOutOperationBy words a operation x c → HasPostedOne a (Idle None) (a.pen.mine ++ gained_by (a.pen.posts + 1) operation x) c
@@ -199,6 +216,10 @@ refused_own words a c operation h = no_more a c (Idle None) a.pen.mine (gained_o
 pub unfit_own : (words : ℕ) (a c : Joined) (operation : Operation) → CarriesOutOperationBy words a operation answer.NoMemory c → HasPostedOne a (Idle None) a.pen.mine c
 unfit_own words a c operation h = no_more a c (Idle None) a.pen.mine (gained_own words answer.NoMemory a c operation h)
 
+-- and one that the queue's rules refused
+pub ruled_own : (words : ℕ) (a c : Joined) (operation : Operation) (why : Refusal) → CarriesOutOperationBy words a operation (answer.Refused why) c → HasPostedOne a (Idle None) a.pen.mine c
+ruled_own words a c operation why h = no_more a c (Idle None) a.pen.mine (gained_own words (answer.Refused why) a c operation h)
+
 -- what a call comes to that carried its request out: its answer is one to it
 pub called_own : (words : ℕ) (x : Answer) (a c : Joined) (request : Request) (has_room : Type 0) → CarriesOutBy words a request x c → IsAnswerTo a.queue.room request x
     → a.pen.posts < most_posts a.queue.room → (has_room → x ≢ answer.NoMemory)
@@ -232,6 +253,16 @@ called_own words answer.NoMemory a c request has_room h fits few memory =
       turns = λ f. own_turns words answer.NoMemory a c request h;
       never_gives_up = λ e. cc e;
       memory = λ room e. memory room refl;
+    }
+called_own words (answer.Refused why) a c request has_room h fits few memory =
+    record {
+      ok = tt;
+      err = (fits, ruled_own words a c (Asked request) why h);
+      full = λ e. absurd (cc e);
+      spent = (λ e. absurd (cc e), λ le. absurd (omega (arith, le, few)));
+      turns = λ f. own_turns words (answer.Refused why) a c request h;
+      never_gives_up = λ e. cc e;
+      memory = λ room e. absurd (cc e);
     }
 
 -- and one that had no serial left
@@ -316,3 +347,4 @@ pub refused_as : (x : Answer) → IsErrOf (ended (Some x)) NoMemory → x ≡ an
 refused_as (Entered number reply) e = absurd (cc e)
 refused_as answer.BookFull e = absurd (cc e)
 refused_as answer.NoMemory e = refl
+refused_as (answer.Refused why) e = absurd (cc e)

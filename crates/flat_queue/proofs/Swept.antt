@@ -10,13 +10,13 @@ use Rattle.flat_queue.specs.declared.resting.Rest.{Rest}
 use Rattle.flat_queue.specs.Members.{QueueName, Joined}
 use Rattle.flat_queue.specs.Sweeping.{IsScanned, IsServedBy, IsSweptBy}
 
-abbrev pub named : TableId → TableId → ℕ → ℕ → ℕ → QueueName
-named grid desk comers places room = record { grid = grid; desk = desk; comers = comers; places = places; room = room }
+abbrev pub named : TableId → TableId → ℕ → DeskTag → ℕ → QueueName
+named grid desk comers tag room = record { grid = grid; desk = desk; comers = comers; places = tag.places; room = room; terms = tag.terms }
 
 abbrev pub member_of : Rest → Resting DeskTag → AtDesk → Joined
 member_of r s p =
     record {
-      queue = record { grid = s.table; desk = p.table; comers = s.comers; places = s.tag.places; room = p.state.room };
+      queue = named s.table p.table s.comers s.tag p.state.room;
       comer = s.comer;
       scan = s.scan;
       door_looks = s.looks;
@@ -29,11 +29,11 @@ swept_parts words r s t p q answers doors here h table k few =
     let own_place : Contains t.scan.found p.state.place =
     subst (λ z. Contains z.found p.state.place) (sym h.scan) (h.ended.way p.state.place (inr (ap at h.still.turns ∙ sym here))) in
     record {
-      queue = ap (λ z. named z q.table t.comers t.tag.places q.state.room) h.still.table
-          ∙ (ap (λ z. named s.table z t.comers t.tag.places q.state.room) table
-          ∙ (ap (λ z. named s.table p.table z t.tag.places q.state.room) h.still.comers
-          ∙ (ap (λ (z : DeskTag). named s.table p.table s.comers z.places q.state.room) h.still.tag
-          ∙ ap (λ z. named s.table p.table s.comers s.tag.places z) k.keeps.room)));
+      queue = ap (λ z. named z q.table t.comers t.tag q.state.room) h.still.table
+          ∙ (ap (λ z. named s.table z t.comers t.tag q.state.room) table
+          ∙ (ap (λ z. named s.table p.table z t.tag q.state.room) h.still.comers
+          ∙ (ap (λ (z : DeskTag). named s.table p.table s.comers z q.state.room) h.still.tag
+          ∙ ap (λ z. named s.table p.table s.comers s.tag z) k.keeps.room)));
       id = h.still.id;
       turns = h.still.turns;
       steps = h.steps;

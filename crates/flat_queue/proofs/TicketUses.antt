@@ -16,7 +16,7 @@ use Rattle.flat_queue.specs.Calling.{IsEntered}
 use Rattle.flat_queue.specs.Tickets.{found_by, ended_by_ticket, CarriesOutByTicket, TellsFound, MissesThenUsesBy, UsesTicketBy}
 use Rattle.flat_queue.specs.declared.error.CallError.TheVariants.{Spent}
 use Rattle.flat_queue.proofs.Misses.{missed_as, misses_keep, one_behind, entered_behind}
-use Rattle.flat_queue.proofs.OwnRequests.{entered_own, refused_own, unfit_own}
+use Rattle.flat_queue.proofs.OwnRequests.{entered_own, refused_own, unfit_own, ruled_own}
 
 -- what was told of an item that was looked for is told of nothing else
 tells_taken : (ticketed : Ticketed) (number : ℕ) (found : Option Item) → TellsFound ticketed (Entered number (taken found))
@@ -35,6 +35,7 @@ use_tells words ticketed a c (Entered number reply) h =
     subst (λ q. TellsFound ticketed (Entered number q)) (sym told) (tells_taken ticketed number found)
 use_tells words ticketed a c answer.BookFull h = tt
 use_tells words ticketed a c answer.NoMemory h = h.carries.released.may.1
+use_tells words ticketed a c (answer.Refused why) h = h.fits
 
 -- the reply is that of the item that was told
 told_whole : (words : ℕ) (ticketed : Ticketed) (a c : Joined) (number : ℕ) (reply : Reply) → CarriesOutByTicket words ticketed a (Entered number reply) c → taken (found_by reply) ≡ reply
@@ -71,6 +72,14 @@ by_answer words ticketed a c read steps answer.NoMemory h few whole =
       full = λ e. absurd (cc e);
       spent = (λ e. absurd (cc e), λ le. absurd (omega (arith, le, few)));
       turns = λ f. (answer.NoMemory, refl, whole);
+    }
+by_answer words ticketed a c read steps (answer.Refused why) h few whole =
+    record {
+      ok = tt;
+      err = (h.fits, one_behind a c read steps _ _ (ruled_own words (missed_as a read steps) c (ByTicket ticketed) why h.carries));
+      full = λ e. absurd (cc e);
+      spent = (λ e. absurd (cc e), λ le. absurd (omega (arith, le, few)));
+      turns = λ f. (answer.Refused why, refl, whole);
     }
 
 -- what such a call comes to

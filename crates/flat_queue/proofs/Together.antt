@@ -1,5 +1,5 @@
 -- What a batch comes to.
-use Rattle.std.proofs.Common.{◌≡◌, ◌∙◌, ℕ, ◌+◌, ◌<◌, ◌≤◌, ◌++◌, sym, ap, subst, refl, arith, true, false, List, [], ◌∷◌, length, length-append}
+use Rattle.std.proofs.Common.{◌≡◌, ◌∙◌, ℕ, ◌+◌, ◌<◌, ◌≤◌, ◌++◌, sym, ap, subst, refl, arith, Bool, true, false, List, [], ◌∷◌, length, length-append}
 use Rattle.std.specs.Prelude.{Option, Some, None, nat_le, map, take, get_or, slice_set}
 use Rattle.std.proofs.lemmas.Bool.Decides.{nat_tests}
 use Rattle.std.proofs.lemmas.Option.{slice_get_read}
@@ -14,78 +14,90 @@ use Rattle.pq_types.specs.Asked.{Answer}
 use Rattle.pq_types.specs.declared.answer.Reply.TheVariants.{Pushed, Got}
 use Rattle.pq_types.specs.Asked.{Line}
 use Rattle.pq_types.specs.declared.answer.Answer.TheVariants.{Entered}
+use Rattle.pq_types.specs.declared.answer.Refusal.{Refusal}
 use Rattle.pq_types.specs.declared.answer.Answer.TheVariants as answer
-use Rattle.pq_types.specs.History.{line, MayAnswer}
+use Rattle.pq_types.specs.History.{line, Limits, MayAnswer}
+use Rattle.pq_book.specs.Book.{Volume, limits_of}
 use Rattle.desk_core.specs.Calls.{call}
-use Rattle.desk_core.specs.Pen.{after_apply}
+use Rattle.desk_core.specs.Desk.{volume}
+use Rattle.desk_core.specs.Home.{Home, home_of}
+use Rattle.desk_core.specs.Pen.{after_apply, after_release}
 use Rattle.desk_core.specs.declared.model.PenState.{PenState}
+use Rattle.announce_board.specs.Slots.{MeetsTerms}
 use Rattle.announce_board.specs.Tokens.{is_idle}
-use Rattle.flat_queue.specs.Members.{Joined}
+use Rattle.announce_board.specs.Serving.{Wins}
+use Rattle.flat_queue.specs.Members.{Joined, StaysAtPlace}
+use Rattle.flat_queue.specs.OwnRequest.{SweepsWhereBy}
 use Rattle.flat_queue.specs.Limits.{most_posts}
-use Rattle.flat_queue.specs.Batches.{Told, pushes_of, pops_of, is_first_due, IsPushAt, AppliesEach, EndsBatch, AppliesBatch, CarriesOutBatchBy, EntersTogether, batch_calls, batch_lines, refusals, with_serials, KeepsBatchTimes}
+use Rattle.flat_queue.specs.Batches.{Told, pushes_of, pops_of, is_first_due, IsPushAt, AppliesEach, EndsBatch, AppliesBatch, ReleasesBatch, CarriesOutBatchBy, EntersTogether, batch_calls, batch_lines, refusals, with_serials, KeepsBatchTimes}
 use Rattle.flat_queue.specs.declared.batches.Batch.{Batch}
 use Rattle.flat_queue.specs.declared.error.CallError.{CallError}
-use Rattle.flat_queue.specs.declared.error.CallError.TheVariants.{NoMemory, BookFull, Spent, GaveUp}
+use Rattle.flat_queue.specs.declared.error.CallError.TheVariants.{NoMemory, BookFull, Refused, Spent, GaveUp}
 use Rattle.flat_queue.specs.Turns.{Misses}
 use Rattle.desk_core.specs.declared.model.Word.{Word}
 use Rattle.flat_queue.proofs.Waits.{starts_trans}
 use Rattle.flat_queue.proofs.Misses.{missed_as, misses_keep}
-use Rattle.flat_queue.proofs.OwnRequests.{is_ready}
+use Rattle.flat_queue.proofs.OwnRequests.{is_ready, book_terms}
 
 -- one request more
-pub applies_more : (p q : PenState) (ts : List Told) (t : Told) (now : ℕ) → AppliesEach p ts q → MayAnswer q.room q.hand t.0 (Entered (length q.hand + 1) t.1)
-    → AppliesEach p (ts ++ t ∷ []) (after_apply q t.0 (Entered (length q.hand + 1) t.1) now)
-applies_more p q [] t now h may =
-    (now, subst (λ (z : PenState). MayAnswer z.room z.hand t.0 (Entered (length z.hand + 1) t.1)) h may, ap (λ (z : PenState). after_apply z t.0 (Entered (length z.hand + 1) t.1) now) h)
-applies_more p q (s ∷ ts) t now h may = (h.0, h.1, applies_more (after_apply p s.0 (Entered (length p.hand + 1) s.1) h.0) q ts t now h.2 may)
+pub applies_more : (limits : Limits) (p q : PenState) (ts : List Told) (t : Told) (now : ℕ) → AppliesEach limits p ts q → MayAnswer limits q.hand t.0 (Entered (length q.hand + 1) t.1)
+    → AppliesEach limits p (ts ++ t ∷ []) (after_apply q t.0 (Entered (length q.hand + 1) t.1) now)
+applies_more limits p q [] t now h may =
+    (now, subst (λ (z : PenState). MayAnswer limits z.hand t.0 (Entered (length z.hand + 1) t.1)) h may, ap (λ (z : PenState). after_apply z t.0 (Entered (length z.hand + 1) t.1) now) h)
+applies_more limits p q (s ∷ ts) t now h may = (h.0, h.1, applies_more limits (after_apply p s.0 (Entered (length p.hand + 1) s.1) h.0) q ts t now h.2 may)
 
 -- the next push of so many
-pushes_more : (p q : PenState) (xs : List Item) (k : ℕ) (x : Item) (n : ℕ) (r : Reply) (now : ℕ) → k < length xs → x ≡ get_or xs k x → AppliesEach p (pushes_of (take k xs)) q
-    → MayAnswer q.room q.hand (Push x) (Entered n r) → AppliesEach p (pushes_of (take (k + 1) xs)) (after_apply q (Push x) (Entered n r) now)
-pushes_more p q xs k x n r now lt read h may =
-    let next : MayAnswer q.room q.hand (Push x) (Entered (length q.hand + 1) Pushed) = (may.0, refl, refl) in
+pushes_more : (limits : Limits) (p q : PenState) (xs : List Item) (k : ℕ) (x : Item) (n : ℕ) (r : Reply) (now : ℕ) → k < length xs → x ≡ get_or xs k x → AppliesEach limits p (pushes_of (take k xs)) q
+    → MayAnswer limits q.hand (Push x) (Entered n r) → AppliesEach limits p (pushes_of (take (k + 1) xs)) (after_apply q (Push x) (Entered n r) now)
+pushes_more limits p q xs k x n r now lt read h may =
+    let next : MayAnswer limits q.hand (Push x) (Entered (length q.hand + 1) Pushed) = (may.0, refl, refl) in
     let same : after_apply q (Push x) (Entered (length q.hand + 1) Pushed) now ≡ after_apply q (Push x) (Entered n r) now =
     ap (λ m. after_apply q (Push x) (Entered m Pushed) now) (sym may.1) ∙ ap (λ y. after_apply q (Push x) (Entered n y) now) (sym may.2) in
     let longer : take (k + 1) xs ≡ take k xs ++ x ∷ [] = take_more xs k x lt ∙ ap (λ (y : Item). take k xs ++ y ∷ []) (sym read) in
-    subst (λ l. AppliesEach p l (after_apply q (Push x) (Entered n r) now)) (sym (ap pushes_of longer ∙ map-append (λ (y : Item). (Push y, Pushed)) (take k xs) (x ∷ [])))
-    (subst (AppliesEach p (pushes_of (take k xs) ++ (Push x, Pushed) ∷ [])) same (applies_more p q (pushes_of (take k xs)) (Push x, Pushed) now h next))
+    subst (λ l. AppliesEach limits p l (after_apply q (Push x) (Entered n r) now)) (sym (ap pushes_of longer ∙ map-append (λ (y : Item). (Push y, Pushed)) (take k xs) (x ∷ [])))
+    (subst (AppliesEach limits p (pushes_of (take k xs) ++ (Push x, Pushed) ∷ [])) same (applies_more limits p q (pushes_of (take k xs)) (Push x, Pushed) now h next))
 
-pub pushed_on : (p q q' : PenState) (xs : List Item) (k : ℕ) (x : Item) (a : Answer) (n : ℕ) (r : Reply) (now : ℕ) → k < length xs → x ≡ get_or xs k x
-    → AppliesEach p (pushes_of (take k xs)) q → MayAnswer q.room q.hand (Push x) a → q' ≡ after_apply q (Push x) a now → a ≡ Entered n r
-    → AppliesEach p (pushes_of (take (k + 1) xs)) q'
-pushed_on p q q' xs k x a n r now lt read h may next is =
-    subst (AppliesEach p (pushes_of (take (k + 1) xs))) (sym (next ∙ ap (λ y. after_apply q (Push x) y now) is))
-    (pushes_more p q xs k x n r now lt read h (subst (MayAnswer q.room q.hand (Push x)) is may))
+pub pushed_on : (limits : Limits) (p q q' : PenState) (xs : List Item) (k : ℕ) (x : Item) (a : Answer) (n : ℕ) (r : Reply) (now : ℕ) → k < length xs → x ≡ get_or xs k x
+    → AppliesEach limits p (pushes_of (take k xs)) q → MayAnswer limits q.hand (Push x) a → q' ≡ after_apply q (Push x) a now → a ≡ Entered n r
+    → AppliesEach limits p (pushes_of (take (k + 1) xs)) q'
+pushed_on limits p q q' xs k x a n r now lt read h may next is =
+    subst (AppliesEach limits p (pushes_of (take (k + 1) xs))) (sym (next ∙ ap (λ y. after_apply q (Push x) y now) is))
+    (pushes_more limits p q xs k x n r now lt read h (subst (MayAnswer limits q.hand (Push x)) is may))
 
 -- the item that follows so many is the next one to be pushed
 pub next_push : (xs : List Item) (k : ℕ) (x : Item) → k < length xs → x ≡ get_or xs k x → IsPushAt xs k (Push x)
 next_push xs k x lt read = (x, slice_get_read xs (length xs) k x refl lt read, refl)
 
 -- the next request was refused
-pub out_of_memory : (most : ℕ) (is_next : Request → Type 0) (p q q' : PenState) (told : List Told) (request : Request) (a : Answer) (now : ℕ) → is_next request
-    → AppliesEach p told q → MayAnswer q.room q.hand request a → q' ≡ after_apply q request a now → a ≡ answer.NoMemory → AppliesBatch most is_next p told (Some NoMemory) q'
-out_of_memory most is_next p q q' told request a now follows h may next is =
-    (q, h, (request, follows, now, subst (MayAnswer q.room q.hand request) is may, next ∙ ap (λ y. after_apply q request y now) is))
+pub out_of_memory : (limits : Limits) (most : ℕ) (is_next : Request → Type 0) (p q q' : PenState) (told : List Told) (request : Request) (a : Answer) (now : ℕ) → is_next request
+    → AppliesEach limits p told q → MayAnswer limits q.hand request a → q' ≡ after_apply q request a now → a ≡ answer.NoMemory → AppliesBatch limits most is_next p told (Some NoMemory) q'
+out_of_memory limits most is_next p q q' told request a now follows h may next is =
+    (q, h, (request, follows, now, subst (MayAnswer limits q.hand request) is may, next ∙ ap (λ y. after_apply q request y now) is))
 
-pub out_of_lines : (most : ℕ) (is_next : Request → Type 0) (p q q' : PenState) (told : List Told) (request : Request) (a : Answer) (now : ℕ) → is_next request
-    → AppliesEach p told q → MayAnswer q.room q.hand request a → q' ≡ after_apply q request a now → a ≡ answer.BookFull → AppliesBatch most is_next p told (Some BookFull) q'
-out_of_lines most is_next p q q' told request a now follows h may next is =
-    (q, h, (request, follows, now, subst (MayAnswer q.room q.hand request) is may, next ∙ ap (λ y. after_apply q request y now) is))
+pub out_of_lines : (limits : Limits) (most : ℕ) (is_next : Request → Type 0) (p q q' : PenState) (told : List Told) (request : Request) (a : Answer) (now : ℕ) → is_next request
+    → AppliesEach limits p told q → MayAnswer limits q.hand request a → q' ≡ after_apply q request a now → a ≡ answer.BookFull → AppliesBatch limits most is_next p told (Some BookFull) q'
+out_of_lines limits most is_next p q q' told request a now follows h may next is =
+    (q, h, (request, follows, now, subst (MayAnswer limits q.hand request) is may, next ∙ ap (λ y. after_apply q request y now) is))
+
+pub ruled_out : (limits : Limits) (most : ℕ) (is_next : Request → Type 0) (p q q' : PenState) (told : List Told) (request : Request) (a : Answer) (why : Refusal) (now : ℕ) → is_next request
+    → AppliesEach limits p told q → MayAnswer limits q.hand request a → q' ≡ after_apply q request a now → a ≡ answer.Refused why → AppliesBatch limits most is_next p told (Some (Refused why)) q'
+ruled_out limits most is_next p q q' told request a why now follows h may next is =
+    (q, h, (request, follows, now, subst (MayAnswer limits q.hand request) is may, next ∙ ap (λ y. after_apply q request y now) is))
 
 -- the next pop, whose item was written behind those before
-pops_more : (p q : PenState) (xs : List Item) (k : ℕ) (x : Item) (n now : ℕ) → k < length xs → AppliesEach p (pops_of (take k xs)) q
-    → MayAnswer q.room q.hand Pop (Entered n (Got x)) → AppliesEach p (pops_of (take (k + 1) (slice_set xs k x))) (after_apply q Pop (Entered n (Got x)) now)
-pops_more p q xs k x n now lt h may =
-    let next : MayAnswer q.room q.hand Pop (Entered (length q.hand + 1) (Got x)) = (may.0, refl, may.2) in
+pops_more : (limits : Limits) (p q : PenState) (xs : List Item) (k : ℕ) (x : Item) (n now : ℕ) → k < length xs → AppliesEach limits p (pops_of (take k xs)) q
+    → MayAnswer limits q.hand Pop (Entered n (Got x)) → AppliesEach limits p (pops_of (take (k + 1) (slice_set xs k x))) (after_apply q Pop (Entered n (Got x)) now)
+pops_more limits p q xs k x n now lt h may =
+    let next : MayAnswer limits q.hand Pop (Entered (length q.hand + 1) (Got x)) = (may.0, refl, may.2) in
     let same : after_apply q Pop (Entered (length q.hand + 1) (Got x)) now ≡ after_apply q Pop (Entered n (Got x)) now = ap (λ m. after_apply q Pop (Entered m (Got x)) now) (sym may.1) in
-    subst (λ l. AppliesEach p l (after_apply q Pop (Entered n (Got x)) now)) (sym (ap pops_of (take_more_set xs k x lt) ∙ map-append (λ (y : Item). (Pop, Got y)) (take k xs) (x ∷ [])))
-    (subst (AppliesEach p (pops_of (take k xs) ++ (Pop, Got x) ∷ [])) same (applies_more p q (pops_of (take k xs)) (Pop, Got x) now h next))
+    subst (λ l. AppliesEach limits p l (after_apply q Pop (Entered n (Got x)) now)) (sym (ap pops_of (take_more_set xs k x lt) ∙ map-append (λ (y : Item). (Pop, Got y)) (take k xs) (x ∷ [])))
+    (subst (AppliesEach limits p (pops_of (take k xs) ++ (Pop, Got x) ∷ [])) same (applies_more limits p q (pops_of (take k xs)) (Pop, Got x) now h next))
 
-pub popped_on : (p q q' : PenState) (xs : List Item) (k : ℕ) (x : Item) (a : Answer) (n now : ℕ) → k < length xs → AppliesEach p (pops_of (take k xs)) q
-    → MayAnswer q.room q.hand Pop a → q' ≡ after_apply q Pop a now → a ≡ Entered n (Got x) → AppliesEach p (pops_of (take (k + 1) (slice_set xs k x))) q'
-popped_on p q q' xs k x a n now lt h may next is =
-    subst (AppliesEach p (pops_of (take (k + 1) (slice_set xs k x)))) (sym (next ∙ ap (λ y. after_apply q Pop y now) is))
-    (pops_more p q xs k x n now lt h (subst (MayAnswer q.room q.hand Pop) is may))
+pub popped_on : (limits : Limits) (p q q' : PenState) (xs : List Item) (k : ℕ) (x : Item) (a : Answer) (n now : ℕ) → k < length xs → AppliesEach limits p (pops_of (take k xs)) q
+    → MayAnswer limits q.hand Pop a → q' ≡ after_apply q Pop a now → a ≡ Entered n (Got x) → AppliesEach limits p (pops_of (take (k + 1) (slice_set xs k x))) q'
+popped_on limits p q q' xs k x a n now lt h may next is =
+    subst (AppliesEach limits p (pops_of (take (k + 1) (slice_set xs k x)))) (sym (next ∙ ap (λ y. after_apply q Pop y now) is))
+    (pops_more limits p q xs k x n now lt h (subst (MayAnswer limits q.hand Pop) is may))
 
 -- the item that such a pop took out, where the first one was due
 pub popped_due : (bound : ℕ) (first : Option Item) (xs : List Item) (x : Item) → first ≡ first_of xs → is_first_due bound first ≡ true → Got x ≡ reply_to xs Pop → x.priority ≤ bound
@@ -140,14 +152,14 @@ pub record Gains (p q : PenState) (calls : ℕ) (told : List Told) : Type 0 wher
 gains_none : (p : PenState) → Gains p p 0 []
 gains_none p = record { place = refl; room = refl; posts = omega arith; idle = λ i. i; mine = sym (append-nil p.mine); hand = sym (append-nil p.hand); times = times_none p }
 
-applied : (p q : PenState) (ts : List Told) → AppliesEach p ts q → Gains p q (length ts) ts
-applied p q [] h = subst (λ z. Gains p z 0 []) (sym h) (gains_none p)
-applied p q (t ∷ ts) h =
+applied : (limits : Limits) (p q : PenState) (ts : List Told) → AppliesEach limits p ts q → Gains p q (length ts) ts
+applied limits p q [] h = subst (λ z. Gains p z 0 []) (sym h) (gains_none p)
+applied limits p q (t ∷ ts) h =
     let n = length p.hand + 1 in
     let s = p.posts + 1 in
     let l : Line = line p.place s t.0 t.1 in
     let now = h.0 in
-    let u = applied (after_apply p t.0 (Entered n t.1) now) q ts h.2 in
+    let u = applied limits (after_apply p t.0 (Entered n t.1) now) q ts h.2 in
     let number = u.times.number in
     let posts = u.posts in
     let longer : length (p.hand ++ l ∷ []) + 1 ≡ n + 1 = omega (arith, length-append p.hand (l ∷ [])) in
@@ -166,22 +178,25 @@ applied p q (t ∷ ts) h =
       };
     }
 
-refused : (most : ℕ) (is_next : Request → Type 0) (p q : PenState) (r : Option CallError) → EndsBatch most is_next p r q → Gains p q (refusals r) []
-refused most is_next p q None h = subst (λ z. Gains p z 0 []) (sym h) (gains_none p)
-refused most is_next p q (Some NoMemory) (request, follows, now, may, same) =
+refused : (limits : Limits) (most : ℕ) (is_next : Request → Type 0) (p q : PenState) (r : Option CallError) → EndsBatch limits most is_next p r q → Gains p q (refusals r) []
+refused limits most is_next p q None h = subst (λ z. Gains p z 0 []) (sym h) (gains_none p)
+refused limits most is_next p q (Some NoMemory) (request, follows, now, may, same) =
     subst (λ z. Gains p z 1 []) (sym same)
     record { place = refl; room = refl; posts = refl; idle = λ i. refl; mine = refl; hand = sym (append-nil p.hand); times = record { began = now ∷ []; number = refl; begins = refl; ends = refl } }
-refused most is_next p q (Some BookFull) (request, follows, now, may, same) =
+refused limits most is_next p q (Some BookFull) (request, follows, now, may, same) =
     subst (λ z. Gains p z 1 []) (sym same)
     record { place = refl; room = refl; posts = refl; idle = λ i. refl; mine = refl; hand = sym (append-nil p.hand); times = record { began = now ∷ []; number = refl; begins = refl; ends = refl } }
-refused most is_next p q (Some Spent) h = subst (λ z. Gains p z 0 []) (sym h.1) (gains_none p)
-refused most is_next p q (Some GaveUp) h = absurd h
+refused limits most is_next p q (Some (Refused why)) (request, follows, now, may, same) =
+    subst (λ z. Gains p z 1 []) (sym same)
+    record { place = refl; room = refl; posts = refl; idle = λ i. refl; mine = refl; hand = sym (append-nil p.hand); times = record { began = now ∷ []; number = refl; begins = refl; ends = refl } }
+refused limits most is_next p q (Some Spent) h = subst (λ z. Gains p z 0 []) (sym h.1) (gains_none p)
+refused limits most is_next p q (Some GaveUp) h = absurd h
 
 -- both, one after another
-pub batch_gains : (most : ℕ) (is_next : Request → Type 0) (p q : PenState) (ts : List Told) (r : Option CallError) → AppliesBatch most is_next p ts r q → Gains p q (length ts + refusals r) ts
-batch_gains most is_next p q ts r (m, each, ends) =
-    let a = applied p m ts each in
-    let b = refused most is_next m q r ends in
+pub batch_gains : (limits : Limits) (most : ℕ) (is_next : Request → Type 0) (p q : PenState) (ts : List Told) (r : Option CallError) → AppliesBatch limits most is_next p ts r q → Gains p q (length ts + refusals r) ts
+batch_gains limits most is_next p q ts r (m, each, ends) =
+    let a = applied limits p m ts each in
+    let b = refused limits most is_next m q r ends in
     let first = a.posts in
     let then = b.posts in
     record {
@@ -195,10 +210,22 @@ batch_gains most is_next p q ts r (m, each, ends) =
     }
 
 -- and whoever was told that the journal is full knows it
-batch_full : (most : ℕ) (is_next : Request → Type 0) (p q : PenState) (ts : List Told) (r : Option CallError) → AppliesBatch most is_next p ts r q → r ≡ Some BookFull → q.told_full ≡ true
-batch_full most is_next p q ts r (m, each, ends) e =
-    let t : EndsBatch most is_next m (Some BookFull) q = subst (λ x. EndsBatch most is_next m x q) e ends in
+batch_full : (limits : Limits) (most : ℕ) (is_next : Request → Type 0) (p q : PenState) (ts : List Told) (r : Option CallError) → AppliesBatch limits most is_next p ts r q → r ≡ Some BookFull → q.told_full ≡ true
+batch_full limits most is_next p q ts r (m, each, ends) e =
+    let t : EndsBatch limits most is_next m (Some BookFull) q = subst (λ x. EndsBatch limits most is_next m x q) e ends in
     ap (λ (z : PenState). z.told_full) t.4
+
+-- a release of a batch, as the lead's Book may answer each of it
+pub releases_batch : (before after : Joined) (told : List Told) (is_next : Request → Type 0) (batch : Batch) (ended : PenState) (book : Volume) → home_of book ≡ volume before.pen.room before.pen.hand → MeetsTerms before.queue.terms book
+    → batch.first ≡ length before.pen.hand + 1 → AppliesBatch (limits_of book) (most_posts before.queue.room) is_next before.pen told batch.refused ended → after ≡ record before { pen = after_release ended } → ReleasesBatch before told is_next batch after
+releases_batch before after told is_next batch ended book home meets first applies is =
+    record { ended = ended; limits = limits_of book; room = ap (λ (h : Home). h.room) home; terms = book_terms before.queue.terms book meets; first = first; applies = applies; after_is = is }
+
+-- a member that won the lock, served the others, and released with these, carried them out
+pub carries_batch : (words : ℕ) (hinted : Bool) (a b c d : Joined) (book : Volume) (told : List Told) (is_next : Request → Type 0) (batch : Batch) → StaysAtPlace a b → Wins a.pen book b.pen
+    → SweepsWhereBy words hinted b c → ReleasesBatch c told is_next batch d → CarriesOutBatchBy words a told is_next batch d
+carries_batch words hinted a b c d book told is_next batch stays won sweeps released =
+    record { book = book; led = b; ready = c; won = won; stays = stays; hinted = hinted; sweeps = sweeps; released = released }
 
 pub enters_together : (words : ℕ) (a c : Joined) (told : List Told) (is_next : Request → Type 0) (batch : Batch) → is_idle a.pen.standing ≡ true → CarriesOutBatchBy words a told is_next batch c → EntersTogether a told batch c
 enters_together words a c told is_next batch free h =
@@ -207,7 +234,7 @@ enters_together words a c told is_next batch free h =
     let p = h.ready.pen in
     let q = e.ended in
     let most = most_posts h.ready.queue.room in
-    let g = batch_gains most is_next p q told batch.refused e.applies in
+    let g = batch_gains e.limits most is_next p q told batch.refused e.applies in
     let posts = g.posts in
     let same_posts = r.posts in
     let lines = batch_lines a.pen.place (a.pen.posts + 1) told in
@@ -235,7 +262,7 @@ enters_together words a c told is_next batch free h =
       first = e.first;
       together = hand;
       beyond = omega (arith, first, older, length-append a.pen.known r.hand.0);
-      full = λ f. batch_full most is_next p q told batch.refused e.applies f;
+      full = λ f. batch_full e.limits most is_next p q told batch.refused e.applies f;
       times = record {
         began = g.times.began;
         number = g.times.number;

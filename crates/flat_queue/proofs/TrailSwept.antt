@@ -45,7 +45,7 @@ module _ (words : ℕ) (r : Rest) (s s' : Resting DeskTag) (p q : AtDesk) (answe
   parts : IsTrailSweptBy words (member_of r s p) answers doors (member_of r (record s { looks = s'.looks }) q)
   parts = record {
     stays = record {
-      queue = ap (λ z. named s.table z s.comers s.tag.places q.state.room) table ∙ ap (λ z. named s.table p.table s.comers s.tag.places z) k.served.keeps.room;
+      queue = ap (λ z. named s.table z s.comers s.tag q.state.room) table ∙ ap (λ z. named s.table p.table s.comers s.tag z) k.served.keeps.room;
       comer = refl;
       scan = refl;
       door_looks = refl;

@@ -8,6 +8,10 @@ use Rattle.pq_types.specs.declared.request.Request.TheVariants.{Pop, Least}
 use Rattle.pq_types.specs.Asked.{Reply}
 use Rattle.pq_types.specs.declared.answer.Reply.TheVariants.{Got, Empty, Least as LeastIs}
 use Rattle.pq_types.specs.Asked.{Answer}
+use Rattle.pq_types.specs.Operation.{Asked}
+use Rattle.pq_types.specs.declared.answer.Refusal.{Refusal}
+use Rattle.pq_types.specs.declared.answer.Refusal.TheVariants.{Shut, Unarchived, Full}
+use Rattle.announce_board.specs.Asking.{IsBarredBy}
 use Rattle.pq_types.specs.declared.answer.Answer.TheVariants.{Entered}
 use Rattle.pq_types.specs.declared.answer.Answer.TheVariants as answer
 use Rattle.pq_types.specs.Queue.{IsPush, reply_to}
@@ -22,7 +26,7 @@ use Rattle.flat_queue.specs.UpTo.{request_up_to, told_up_to, ended_up_to, Carrie
 use Rattle.flat_queue.specs.declared.error.CallError.TheVariants.{Spent}
 use Rattle.std.specs.Prelude.{Err}
 use Rattle.flat_queue.proofs.Misses.{missed_as, misses_keep, one_behind, called_behind}
-use Rattle.flat_queue.proofs.OwnRequests.{called_own}
+use Rattle.flat_queue.proofs.OwnRequests.{called_own, ruled_own}
 
 fits_so : (Fits : Request → Reply → Type 0) (request q : Request) (reply r : Reply) → request ≡ q → reply ≡ r → Fits q r → Fits request reply
 fits_so Fits request q reply r asked replied fits = subst (λ z. Fits z reply) (sym asked) (subst (λ z. Fits q z) (sym replied) fits)
@@ -57,12 +61,19 @@ no_push bound (Some x) h = at_bound (nat_le x.priority bound) h where
   at_bound true h = h
   at_bound false h = h
 
+-- what refuses it would refuse a pop
+barred_up_to : (bound : ℕ) (first : Option Item) (why : Refusal) → IsBarredBy (Asked (request_up_to bound first)) why → IsBarredBy (Asked Pop) why
+barred_up_to bound first Shut h = absurd (no_push bound first h)
+barred_up_to bound first Unarchived h = tt
+barred_up_to bound first Full h = absurd (no_push bound first h)
+
 -- what the answer tells to the request that the first item asked for
 pub carried_tells : (words bound : ℕ) (a c : Joined) (x : Answer) → CarriesOutUpToBy words bound a x c → TellsUpTo bound x
 carried_tells words bound a c (Entered number reply) h =
     by_first bound (λ q r. TellsUpTo bound (Entered number r)) (λ x low. low) (λ x high. high) tt (left h.carries.ready.pen.hand) h.request reply h.chosen h.carries.released.may.2
 carried_tells words bound a c answer.BookFull h = tt
 carried_tells words bound a c answer.NoMemory h = absurd (no_push bound (first_of (left h.carries.ready.pen.hand)) (subst IsPush h.chosen h.fits))
+carried_tells words bound a c (answer.Refused why) h = barred_up_to bound (first_of (left h.carries.ready.pen.hand)) why (subst (λ (q : Request). IsBarredBy (Asked q) why) h.chosen h.fits)
 
 by_answer : (words bound : ℕ) (a c : Joined) (read : Option Word) (steps : ℕ) (x : Answer) → CarriesOutUpToBy words bound (missed_as a read steps) x c → a.pen.posts < most_posts a.queue.room
     → MissesThenCarriesOutBy words bound a x c → PopsUpToBy words bound a (ended_up_to x) c
@@ -87,6 +98,15 @@ by_answer words bound a c read steps answer.BookFull h few whole =
       turns = λ f. (answer.BookFull, refl, whole);
     }
 by_answer words bound a c read steps answer.NoMemory h few whole = absurd (carried_tells words bound (missed_as a read steps) c answer.NoMemory h)
+by_answer words bound a c read steps (answer.Refused why) h few whole =
+    let m = missed_as a read steps in
+    record {
+      ok = tt;
+      err = (carried_tells words bound m c (answer.Refused why) h, one_behind a c read steps _ _ (ruled_own words m c (Asked h.request) why h.carries));
+      full = λ e. absurd (cc e);
+      spent = (λ e. absurd (cc e), λ le. absurd (omega (arith, le, few)));
+      turns = λ f. (answer.Refused why, refl, whole);
+    }
 
 -- what such a call comes to
 pub popped_up_to : (words bound : ℕ) (a c : Joined) (x : Answer) → a.pen.posts < most_posts a.queue.room → MissesThenCarriesOutBy words bound a x c → PopsUpToBy words bound a (ended_up_to x) c

@@ -6,7 +6,7 @@ use Rattle.pq_types.specs.Item.{Item}
 use Rattle.pq_types.specs.Asked.{Request, Operation}
 use Rattle.pq_types.specs.declared.request.Request.TheVariants.{Push, Pop, Least}
 use Rattle.pq_types.specs.Asked.{Answer}
-use Rattle.pq_types.specs.declared.answer.Answer.TheVariants.{Entered, BookFull, NoMemory}
+use Rattle.pq_types.specs.declared.answer.Answer.TheVariants.{Entered, BookFull, NoMemory, Refused}
 use Rattle.pq_types.specs.declared.control.Notice.{Notice}
 use Rattle.pq_types.specs.declared.control.Notice.TheVariants as notice
 use Rattle.pq_types.specs.declared.control.Outcome.TheVariants as outcome
@@ -42,6 +42,7 @@ pub starts_by : (journal : List Line) (place serial : ℕ) (operation : Operatio
 starts_by journal place serial operation (Entered number told) = (line_of place serial operation told ∷ [], refl)
 starts_by journal place serial operation BookFull = starts_refl journal
 starts_by journal place serial operation NoMemory = starts_refl journal
+starts_by journal place serial operation (Refused why) = starts_refl journal
 
 pub starts_after : (journal : List Line) (place serial : ℕ) (request : Request) (answer : Answer) → StartsWith (journal_after journal place serial request answer) journal
 starts_after journal place serial request answer = starts_by journal place serial (Asked request) answer
@@ -104,6 +105,7 @@ ends_by words p request (notice.Entered l outcome.Least) cell now = refl
 ends_by words p request (notice.Entered l outcome.Empty) cell now = refl
 ends_by words p request notice.BookFull cell now = refl
 ends_by words p request notice.NoMemory cell now = refl
+ends_by words p request (notice.Refused why) cell now = refl
 
 ends_with : (words : ℕ) (p : PenState) (request : Request) (c : Control) (cell : Item) (now : ℕ) (x : Answer) → Some x ≡ answer_in c cell → (seen_by words p request c cell now).ends ≡ p.ends ++ (p.posts, now) ∷ []
 ends_with words p request Nothing cell now x e = absurd (cc e)

@@ -140,7 +140,7 @@ round_of_two =
               ((_, read_other, refl, refl, refl, refl), (_, (read_other, due_to 1 1 kind.Push None, refl, refl, refl, refl, refl), refl)),
               (
                 _,
-                ((_, item_read, refl, refl, refl, refl), (_, (item_read, due_to 1 1 kind.Push (Some (item 6 2)), Push (item 6 2), refl, refl, refl, refl, refl, tt, (lit< tt, refl, refl), refl), refl)),
+                ((_, item_read, refl, refl, refl, refl), (_, (item_read, due_to 1 1 kind.Push (Some (item 6 2)), Push (item 6 2), refl, refl, refl, refl, refl, tt, (lit< tt, refl, refl, λ ends. refl), refl), refl)),
                 refl,
               ),
             ),
@@ -161,7 +161,7 @@ round_of_two =
               tt,
               (
                 _,
-                (item_read, due_to 1 1 kind.Push (Some (item 6 2)), Push (item 6 2), refl, refl, refl, refl, refl, tt, (lit< tt, refl, refl), refl),
+                (item_read, due_to 1 1 kind.Push (Some (item 6 2)), Push (item 6 2), refl, refl, refl, refl, refl, tt, (lit< tt, refl, refl, λ ends. refl), refl),
                 tt,
                 (refl, (λ p a. owes_nothing answered_other p a refl)),
               ),
@@ -323,7 +323,7 @@ trail_round_of_two =
             ((_, two_read_other, refl, refl, refl, refl), (_, (two_read_other, due_to 1 1 kind.Push None, refl, refl, refl, refl, refl), refl)),
             (
               _,
-              ((_, two_item_read, refl, refl, refl, refl), (_, (two_item_read, due_to 1 1 kind.Push (Some (item 6 2)), Push (item 6 2), refl, refl, refl, refl, refl, tt, (lit< tt, refl, refl), refl), refl)),
+              ((_, two_item_read, refl, refl, refl, refl), (_, (two_item_read, due_to 1 1 kind.Push (Some (item 6 2)), Push (item 6 2), refl, refl, refl, refl, refl, tt, (lit< tt, refl, refl, λ ends. refl), refl), refl)),
               refl,
             ),
           ),
@@ -343,7 +343,7 @@ trail_round_of_two =
               tt,
               (
                 _,
-                (two_item_read, due_to 1 1 kind.Push (Some (item 6 2)), Push (item 6 2), refl, refl, refl, refl, refl, tt, (lit< tt, refl, refl), refl),
+                (two_item_read, due_to 1 1 kind.Push (Some (item 6 2)), Push (item 6 2), refl, refl, refl, refl, refl, tt, (lit< tt, refl, refl, λ ends. refl), refl),
                 tt,
                 (refl, (λ p a. owes_nothing two_answered p a refl)),
               ),
@@ -352,7 +352,7 @@ trail_round_of_two =
         );
         release = (
           (_, two_answered, refl, refl, refl, refl),
-          (_, (two_answered, refl, refl, refl, (None, refl), lit< tt, tt, (lit< tt, refl, refl), refl), refl),
+          (_, (two_answered, refl, refl, refl, (None, refl), lit< tt, tt, (lit< tt, refl, refl, λ ends. refl), refl), refl),
         );
       };
       journal = refl;

@@ -9,7 +9,7 @@ use Rattle.pq_types.specs.declared.answer.Reply.TheVariants.{Pushed, Got}
 use Rattle.pq_types.specs.declared.answer.Answer.TheVariants.{Entered}
 use Rattle.pq_types.specs.declared.answer.Answer.TheVariants as answer
 use Rattle.pq_types.specs.Asked.{Line}
-use Rattle.pq_types.specs.History.{line, MayAnswer}
+use Rattle.pq_types.specs.History.{line, Limits, MayAnswer}
 use Rattle.pq_book.specs.Book.{Volume}
 use Rattle.desk_core.specs.Calls.{call}
 use Rattle.desk_core.specs.Pen.{after_apply, after_release}
@@ -18,14 +18,14 @@ use Rattle.desk_core.specs.declared.model.PenState.{PenState}
 use Rattle.announce_board.specs.Asking.{IsFullFor}
 use Rattle.announce_board.specs.Serving.{Wins}
 use Rattle.announce_board.specs.Tokens.{is_idle}
-use Rattle.flat_queue.specs.Members.{Joined, StaysAtPlace}
+use Rattle.flat_queue.specs.Members.{Joined, HasTerms, StaysAtPlace}
 use Rattle.flat_queue.specs.Limits.{most_posts}
 use Rattle.flat_queue.specs.Calling.{StaysMember}
 use Rattle.flat_queue.specs.OwnRequest.{SweepsWhereBy}
 use Rattle.flat_queue.specs.Turns.{Misses}
-use Rattle.flat_queue.specs.Settling.{Settles}
 use Rattle.flat_queue.specs.declared.error.CallError.{CallError}
 use Rattle.flat_queue.specs.declared.error.CallError.TheVariants.{NoMemory, BookFull, Spent, GaveUp}
+use Rattle.flat_queue.specs.declared.error.CallError.TheVariants as error
 use Rattle.flat_queue.specs.declared.batches.Batch.{Batch}
 use Rattle.flat_queue.specs.declared.batches.TheConstants.{MOST_BATCH}
 
@@ -41,12 +41,12 @@ abbrev pub pops_of : List Item → List Told
 pops_of xs = map (λ x. (Pop, Got x)) xs
 
 -- The leader applied these requests of its own, one after another, and each was entered on the next line with this reply,
--- which the one-thread queue gives there.
-abbrev pub AppliesEach : PenState → List Told → PenState → Type 0
-AppliesEach p [] q = q ≡ p
-AppliesEach p (t ∷ ts) q =
-    (now : ℕ) × MayAnswer p.room p.hand t.0 (Entered (length p.hand + 1) t.1)
-    × AppliesEach (after_apply p t.0 (Entered (length p.hand + 1) t.1) now) ts q
+-- which the one-thread queue gives there, as a Book with these limits may.
+abbrev pub AppliesEach : Limits → PenState → List Told → PenState → Type 0
+AppliesEach limits p [] q = q ≡ p
+AppliesEach limits p (t ∷ ts) q =
+    (now : ℕ) × MayAnswer limits p.hand t.0 (Entered (length p.hand + 1) t.1)
+    × AppliesEach limits (after_apply p t.0 (Entered (length p.hand + 1) t.1) now) ts q
 
 -- the request is the push of the item at this index
 abbrev pub IsPushAt : List Item → ℕ → Request → Type 0
@@ -58,28 +58,35 @@ IsPop request = request ≡ Pop
 
 -- Why it applied no more: nothing refused it; or the next request, of which this holds, was so answered, and has no line; or no
 -- serial was left, of so many.
-abbrev pub EndsBatch : ℕ → (is_next : Request → Type 0) → PenState → Option CallError → PenState → Type 0
-EndsBatch most is_next p None q = q ≡ p
-EndsBatch most is_next p (Some NoMemory) q =
-    (request : Request) × is_next request × (now : ℕ) × MayAnswer p.room p.hand request answer.NoMemory
+abbrev pub EndsBatch : Limits → ℕ → (is_next : Request → Type 0) → PenState → Option CallError → PenState → Type 0
+EndsBatch limits most is_next p None q = q ≡ p
+EndsBatch limits most is_next p (Some NoMemory) q =
+    (request : Request) × is_next request × (now : ℕ) × MayAnswer limits p.hand request answer.NoMemory
     × (q ≡ after_apply p request answer.NoMemory now)
-EndsBatch most is_next p (Some BookFull) q =
-    (request : Request) × is_next request × (now : ℕ) × MayAnswer p.room p.hand request answer.BookFull
+EndsBatch limits most is_next p (Some BookFull) q =
+    (request : Request) × is_next request × (now : ℕ) × MayAnswer limits p.hand request answer.BookFull
     × (q ≡ after_apply p request answer.BookFull now)
-EndsBatch most is_next p (Some Spent) q = (most ≤ p.posts) × (q ≡ p)
-EndsBatch most is_next p (Some GaveUp) q = ⊥
+EndsBatch limits most is_next p (Some (error.Refused why)) q =
+    (request : Request) × is_next request × (now : ℕ) × MayAnswer limits p.hand request (answer.Refused why)
+    × (q ≡ after_apply p request (answer.Refused why) now)
+EndsBatch limits most is_next p (Some Spent) q = (most ≤ p.posts) × (q ≡ p)
+EndsBatch limits most is_next p (Some GaveUp) q = ⊥
 
 -- it applied these, and no more
-abbrev pub AppliesBatch : ℕ → (is_next : Request → Type 0) → PenState → List Told → Option CallError → PenState → Type 0
-AppliesBatch most is_next p told refused q = (m : PenState) × AppliesEach p told m × EndsBatch most is_next m refused q
+abbrev pub AppliesBatch : Limits → ℕ → (is_next : Request → Type 0) → PenState → List Told → Option CallError → PenState → Type 0
+AppliesBatch limits most is_next p told refused q =
+    (m : PenState) × AppliesEach limits p told m × EndsBatch limits most is_next m refused q
 
 -- The leader applied these requests of its own, of which the first has the line that the batch tells, and released. It posted
 -- nothing.
 pub record ReleasesBatch (before : Joined) (told : List Told) (is_next : Request → Type 0) (batch : Batch)
     (after : Joined) : Type 0 where
   pub ended : PenState
+  pub limits : Limits
+  pub room : limits.room ≡ before.pen.room
+  pub terms : HasTerms before.queue.terms limits
   pub first : batch.first ≡ length before.pen.hand + 1
-  pub applies : AppliesBatch (most_posts before.queue.room) is_next before.pen told batch.refused ended
+  pub applies : AppliesBatch limits (most_posts before.queue.room) is_next before.pen told batch.refused ended
   pub after_is : after ≡ record before { pen = after_release ended }
 
 -- The member won the lock, served the others where it read that somebody had posted, and released with these requests of its
@@ -94,10 +101,6 @@ pub record CarriesOutBatchBy (words : ℕ) (before : Joined) (told : List Told) 
   pub hinted : Bool
   pub sweeps : SweepsWhereBy words hinted led ready
   pub released : ReleasesBatch ready told is_next batch after
-
--- The queue was shut: the member won the lock, and released it without the batch.
-abbrev pub IsBatchShutOut : Joined → Joined → Type 0
-IsBatchShutOut before after = (lines : ℕ) × Settles before lines after
 
 -- the member found the lock held so often, and then it did so
 pub record MissesThenBatchBy (words : ℕ) (before : Joined) (told : List Told) (is_next : Request → Type 0) (batch : Batch)
@@ -131,6 +134,7 @@ abbrev pub refusals : Option CallError → ℕ
 refusals None = 0
 refusals (Some NoMemory) = 1
 refusals (Some BookFull) = 1
+refusals (Some (error.Refused why)) = 1
 refusals (Some Spent) = 0
 refusals (Some GaveUp) = 0
 

@@ -3,15 +3,13 @@ use Rattle.std.specs.Prelude.{◌≡◌, ◌≢◌, ℕ, ◌+◌, ◌<◌, ◌�
 use Rattle.pq_types.specs.Item.{Item}
 use Rattle.pq_types.specs.Asked.{Request, Reply, Answer}
 use Rattle.pq_types.specs.declared.answer.Answer.TheVariants as answer
-use Rattle.pq_types.specs.Queue.{IsPush}
 use Rattle.desk_core.specs.Knows.{NoneAbove}
 use Rattle.announce_board.specs.Tokens.{is_idle}
 use Rattle.announce_board.specs.Asking.{asked_by, LooksBy, IsAnswerTo}
 use Rattle.flat_queue.specs.Limits.{most_posts}
 use Rattle.flat_queue.specs.Members.{Joined, StaysAtPlace}
-use Rattle.flat_queue.specs.Calling.{MakesCall, WaitsOn, IsTold, ended}
-use Rattle.flat_queue.specs.Ending.{IsShutOut}
-use Rattle.flat_queue.specs.OwnRequest.{CarriesOutBy, EntersAtOnceBy}
+use Rattle.flat_queue.specs.Calling.{WaitsOn, IsTold}
+use Rattle.flat_queue.specs.OwnRequest.{CarriesOutBy}
 use Rattle.flat_queue.specs.Turns.{FindsLockHeld, FindsHeldYet, Misses, LeadsBy, LooksInVainBy, TurnsInVainBy, LeadsItselfBy, WaitedBy}
 use Rattle.flat_queue.specs.declared.error.CallError.{CallError}
 use Rattle.flat_queue.specs.declared.error.CallError.TheVariants as error
@@ -39,14 +37,12 @@ CallStepped = CallSteppedOf Item
 -- the member may take a step of a call at this stage: it is idle before it posts, and waits thereafter
 abbrev pub FitsStage : CallStage → Joined → Type 0
 FitsStage (stage.Tries request tries) m = is_idle m.pen.standing ≡ true
-FitsStage (stage.TriesUnlessShut request tries) m = is_idle m.pen.standing ≡ true
 FitsStage stage.Looks m = is_idle m.pen.standing ≡ false
 FitsStage stage.Waits m = is_idle m.pen.standing ≡ false
 
 -- it is to carry its request out
 abbrev pub IsTry : CallStage → Type 0
 IsTry (stage.Tries request tries) = ⊤
-IsTry (stage.TriesUnlessShut request tries) = ⊤
 IsTry stage.Looks = ⊥
 IsTry stage.Waits = ⊥
 
@@ -59,6 +55,7 @@ abbrev pub came_to : Came → Result (ℕ × Reply) CallError
 came_to (came.Answered (answer.Entered number reply)) = Ok (number, reply)
 came_to (came.Answered answer.BookFull) = Err error.BookFull
 came_to (came.Answered answer.NoMemory) = Err error.NoMemory
+came_to (came.Answered (answer.Refused why)) = Err (error.Refused why)
 came_to came.Spent = Err error.Spent
 came_to came.Held = Err error.GaveUp
 came_to came.Posted = Err error.GaveUp
@@ -83,42 +80,6 @@ abbrev pub FindsHeldOnceBy : ℕ → (may : Turn → Type 0) → Request → (tr
 FindsHeldOnceBy words may request tries before then.GivesUp after = may GiveUp × (after ≡ before)
 FindsHeldOnceBy words may request tries before then.TriesAgain after = (0 < tries) × (after ≡ before)
 FindsHeldOnceBy words may request tries before then.HasPosted after = (tries ≡ 0) × PostsOnceBy words request before after
-FindsHeldOnceBy words may request tries before then.IsShut after = ⊥
-
--- What a member does that found the lock held, in a call that heeds the end of its queue: the same; or it was to post this push,
--- and did not, as the queue was shut.
-abbrev pub FindsHeldUnlessShutBy : ℕ → (may : Turn → Type 0) → Request → (tries : ℕ) → Joined → Then → Joined → Type 0
-FindsHeldUnlessShutBy words may request tries before then.GivesUp after =
-    FindsHeldOnceBy words may request tries before then.GivesUp after
-FindsHeldUnlessShutBy words may request tries before then.TriesAgain after =
-    FindsHeldOnceBy words may request tries before then.TriesAgain after
-FindsHeldUnlessShutBy words may request tries before then.HasPosted after =
-    FindsHeldOnceBy words may request tries before then.HasPosted after
-FindsHeldUnlessShutBy words may request tries before then.IsShut after = (tries ≡ 0) × IsPush request × (after ≡ before)
-
--- The member tried once to carry this request out. It entered it, or was refused, as by a call that enters at once; or it found
--- the lock held, with a serial left: then it is to try again, with one try less, or has posted, as none was left; or it does
--- nothing, as its gate may say to give up.
-abbrev pub TriesOnceBy : ℕ → (may : Turn → Type 0) → (has_room : Type 0) → Request → (tries : ℕ) → Joined → CallStepped → Joined → Type 0
-TriesOnceBy words may has_room request tries before (stepped.Ends (came.Answered told)) after =
-    MakesCall (EntersAtOnceBy words) (λ t. t) has_room before request (ended (Some told)) after
-TriesOnceBy words may has_room request tries before (stepped.Ends came.Spent) after =
-    MakesCall (EntersAtOnceBy words) (λ (t : ℕ × Reply). t) has_room before request (Err error.Spent) after
-TriesOnceBy words may has_room request tries before (stepped.Ends came.Held) after = may GiveUp × FindsHeldYet before after
-TriesOnceBy words may has_room request tries before (stepped.Ends came.Posted) after = ⊥
-TriesOnceBy words may has_room request tries before stepped.IsShut after = ⊥
-TriesOnceBy words may has_room request tries before (stepped.Goes (stage.Tries next left)) after =
-    (next ≡ request) × (left + 1 ≡ tries) × FindsHeldYet before after
-TriesOnceBy words may has_room request tries before (stepped.Goes (stage.TriesUnlessShut next left)) after = ⊥
-TriesOnceBy words may has_room request tries before (stepped.Goes stage.Looks) after =
-    (tries ≡ 0) × ((held : Joined) × FindsHeldYet before held × PostsOnceBy words request held after)
-TriesOnceBy words may has_room request tries before (stepped.Goes stage.Waits) after = ⊥
-
--- The member won the lock, and released it without this push; or it found the lock held, and did not post this push, for which no
--- try was left: the queue was shut.
-abbrev pub IsRefusedAsShut : Joined → Request → (tries : ℕ) → Joined → Type 0
-IsRefusedAsShut before request tries after =
-    IsShutOut before request after ⊎ ((tries ≡ 0) × IsPush request × FindsLockHeld before after)
 
 -- The member, which has a serial left, carried this request out itself, and was answered so: not for want of memory where the
 -- stores have room for all lines.
@@ -127,23 +88,21 @@ CarriesOutOnceBy words has_room request before told after =
     (before.pen.posts < most_posts before.queue.room) × CarriesOutBy words before request told after
     × IsAnswerTo before.queue.room request told × (has_room → told ≢ answer.NoMemory)
 
--- The member tried once to carry this request out, in a call that heeds the end of its queue. It carried it out, or had no serial
--- left, and did nothing; or this is a push, and was refused as the queue was shut; else it found the lock held, as above.
-abbrev pub TriesUnlessShutBy : ℕ → (may : Turn → Type 0) → (has_room : Type 0) → Request → (tries : ℕ) → Joined → CallStepped → Joined → Type 0
-TriesUnlessShutBy words may has_room request tries before (stepped.Ends (came.Answered told)) after =
+-- The member tried once to carry this request out. It carried it out, or had no serial left, and did nothing; or it found the lock
+-- held, with a serial left: then it is to try again, with one try less, or has posted, as none was left; or it does nothing, as
+-- its gate may say to give up.
+abbrev pub TriesOnceBy : ℕ → (may : Turn → Type 0) → (has_room : Type 0) → Request → (tries : ℕ) → Joined → CallStepped → Joined → Type 0
+TriesOnceBy words may has_room request tries before (stepped.Ends (came.Answered told)) after =
     CarriesOutOnceBy words has_room request before told after
-TriesUnlessShutBy words may has_room request tries before (stepped.Ends came.Spent) after =
+TriesOnceBy words may has_room request tries before (stepped.Ends came.Spent) after =
     (most_posts before.queue.room ≤ before.pen.posts) × (after ≡ before)
-TriesUnlessShutBy words may has_room request tries before (stepped.Ends came.Held) after = may GiveUp × FindsHeldYet before after
-TriesUnlessShutBy words may has_room request tries before (stepped.Ends came.Posted) after = ⊥
-TriesUnlessShutBy words may has_room request tries before stepped.IsShut after =
-    (before.pen.posts < most_posts before.queue.room) × IsRefusedAsShut before request tries after
-TriesUnlessShutBy words may has_room request tries before (stepped.Goes (stage.Tries next left)) after = ⊥
-TriesUnlessShutBy words may has_room request tries before (stepped.Goes (stage.TriesUnlessShut next left)) after =
+TriesOnceBy words may has_room request tries before (stepped.Ends came.Held) after = may GiveUp × FindsHeldYet before after
+TriesOnceBy words may has_room request tries before (stepped.Ends came.Posted) after = ⊥
+TriesOnceBy words may has_room request tries before (stepped.Goes (stage.Tries next left)) after =
     (next ≡ request) × (left + 1 ≡ tries) × FindsHeldYet before after
-TriesUnlessShutBy words may has_room request tries before (stepped.Goes stage.Looks) after =
+TriesOnceBy words may has_room request tries before (stepped.Goes stage.Looks) after =
     (tries ≡ 0) × ((held : Joined) × FindsHeldYet before held × PostsOnceBy words request held after)
-TriesUnlessShutBy words may has_room request tries before (stepped.Goes stage.Waits) after = ⊥
+TriesOnceBy words may has_room request tries before (stepped.Goes stage.Waits) after = ⊥
 
 -- What the member makes of a turn, which it takes behind a look in vain: it made a round; or it found the lock held, or left the
 -- rounds to others; or it gives up.
@@ -152,9 +111,7 @@ TurnsOnceBy words turn before (stepped.Ends (came.Answered told)) after = ⊥
 TurnsOnceBy words turn before (stepped.Ends came.Spent) after = ⊥
 TurnsOnceBy words turn before (stepped.Ends came.Held) after = ⊥
 TurnsOnceBy words turn before (stepped.Ends came.Posted) after = (turn ≡ GiveUp) × (after ≡ before)
-TurnsOnceBy words turn before stepped.IsShut after = ⊥
 TurnsOnceBy words turn before (stepped.Goes (stage.Tries next left)) after = ⊥
-TurnsOnceBy words turn before (stepped.Goes (stage.TriesUnlessShut next left)) after = ⊥
 TurnsOnceBy words turn before (stepped.Goes stage.Looks) after = (turn ≡ Lead) × LeadsBy words before after
 TurnsOnceBy words turn before (stepped.Goes stage.Waits) after =
     ((turn ≡ Look) × (after ≡ before)) ⊎ ((turn ≡ Lead) × FindsLockHeld before after)
@@ -173,9 +130,7 @@ AsksOnceBy words may has_room before (stepped.Ends (came.Answered told)) after =
 AsksOnceBy words may has_room before (stepped.Ends came.Spent) after = ⊥
 AsksOnceBy words may has_room before (stepped.Ends came.Held) after = ⊥
 AsksOnceBy words may has_room before (stepped.Ends came.Posted) after = may GiveUp × LooksInVainBy words before after
-AsksOnceBy words may has_room before stepped.IsShut after = ⊥
 AsksOnceBy words may has_room before (stepped.Goes (stage.Tries next left)) after = ⊥
-AsksOnceBy words may has_room before (stepped.Goes (stage.TriesUnlessShut next left)) after = ⊥
 AsksOnceBy words may has_room before (stepped.Goes stage.Looks) after = LeadsItselfBy words may before after
 AsksOnceBy words may has_room before (stepped.Goes stage.Waits) after = TurnsInVainBy words may before after
 
@@ -183,8 +138,6 @@ AsksOnceBy words may has_room before (stepped.Goes stage.Waits) after = TurnsInV
 abbrev pub CallStepsBy : ℕ → (may : Turn → Type 0) → (has_room : Type 0) → CallStage → Joined → CallStepped → Joined → Type 0
 CallStepsBy words may has_room (stage.Tries request tries) before result after =
     TriesOnceBy words may has_room request tries before result after
-CallStepsBy words may has_room (stage.TriesUnlessShut request tries) before result after =
-    TriesUnlessShutBy words may has_room request tries before result after
 CallStepsBy words may has_room stage.Looks before result after = AsksOnceBy words may has_room before result after
 CallStepsBy words may has_room stage.Waits before result after = AsksOnceBy words may has_room before result after
 
@@ -209,6 +162,5 @@ pub record HasPostedBy (words : ℕ) (request : Request) (before now : Joined) :
 -- further try, and is to try again; or it has posted behind the last one.
 abbrev pub HasComeToBy : ℕ → Joined → Request → CallStage → Joined → Type 0
 HasComeToBy words began request (stage.Tries next left) now = (next ≡ request) × HasTried began now (left + 1)
-HasComeToBy words began request (stage.TriesUnlessShut next left) now = ⊥
 HasComeToBy words began request stage.Looks now = (held : Joined) × HasTried began held 0 × HasPostedBy words request held now
 HasComeToBy words began request stage.Waits now = (held : Joined) × HasTried began held 0 × HasPostedBy words request held now

@@ -9,6 +9,8 @@ use Rattle.pq_types.specs.declared.answer.Reply.TheVariants.{Got, Empty, Least a
 use Rattle.pq_types.specs.Asked.{Answer}
 use Rattle.pq_types.specs.declared.answer.Answer.TheVariants.{Entered}
 use Rattle.pq_types.specs.declared.answer.Answer.TheVariants as answer
+use Rattle.pq_types.specs.declared.answer.Refusal.{Refusal}
+use Rattle.pq_types.specs.declared.answer.Refusal.TheVariants.{Shut, Unarchived, Full}
 use Rattle.flat_queue.specs.Limits.{most_posts}
 use Rattle.pq_types.specs.Queue.{IsPush}
 use Rattle.pq_types.specs.Mail.{IsLineNumber}
@@ -20,10 +22,11 @@ use Rattle.desk_core.specs.declared.model.PenState.{PenState}
 use Rattle.desk_core.specs.declared.model.Standing.{Standing}
 use Rattle.desk_core.specs.declared.model.Standing.TheVariants.{Idle, Waiting}
 use Rattle.desk_core.specs.Knows.{IsReplyTo}
-use Rattle.announce_board.specs.Asking.{IsAnswerTo, IsAboveAll, IsFullFor, asked_by}
+use Rattle.announce_board.specs.Asking.{IsAnswerTo, IsBarredBy, IsAboveAll, IsFullFor, asked_by}
 use Rattle.flat_queue.specs.Members.{Joined}
 use Rattle.flat_queue.specs.declared.error.CallError.{CallError}
 use Rattle.flat_queue.specs.declared.error.CallError.TheVariants.{NoMemory, BookFull, Spent, GaveUp}
+use Rattle.flat_queue.specs.declared.error.CallError.TheVariants as error
 use Rattle.flat_queue.specs.declared.gate.Turn.{Turn}
 use Rattle.flat_queue.specs.declared.gate.Turn.TheVariants.{Lead}
 use Rattle.flat_queue.specs.Turns.{EndsWaitingBy}
@@ -74,11 +77,13 @@ pub record IsEntered (before : Joined) (operation : Operation) (number : ℕ) (r
 abbrev pub IsCalled : (before : Joined) (request : Request) (number : ℕ) (reply : Reply) (after : Joined) → Type 0
 IsCalled before request number reply after = IsEntered before (Asked request) number reply after
 
--- what each refusal says: the request has no line and the member is idle; or nothing was done, as
--- no serial was left; or the gate may say so and the request stays posted
+-- what each refusal says: the request has no line and the member is idle, and one by the queue's rules is of a request that
+-- these may refuse; or nothing was done, as no serial was left; or the gate may say so and the request stays posted
 abbrev pub IsRefused : (may_give_up : Type 0) → Joined → Request → CallError → Joined → Type 0
 IsRefused may_give_up before request NoMemory after = IsPush request × HasPostedOne before (Idle None) before.pen.mine after
 IsRefused may_give_up before request BookFull after = HasPostedOne before (Idle None) before.pen.mine after
+IsRefused may_give_up before request (error.Refused why) after =
+    IsBarredBy (Asked request) why × HasPostedOne before (Idle None) before.pen.mine after
 IsRefused may_give_up before request Spent after = (most_posts before.queue.room ≤ before.pen.posts) × (after ≡ before)
 IsRefused may_give_up before request GaveUp after = may_give_up × HasPostedOne before (Waiting request) before.pen.mine after
 
@@ -88,6 +93,7 @@ ended None = Err GaveUp
 ended (Some (Entered number reply)) = Ok (number, reply)
 ended (Some answer.BookFull) = Err BookFull
 ended (Some answer.NoMemory) = Err NoMemory
+ended (Some (answer.Refused why)) = Err (error.Refused why)
 
 -- The member posted this request and waited for its answer. Each turn found no answer and then, where it
 -- was one to lead, the lock held; but for one round of its own at most, behind which it has its answer.
@@ -144,12 +150,19 @@ abbrev pub found_first : Option Item → Reply
 found_first None = Empty
 found_first (Some x) = LeastIs x
 
+-- the number of each refusal by the queue's rules
+abbrev pub refusal_code : Refusal → ℕ
+refusal_code Shut = 51
+refusal_code Unarchived = 52
+refusal_code Full = 53
+
 -- the number of each refusal
 abbrev pub call_code : CallError → ℕ
 call_code NoMemory = 9
 call_code BookFull = 10
 call_code Spent = 11
 call_code GaveUp = 12
+call_code (error.Refused why) = refusal_code why
 
 -- the waiting member still waits for the answer to its last post
 pub record WaitsOn (before after : Joined) : Type 0 where

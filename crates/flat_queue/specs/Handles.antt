@@ -8,6 +8,7 @@ use Rattle.flat_queue.specs.Members.{Joined}
 use Rattle.flat_queue.specs.Calling.{IsCalled, IsRefused}
 use Rattle.flat_queue.specs.declared.error.CallError.{CallError}
 use Rattle.flat_queue.specs.declared.error.CallError.TheVariants.{NoMemory, BookFull, Spent, GaveUp}
+use Rattle.flat_queue.specs.declared.error.CallError.TheVariants as error
 use Rattle.flat_queue.specs.declared.pending.Called.{Called}
 use Rattle.flat_queue.specs.declared.pending.Called.TheVariants.{Answered, Refused, Pending}
 
@@ -43,6 +44,7 @@ module _ {S P : Type 0} where
   Brings Holds (Answered handle number reply) = Holds (Some (answer.Entered number reply)) handle
   Brings Holds (Refused handle BookFull) = Holds (Some answer.BookFull) handle
   Brings Holds (Refused handle NoMemory) = Holds (Some answer.NoMemory) handle
+  Brings Holds (Refused handle (error.Refused why)) = Holds (Some (answer.Refused why)) handle
   Brings Holds (Refused handle Spent) = ⊥
   Brings Holds (Refused handle GaveUp) = ⊥
   Brings Holds (Pending pending) = Holds None pending
@@ -53,3 +55,4 @@ module _ {S P : Type 0} where
   came_to (Some (answer.Entered number reply)) member = Answered member number reply
   came_to (Some answer.BookFull) member = Refused member BookFull
   came_to (Some answer.NoMemory) member = Refused member NoMemory
+  came_to (Some (answer.Refused why)) member = Refused member (error.Refused why)

@@ -8,7 +8,7 @@ pub mod Arrivals
 pub mod Opening
 pub mod Sweeping
 pub mod Settling
-pub mod Ending
+pub mod Shutting
 pub mod Notes
 pub mod Turns
 pub mod Calling
@@ -18,6 +18,7 @@ pub mod UpTo
 pub mod Tickets
 pub mod Batches
 pub mod Limits
+pub mod Lengths
 pub mod Memory
 pub mod Looking
 pub mod Counting

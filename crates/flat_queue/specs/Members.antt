@@ -1,6 +1,7 @@
 -- What a contract sees of a queue, of a newcomer and of a member; and what their fields keep.
 use Rattle.std.specs.Prelude.{◌≡◌, ◌≢◌, ℕ, ◌+◌, ◌-◌, ◌*◌, ◌<◌, ◌≤◌, List, [], Option}
 use Rattle.atomic_table.specs.Seated.{TableId}
+use Rattle.pq_types.specs.History.{Limits}
 use Rattle.pq_book.specs.Book.{AllHaveRoom}
 use Rattle.split_core.specs.Places.{at, diagonal}
 use Rattle.split_core.specs.Scan.{fresh}
@@ -15,19 +16,26 @@ use Rattle.desk_core.specs.Pen.{new_pen}
 use Rattle.desk_core.specs.declared.model.PenState.{PenState}
 use Rattle.announce_board.specs.Tokens.{AtDesk, Running as RunningDesk}
 use Rattle.announce_board.specs.Opening.{pen_of_place}
+use Rattle.announce_board.specs.declared.terms.Terms.{Terms}
 use Rattle.announce_board.specs.Testimonies.{Testified}
 use Rattle.flat_queue.specs.Gathered.{Gathers}
 use Rattle.flat_queue.specs.Resting.{default_rest}
 use Rattle.flat_queue.specs.declared.resting.Rest.{Rest}
 
--- a queue: the tables of its grid and of its desk, the numbers of its comers and places, and how
--- many lines its journal has room for
+-- a queue: the tables of its grid and of its desk, the numbers of its comers and places, how many
+-- lines its journal has room for, and the terms of its desk
 pub record QueueName : Type 0 where
   pub grid : TableId
   pub desk : TableId
   pub comers : ℕ
   pub places : ℕ
   pub room : ℕ
+  pub terms : Terms
+
+-- a Book of these limits meets these terms
+pub record HasTerms (terms : Terms) (limits : Limits) : Type 0 where
+  pub bound : limits.bound ≡ terms.bound
+  pub allowed : terms.allowed ≤ limits.allowed
 
 -- Every store of the queue's kind has room for as many items as its journal has lines: the argument
 -- says how many each has room for. No push of such a queue is refused for want of memory.
@@ -55,11 +63,12 @@ pub record IsPenFor (sample : AtDesk) (places place : ℕ) (sleeper : AtDesk) : 
   pub within : place < places
 
 -- The grid of so many comers has a place for each pen of the desk, and the tag of its pens names
--- that desk. A comer has a licence, and those of the other places are spare.
-pub record AreTied (comers : ℕ) (sample : AtDesk) (places : ℕ) (desk : RunningDesk) (spare : Option Testified) : Type 0 where
+-- that desk and its terms. A comer has a licence, and those of the other places are spare.
+pub record AreTied (comers : ℕ) (sample : AtDesk) (places : ℕ) (terms : Terms) (desk : RunningDesk) (spare : Option Testified) : Type 0 where
   pub table : sample.table ≡ desk.table
   pub room : sample.state.room ≡ desk.room
   pub places_are : places ≡ desk.places
+  pub terms_are : terms ≡ desk.terms
   pub counted : desk.places ≡ places_of comers
   pub some : 0 < comers
   pub few : comers ≤ desk.places

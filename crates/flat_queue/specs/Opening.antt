@@ -37,6 +37,7 @@ is_coming w =
             comers = w.comers;
             places = w.tag.places;
             room = w.tag.sample.value.state.room;
+            terms = w.tag.terms;
           };
       comer = w.comer;
     }

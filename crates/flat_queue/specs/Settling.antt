@@ -1,13 +1,14 @@
 -- What a lead without a sweep makes of its member, and what it hands out of the journal.
-use Rattle.std.specs.Prelude.{◌≡◌, ℕ, ◌+◌, ◌<◌, ◌≤◌, List, ◌++◌, length, drop, Result, Ok, Err}
+use Rattle.std.specs.Prelude.{◌≡◌, ℕ, ◌+◌, ◌<◌, ◌≤◌, List, ◌++◌, length, drop, max, Result, Ok, Err}
 use Rattle.pq_types.specs.Asked.{Line}
 use Rattle.pq_book.specs.Book.{Volume}
 use Rattle.pq_book.specs.Pages.{page_of}
-use Rattle.pq_book.specs.declared.lines.LinesError.{LinesError}
-use Rattle.pq_book.specs.declared.lines.LinesError.TheVariants.{Forgotten, NoMemory}
 use Rattle.desk_core.specs.Pen.{after_release}
 use Rattle.announce_board.specs.Serving.{Wins}
+use Rattle.announce_board.specs.Tokens.{Leading, allowing}
 use Rattle.flat_queue.specs.Members.{Joined, StaysAtPlace}
+use Rattle.flat_queue.specs.declared.error.ArchiveError.{ArchiveError}
+use Rattle.flat_queue.specs.declared.error.ArchiveError.TheVariants.{Forgotten, NoMemory, Ahead}
 
 -- The member won the lock and released it, and did nothing else. It knows the journal that it had
 -- in its hand, which has so many lines.
@@ -21,8 +22,19 @@ pub record Settles (before : Joined) (lines : ℕ) (after : Joined) : Type 0 whe
 
 -- What becomes of an archive that has so many lines of a journal with this room: it has all of them,
 -- each once, and this is how many; or the first that it lacks is forgotten; or memory was refused for
--- lines that are all kept. It is as it was then.
-abbrev pub Archives : (room archived : ℕ) → (journal archive after : List Line) → Result ℕ LinesError → Type 0
-Archives room archived journal archive after (Ok count) = (count ≡ length journal) × (after ≡ archive ++ drop archived journal)
+-- lines that are all kept; or the journal has fewer lines than it is said to have. It is as it was then.
+abbrev pub Archives : (room archived : ℕ) → (journal archive after : List Line) → Result ℕ ArchiveError → Type 0
+Archives room archived journal archive after (Ok count) =
+    (archived ≤ length journal) × (count ≡ length journal) × (after ≡ archive ++ drop archived journal)
 Archives room archived journal archive after (Err Forgotten) = (archived + page_of room < length journal) × (after ≡ archive)
-Archives room archived journal archive after (Err NoMemory) = (length journal ≤ archived + page_of room) × (after ≡ archive)
+Archives room archived journal archive after (Err NoMemory) =
+    (archived ≤ length journal) × (length journal ≤ archived + page_of room) × (after ≡ archive)
+Archives room archived journal archive after (Err Ahead) = (length journal < archived) × (after ≡ archive)
+
+-- What becomes of a lead that heard that so many lines are archived: the journal of its Book may have as many more lines as
+-- memory keeps, or as many as it might before; or, where it has fewer than are said to be archived, nothing.
+abbrev pub Allows : ℕ → Leading → Result ℕ ArchiveError → Leading → Type 0
+Allows archived before (Err Ahead) after = after ≡ before
+Allows archived before (Err Forgotten) after = after ≡ allowing before (max before.book.allowed (archived + page_of before.book.room))
+Allows archived before (Err NoMemory) after = after ≡ allowing before (max before.book.allowed (archived + page_of before.book.room))
+Allows archived before (Ok count) after = after ≡ allowing before (max before.book.allowed (archived + page_of before.book.room))

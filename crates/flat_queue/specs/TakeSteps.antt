@@ -9,8 +9,9 @@ use Rattle.pq_types.specs.declared.answer.Answer.TheVariants as answer
 use Rattle.flat_queue.specs.Members.{Joined}
 use Rattle.flat_queue.specs.OwnRequest.{EntersAtOnceBy}
 use Rattle.flat_queue.specs.Turns.{FindsHeldYet}
-use Rattle.flat_queue.specs.Looking.{LooksFirstBy}
+use Rattle.flat_queue.specs.Looking.{LooksFirstBy, SeesEmptyYetBy}
 use Rattle.flat_queue.specs.Taking.{Awaited, PopsInVain, TakesSo, LooksNowBy}
+use Rattle.flat_queue.specs.declared.event_count.Wakes.{Wakes}
 use Rattle.flat_queue.specs.declared.error.CallError.{CallError}
 use Rattle.flat_queue.specs.declared.error.CallError.TheVariants as error
 use Rattle.flat_queue.specs.declared.looking.Wanted.TheVariants as wanted
@@ -34,9 +35,14 @@ Took = TookOf Item
 abbrev pub TakeStepped : Type 0
 TakeStepped = TakeSteppedOf Item
 
--- the member looked once for any item, found none, and made no request; here, and in all that follows, items have so many words
-abbrev pub SeesNoneBy : ℕ → Joined → Joined → Type 0
-SeesNoneBy words before after = LooksFirstBy words wanted.Anything before looked.Nothing after
+-- The member looked once for any item, found none, and made no request, and that is no end to its take, which is woken so. Here,
+-- and in all that follows, items have so many words.
+abbrev pub SeesNoneBy : ℕ → Wakes → Joined → Joined → Type 0
+SeesNoneBy words wakes before after = SeesEmptyYetBy words wakes wanted.Anything before after
+
+-- the member looked once for any item, and made no request: it found the queue shut, and no item
+abbrev pub SeesEndBy : ℕ → Joined → Joined → Type 0
+SeesEndBy words before after = LooksFirstBy words wanted.Anything before looked.Over after
 
 -- The member tried once to carry a pop of its own out. The pop took the item out, or was refused; or it found none, and the
 -- take is to announce itself; or the member found the lock held, and tries again, or ends where the deadline has come.
@@ -52,31 +58,31 @@ PopsOnceBy words late before (stepped.Goes (stage.Looks line look)) after = ⊥
 PopsOnceBy words late before (stepped.Goes (stage.Sleeps line seen)) after = ⊥
 
 -- The member looked once for any item, in a take whose pop found none on this line. The look took an item out, or was refused;
--- or it found none, and the take sleeps, or ends as the deadline or the end of the queue has come; or the member found the lock
--- held, and is to look again, or ends as the deadline has come.
-abbrev pub LooksOneTimeBy : ℕ → (late : Type 0) → (line : ℕ) → Joined → TakeStepped → Joined → Type 0
-LooksOneTimeBy words late line before (stepped.Ends (took.Taken number x)) after =
+-- or it found none, and the take sleeps, or ends as the deadline has come; or it found the queue shut, and none, and the take ends
+-- by that; or the member found the lock held, and is to look again, or ends as the deadline has come.
+abbrev pub LooksOneTimeBy : ℕ → Wakes → (late : Type 0) → (line : ℕ) → Joined → TakeStepped → Joined → Type 0
+LooksOneTimeBy words wakes late line before (stepped.Ends (took.Taken number x)) after =
     TakesSo (LooksNowBy words wanted.Anything) before (Ok (number, x)) after
-LooksOneTimeBy words late line before (stepped.Ends (took.Refused error)) after =
+LooksOneTimeBy words wakes late line before (stepped.Ends (took.Refused error)) after =
     TakesSo (LooksNowBy words wanted.Anything) before (Err error) after
-LooksOneTimeBy words late line before (stepped.Ends (took.Late number)) after =
-    (number ≡ line) × late × (FindsHeldYet before after ⊎ SeesNoneBy words before after)
-LooksOneTimeBy words late line before (stepped.Ends took.Held) after = ⊥
-LooksOneTimeBy words late line before (stepped.Ends (took.Over number)) after = (number ≡ line) × SeesNoneBy words before after
-LooksOneTimeBy words late line before (stepped.Goes stage.Pops) after = ⊥
-LooksOneTimeBy words late line before (stepped.Goes (stage.Announces number)) after = ⊥
-LooksOneTimeBy words late line before (stepped.Goes (stage.Looks number look)) after =
+LooksOneTimeBy words wakes late line before (stepped.Ends (took.Late number)) after =
+    (number ≡ line) × late × (FindsHeldYet before after ⊎ SeesNoneBy words wakes before after)
+LooksOneTimeBy words wakes late line before (stepped.Ends took.Held) after = ⊥
+LooksOneTimeBy words wakes late line before (stepped.Ends (took.Over number)) after = (number ≡ line) × SeesEndBy words before after
+LooksOneTimeBy words wakes late line before (stepped.Goes stage.Pops) after = ⊥
+LooksOneTimeBy words wakes late line before (stepped.Goes (stage.Announces number)) after = ⊥
+LooksOneTimeBy words wakes late line before (stepped.Goes (stage.Looks number look)) after =
     (number ≡ line) × FindsHeldYet before after
-LooksOneTimeBy words late line before (stepped.Goes (stage.Sleeps number seen)) after = (number ≡ line) × SeesNoneBy words before after
+LooksOneTimeBy words wakes late line before (stepped.Goes (stage.Sleeps number seen)) after = (number ≡ line) × SeesNoneBy words wakes before after
 
 -- What a step at this stage made of its member, where `late` says that the deadline has come: it tried to pop once, or looked
 -- once; or it did nothing, as the deadline had come before its first look.
-abbrev pub TakeStepsBy : ℕ → (late : Type 0) → TakeStage → Joined → TakeStepped → Joined → Type 0
-TakeStepsBy words late stage.Pops before result after = PopsOnceBy words late before result after
-TakeStepsBy words late (stage.Announces line) before result after =
-    LooksOneTimeBy words late line before result after ⊎ ((result ≡ stepped.Ends (took.Late line)) × late × (after ≡ before))
-TakeStepsBy words late (stage.Looks line look) before result after = LooksOneTimeBy words late line before result after
-TakeStepsBy words late (stage.Sleeps line seen) before result after = LooksOneTimeBy words late line before result after
+abbrev pub TakeStepsBy : ℕ → Wakes → (late : Type 0) → TakeStage → Joined → TakeStepped → Joined → Type 0
+TakeStepsBy words wakes late stage.Pops before result after = PopsOnceBy words late before result after
+TakeStepsBy words wakes late (stage.Announces line) before result after =
+    LooksOneTimeBy words wakes late line before result after ⊎ ((result ≡ stepped.Ends (took.Late line)) × late × (after ≡ before))
+TakeStepsBy words wakes late (stage.Looks line look) before result after = LooksOneTimeBy words wakes late line before result after
+TakeStepsBy words wakes late (stage.Sleeps line seen) before result after = LooksOneTimeBy words wakes late line before result after
 
 -- what a step comes to whose pop was so answered
 abbrev pub popped_by : Answer → TakeStepped
@@ -86,6 +92,7 @@ popped_by (Entered number (LeastIs x)) = stepped.Goes (stage.Announces number)
 popped_by (Entered number Empty) = stepped.Goes (stage.Announces number)
 popped_by answer.BookFull = stepped.Ends (took.Refused error.BookFull)
 popped_by answer.NoMemory = stepped.Ends (took.Refused error.NoMemory)
+popped_by (answer.Refused why) = stepped.Ends (took.Refused (error.Refused why))
 
 -- what a step of a take comes to whose look came to this, behind a pop that found no item on this line
 abbrev pub looked_on : ℕ → DueStepped → TakeStepped

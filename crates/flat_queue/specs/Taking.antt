@@ -12,9 +12,11 @@ use Rattle.flat_queue.specs.Members.{Joined}
 use Rattle.flat_queue.specs.Calling.{IsCalled, MakesCall}
 use Rattle.flat_queue.specs.OwnRequest.{EntersAtOnceBy, EntersOrWaitsBy}
 use Rattle.flat_queue.specs.Turns.{Misses}
-use Rattle.flat_queue.specs.Looking.{Looked, LooksFirstBy, MissesThenLooksBy}
+use Rattle.flat_queue.specs.Looking.{Looked, LooksFirstBy, IsEmptyYet, MissesThenLooksBy}
+use Rattle.flat_queue.specs.declared.event_count.Wakes.{Wakes}
 use Rattle.flat_queue.specs.declared.error.CallError.{CallError}
 use Rattle.flat_queue.specs.declared.error.CallError.TheVariants.{BookFull}
+use Rattle.flat_queue.specs.declared.error.CallError.TheVariants as error
 use Rattle.flat_queue.specs.declared.looking.Wanted.{Wanted}
 use Rattle.flat_queue.specs.declared.looking.Wanted.TheVariants as wanted
 use Rattle.flat_queue.specs.declared.looking.Looked.TheVariants as looked
@@ -29,9 +31,15 @@ Awaited = AwaitedOf Item
 abbrev pub PopsInVain : Joined → ℕ → Joined → Type 0
 PopsInVain before number after = IsCalled before Pop number Empty after
 
--- the member looked for any item, found none, and made no request; here, and in all that follows, items have so many words
-abbrev pub FindsNoneBy : ℕ → Joined → Joined → Type 0
-FindsNoneBy words before after = MissesThenLooksBy words wanted.Anything before looked.Nothing after
+-- The member looked for any item, found none, and made no request, and that was no end to its call, which is woken so. Here, and
+-- in all that follows, items have so many words.
+abbrev pub FindsNoneBy : ℕ → Wakes → Joined → Joined → Type 0
+FindsNoneBy words wakes before after =
+    (told : Looked) × IsEmptyYet wakes told × MissesThenLooksBy words wanted.Anything before told after
+
+-- the member looked for any item, and made no request: it found the queue shut, and no item
+abbrev pub FindsEndBy : ℕ → Joined → Joined → Type 0
+FindsEndBy words before after = MissesThenLooksBy words wanted.Anything before looked.Over after
 
 -- so many such steps, one after another, and nothing else
 abbrev pub Repeats : (Joined → Joined → Type 0) → ℕ → Joined → Joined → Type 0
@@ -43,7 +51,9 @@ abbrev pub ended_look : Looked → Option (Result (ℕ × Reply) CallError)
 ended_look (looked.Taken number x) = Some (Ok (number, Got x))
 ended_look (looked.Stays x) = None
 ended_look looked.Nothing = None
+ended_look looked.Over = None
 ended_look looked.BookFull = Some (Err BookFull)
+ended_look (looked.Refused why) = Some (Err (error.Refused why))
 
 -- the member looked once for such an item, which is what the call came to
 abbrev pub LooksNowBy : ℕ → Wanted → Joined → Request → Result (ℕ × Reply) CallError → Joined → Type 0
@@ -74,27 +84,28 @@ abbrev pub TakesByLookBy : ℕ → Joined → Result (ℕ × Item) CallError →
 TakesByLookBy words = TakesSo (LooksForBy words wanted.Anything)
 
 -- The member popped in vain, once, on this line; then it looked some times, and found none.
-pub record TakesNoneBy (words : ℕ) (before : Joined) (line : ℕ) (after : Joined) : Type 0 where
+pub record TakesNoneBy (words : ℕ) (wakes : Wakes) (before : Joined) (line : ℕ) (after : Joined) : Type 0 where
   pub popped : Joined
   pub in_vain : PopsInVain before line popped
   pub looks : ℕ
-  pub found_none : Repeats (FindsNoneBy words) looks popped after
+  pub found_none : Repeats (FindsNoneBy words wakes) looks popped after
 
 -- the same, and then it found the lock held some times
-abbrev pub TakesNoneYetBy : ℕ → Joined → ℕ → Joined → Type 0
-TakesNoneYetBy words before line after = (last : Joined) × TakesNoneBy words before line last × ((tries : ℕ) × Misses tries last after)
+abbrev pub TakesNoneYetBy : ℕ → Wakes → Joined → ℕ → Joined → Type 0
+TakesNoneYetBy words wakes before line after =
+    (last : Joined) × TakesNoneBy words wakes before line last × ((tries : ℕ) × Misses tries last after)
 
 -- The member's pop, by such turns, took the item out, on the line that is told, or was refused, and this is why; or it took none
 -- so far, and then its look did so.
-abbrev pub TakesOneSoBy : ℕ → (Joined → Request → Result (ℕ × Reply) CallError → Joined → Type 0)
+abbrev pub TakesOneSoBy : ℕ → Wakes → (Joined → Request → Result (ℕ × Reply) CallError → Joined → Type 0)
     → Joined → Result (ℕ × Item) CallError → Joined → Type 0
-TakesOneSoBy words Turns before result after =
+TakesOneSoBy words wakes Turns before result after =
     TakesSo Turns before result after
-    ⊎ ((line : ℕ) × (last : Joined) × TakesNoneBy words before line last × TakesByLookBy words last result after)
+    ⊎ ((line : ℕ) × (last : Joined) × TakesNoneBy words wakes before line last × TakesByLookBy words last result after)
 
 -- the same, where its pop entered at once, or waited
-abbrev pub TakesOneBy : ℕ → Joined → Result (ℕ × Item) CallError → Joined → Type 0
-TakesOneBy words = TakesOneSoBy words (EntersOrWaitsBy words)
+abbrev pub TakesOneBy : ℕ → Wakes → Joined → Result (ℕ × Item) CallError → Joined → Type 0
+TakesOneBy words wakes = TakesOneSoBy words wakes (EntersOrWaitsBy words)
 
 -- a clock that may tell such times, or none, told this one, which is not before the deadline
 abbrev pub IsToldLate : (may_tell : Option Instant → Type 0) → Instant → Instant → Type 0
@@ -106,10 +117,10 @@ MayEnd may_tell deadline (Some now) = IsToldLate may_tell deadline now
 MayEnd may_tell deadline None = may_tell None
 
 -- What the looks of a take come to behind its pop, which found none on this line, where the clock may tell this as the deadline:
--- the last one took an item, or was refused; or it found none, at the end of the queue; or the take ends late, behind a look,
+-- the last one took an item, or was refused; or it found none, and the queue shut; or the take ends late, behind a look,
 -- or where it found the lock held since.
 abbrev pub LooksUntilBy : ℕ → (may_end : Option Instant → Type 0) → ℕ → Joined → Result (Option Awaited) CallError → Joined → Type 0
-LooksUntilBy words may_end line before (Ok None) after = FindsNoneBy words before after
+LooksUntilBy words may_end line before (Ok None) after = FindsEndBy words before after
 LooksUntilBy words may_end line before (Ok (Some (awaited.Taken number x))) after = TakesByLookBy words before (Ok (number, x)) after
 LooksUntilBy words may_end line before (Ok (Some (awaited.Late number now))) after =
     (number ≡ line) × may_end (Some now) × ((tries : ℕ) × Misses tries before after)
@@ -119,33 +130,34 @@ LooksUntilBy words may_end line before (Ok (Some (awaited.Held told))) after = �
 LooksUntilBy words may_end line before (Err error) after = TakesByLookBy words before (Err error) after
 
 -- such looks, one after another, of which the last one came to this, and the others found none
-abbrev pub LooksOnBy : ℕ → {A : Type 0} → (Joined → A → Joined → Type 0) → Joined → A → Joined → Type 0
-LooksOnBy words Looks before result after =
-    (looks : ℕ) × (last : Joined) × Repeats (FindsNoneBy words) looks before last × Looks last result after
+abbrev pub LooksOnBy : ℕ → Wakes → {A : Type 0} → (Joined → A → Joined → Type 0) → Joined → A → Joined → Type 0
+LooksOnBy words wakes Looks before result after =
+    (looks : ℕ) × (last : Joined) × Repeats (FindsNoneBy words wakes) looks before last × Looks last result after
 
 -- What a take until a deadline comes to: it took one or was refused, as one without a deadline, but that its pop posted
 -- nothing; or it took none, and the clock told a time that is not before the deadline, or none; or it made no pop, as it found the
 -- lock held until the clock told so.
-abbrev pub TakesUntilBy : ℕ → (may_tell : Option Instant → Type 0) → Instant → Joined → Result Awaited CallError → Joined → Type 0
-TakesUntilBy words may_tell deadline before (Ok (awaited.Taken number x)) after =
-    TakesOneSoBy words (TriesUntilFreeBy words) before (Ok (number, x)) after
-TakesUntilBy words may_tell deadline before (Ok (awaited.Late number now)) after =
-    TakesNoneYetBy words before number after × IsToldLate may_tell deadline now
-TakesUntilBy words may_tell deadline before (Ok (awaited.NoClock number)) after =
-    TakesNoneYetBy words before number after × may_tell None
-TakesUntilBy words may_tell deadline before (Ok (awaited.Held told)) after =
+abbrev pub TakesUntilBy : ℕ → Wakes → (may_tell : Option Instant → Type 0) → Instant → Joined → Result Awaited CallError → Joined → Type 0
+TakesUntilBy words wakes may_tell deadline before (Ok (awaited.Taken number x)) after =
+    TakesOneSoBy words wakes (TriesUntilFreeBy words) before (Ok (number, x)) after
+TakesUntilBy words wakes may_tell deadline before (Ok (awaited.Late number now)) after =
+    TakesNoneYetBy words wakes before number after × IsToldLate may_tell deadline now
+TakesUntilBy words wakes may_tell deadline before (Ok (awaited.NoClock number)) after =
+    TakesNoneYetBy words wakes before number after × may_tell None
+TakesUntilBy words wakes may_tell deadline before (Ok (awaited.Held told)) after =
     ((tries : ℕ) × Misses tries before after) × MayEnd may_tell deadline told
-TakesUntilBy words may_tell deadline before (Err error) after =
-    TakesOneSoBy words (TriesUntilFreeBy words) before (Err error) after
+TakesUntilBy words wakes may_tell deadline before (Err error) after =
+    TakesOneSoBy words wakes (TriesUntilFreeBy words) before (Err error) after
 
--- The same of a take that heeds the end of its queue: it came to what one does that doesn't, or was refused so; or it tells
--- the end, and took none: its last look found none.
-abbrev pub OrEndsBy : ℕ → {A : Type 0} → (Joined → Result A CallError → Joined → Type 0) → Joined → Result (Option A) CallError
+-- The same of a take that may heed the end of its queue: it came to what one does that doesn't, or was refused so; or it tells
+-- the end, and took none: its last look found the queue shut, and no item, as the journal is which it knows now. No look before
+-- found that, where the take heeds the end.
+abbrev pub OrEndsBy : ℕ → Wakes → {A : Type 0} → (Joined → Result A CallError → Joined → Type 0) → Joined → Result (Option A) CallError
     → Joined → Type 0
-OrEndsBy words Takes before (Ok (Some a)) after = Takes before (Ok a) after
-OrEndsBy words Takes before (Ok None) after =
-    (line : ℕ) × (last : Joined) × TakesNoneBy words before line last × FindsNoneBy words last after
-OrEndsBy words Takes before (Err error) after = Takes before (Err error) after
+OrEndsBy words wakes Takes before (Ok (Some a)) after = Takes before (Ok a) after
+OrEndsBy words wakes Takes before (Ok None) after =
+    (line : ℕ) × (last : Joined) × TakesNoneBy words wakes before line last × FindsEndBy words last after
+OrEndsBy words wakes Takes before (Err error) after = Takes before (Err error) after
 
 -- the item that a take tells, with its line, if it tells one: without a deadline, until one, and where it heeds the end
 abbrev pub told_item : Result (ℕ × Item) CallError → Option (ℕ × Item)
@@ -181,12 +193,12 @@ pub record AddsPops (before : Joined) (told : Option (ℕ × Item)) (after : Joi
   pub calls : after.pen.mine ≡ before.pen.mine ++ (vain_pop (before.pen.posts + 1) vain ++ taking_pop after.pen.posts told)
 
 -- The same of narrow items, which have one word.
-abbrev pub TakesOne : (before : Joined) (result : Result (ℕ × Item) CallError) (after : Joined) → Type 0
+abbrev pub TakesOne : Wakes → (before : Joined) (result : Result (ℕ × Item) CallError) (after : Joined) → Type 0
 TakesOne = TakesOneBy 1
 
-abbrev pub TakesUntil : (may_tell : Option Instant → Type 0) → Instant → Joined → Result Awaited CallError → Joined → Type 0
+abbrev pub TakesUntil : Wakes → (may_tell : Option Instant → Type 0) → Instant → Joined → Result Awaited CallError → Joined → Type 0
 TakesUntil = TakesUntilBy 1
 
-abbrev pub OrEnds : {A : Type 0} → (Joined → Result A CallError → Joined → Type 0) → Joined → Result (Option A) CallError
+abbrev pub OrEnds : Wakes → {A : Type 0} → (Joined → Result A CallError → Joined → Type 0) → Joined → Result (Option A) CallError
     → Joined → Type 0
 OrEnds = OrEndsBy 1

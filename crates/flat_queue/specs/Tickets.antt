@@ -12,7 +12,7 @@ use Rattle.pq_types.specs.declared.answer.Answer.TheVariants as answer
 use Rattle.pq_types.specs.Entry.{taken}
 use Rattle.pq_types.specs.History.{PutsIn}
 use Rattle.desk_core.specs.declared.model.Standing.TheVariants.{Idle}
-use Rattle.announce_board.specs.Asking.{IsAnswerBy, IsFullFor}
+use Rattle.announce_board.specs.Asking.{IsAnswerBy, IsBarredBy, IsFullFor}
 use Rattle.flat_queue.specs.Limits.{most_posts}
 use Rattle.flat_queue.specs.Members.{Joined}
 use Rattle.flat_queue.specs.Turns.{Misses}
@@ -20,6 +20,7 @@ use Rattle.flat_queue.specs.Calling.{IsEntered, HasPostedOne}
 use Rattle.flat_queue.specs.OwnRequest.{ReleasesOperation, CarriesOutOperationBy}
 use Rattle.flat_queue.specs.declared.error.CallError.{CallError}
 use Rattle.flat_queue.specs.declared.error.CallError.TheVariants.{NoMemory, BookFull, Spent, GaveUp}
+use Rattle.flat_queue.specs.declared.error.CallError.TheVariants as error
 
 -- The leader released the lock with this use of a ticket. Where it was entered, its reply is the item of the entry with this
 -- ticket in the queue that the journal in hand left, as it was there, and Empty where there is none (`MayDo`).
@@ -38,6 +39,7 @@ abbrev pub ended_by_ticket : Answer → Result (ℕ × Option Item) CallError
 ended_by_ticket (Entered number reply) = Ok (number, found_by reply)
 ended_by_ticket answer.BookFull = Err BookFull
 ended_by_ticket answer.NoMemory = Err NoMemory
+ended_by_ticket (answer.Refused why) = Err (error.Refused why)
 
 -- The member carried this use of a ticket out, from the journal in its hand when it released. Items have so many words.
 pub record CarriesOutByTicket (words : ℕ) (ticketed : Ticketed) (before : Joined) (answer : Answer) (after : Joined) : Type 0 where
@@ -45,7 +47,7 @@ pub record CarriesOutByTicket (words : ℕ) (ticketed : Ticketed) (before : Join
   pub fits : IsAnswerBy before.queue.room (ByTicket ticketed) answer
 
 -- What its answer tells: the item that was found, as it was; that it no longer waits; that the journal is full; or, of a move
--- alone, that memory was refused.
+-- alone, that memory was refused; or a refusal by the queue's rules that such a use may get.
 abbrev pub TellsFound : Ticketed → Answer → Type 0
 TellsFound ticketed (Entered number Pushed) = ⊥
 TellsFound ticketed (Entered number (Got x)) = Unit {0}
@@ -53,6 +55,7 @@ TellsFound ticketed (Entered number (LeastIs x)) = ⊥
 TellsFound ticketed (Entered number Empty) = Unit {0}
 TellsFound ticketed answer.BookFull = Unit {0}
 TellsFound ticketed answer.NoMemory = PutsIn (ByTicket ticketed)
+TellsFound ticketed (answer.Refused why) = IsBarredBy (ByTicket ticketed) why
 
 -- the line of this number is this use of a ticket, which found x, or found none
 abbrev pub IsUsed : Ticketed → Joined → ℕ → Option Item → Joined → Type 0
@@ -63,6 +66,8 @@ IsUsed ticketed before number found after = IsEntered before (ByTicket ticketed)
 abbrev pub IsUnused : Ticketed → Joined → CallError → Joined → Type 0
 IsUnused ticketed before NoMemory after = PutsIn (ByTicket ticketed) × HasPostedOne before (Idle None) before.pen.mine after
 IsUnused ticketed before BookFull after = HasPostedOne before (Idle None) before.pen.mine after
+IsUnused ticketed before (error.Refused why) after =
+    IsBarredBy (ByTicket ticketed) why × HasPostedOne before (Idle None) before.pen.mine after
 IsUnused ticketed before Spent after = (most_posts before.queue.room ≤ before.pen.posts) × (after ≡ before)
 IsUnused ticketed before GaveUp after = ⊥
 

@@ -12,7 +12,7 @@ use Rattle.pq_types.specs.declared.answer.Answer.TheVariants.{Entered}
 use Rattle.pq_types.specs.declared.answer.Answer.TheVariants as answer
 use Rattle.pq_types.specs.History.{left}
 use Rattle.leftist_heap.specs.Store.{first_of}
-use Rattle.announce_board.specs.Asking.{IsAnswerTo, IsFullFor}
+use Rattle.announce_board.specs.Asking.{IsAnswerTo, IsBarredBy, IsFullFor}
 use Rattle.flat_queue.specs.Limits.{most_posts}
 use Rattle.flat_queue.specs.Members.{Joined}
 use Rattle.flat_queue.specs.Turns.{Misses}
@@ -20,6 +20,8 @@ use Rattle.flat_queue.specs.Calling.{IsCalled, IsRefused}
 use Rattle.flat_queue.specs.OwnRequest.{CarriesOutBy}
 use Rattle.flat_queue.specs.declared.error.CallError.{CallError}
 use Rattle.flat_queue.specs.declared.error.CallError.TheVariants.{NoMemory, BookFull, Spent}
+use Rattle.flat_queue.specs.declared.error.CallError.TheVariants as error
+use Rattle.pq_types.specs.Operation.{Asked}
 use Rattle.flat_queue.specs.declared.up_to.UpTo.{UpTo as UpToOf}
 use Rattle.flat_queue.specs.declared.up_to.UpTo.TheVariants as up_to
 
@@ -45,6 +47,7 @@ abbrev pub ended_up_to : Answer → Result (ℕ × UpTo) CallError
 ended_up_to (Entered number reply) = Ok (number, told_up_to reply)
 ended_up_to answer.BookFull = Err BookFull
 ended_up_to answer.NoMemory = Err NoMemory
+ended_up_to (answer.Refused why) = Err (error.Refused why)
 
 -- The member carried a request of its own out: the one that the first item of the queue asks for, as the
 -- journal left it that was in its hand when it released. Items have so many words.
@@ -55,7 +58,7 @@ pub record CarriesOutUpToBy (words bound : ℕ) (before : Joined) (answer : Answ
   pub chosen : request ≡ request_up_to bound (first_of (left carries.ready.pen.hand))
 
 -- What its answer tells: an item that was taken out, whose priority is at most the bound; one that stays, whose
--- priority is above it; that there is no item; or that the journal is full.
+-- priority is above it; that there is no item; that the journal is full; or a refusal by the queue's rules that a pop may get.
 abbrev pub TellsUpTo : ℕ → Answer → Type 0
 TellsUpTo bound (Entered number Pushed) = ⊥
 TellsUpTo bound (Entered number (Got x)) = x.priority ≤ bound
@@ -63,6 +66,7 @@ TellsUpTo bound (Entered number (LeastIs x)) = bound < x.priority
 TellsUpTo bound (Entered number Empty) = Unit {0}
 TellsUpTo bound answer.BookFull = Unit {0}
 TellsUpTo bound answer.NoMemory = ⊥
+TellsUpTo bound (answer.Refused why) = IsBarredBy (Asked Pop) why
 
 -- The line of this number is a pop that took x out, whose priority is at most the bound; or a least that
 -- found x first, whose priority is above it; or a pop that found the queue empty.

@@ -9,6 +9,7 @@ ghost use Rattle.announce_board.specs.ItemWords.{drafted_by};
 ghost use Rattle.announce_board.specs.Tokens.{IsLeadOf, is_idle};
 ghost use Rattle.announce_board.specs.Asking.{asked_by, LooksBy};
 ghost use Rattle.announce_board.specs.Serving.{Wins};
+ghost use Rattle.announce_board.specs.Slots.{MeetsTerms};
 ghost use Rattle.flat_queue.specs.Members.{HasRoomForAll, StaysAtPlace, pen_of};
 
 use crate::member::Member;
@@ -63,12 +64,13 @@ impl<S: Store<Entry<P>>, P: Part> Queue<S, P> {
         self.desk.look(&mut member.pen)
     }
 
-    /// The member tries the lock, in one step. `None` where another leads.
+    /// The member tries the lock, in one step. `None` where another leads. The Book of the lead meets the queue's terms.
     pub fn lead(&self, member: &mut Member<S, P>) -> Option<Lead<S, P>>
         requires queue { member.old.queue ≡ self.now }
         ensures stays { StaysAtPlace member.old member.new }
         ensures lead { IfSome result (λ lead. IsLeadOf (pen_of member.new) lead) }
         ensures wins { IfSome result (λ lead. Wins member.old.pen lead.book member.new.pen) }
+        ensures terms { IfSome result (λ lead. MeetsTerms self.now.terms lead.book) }
         ensures misses { IfNone result (member.new.pen ≡ after_miss member.old.pen) }
     {
         self.desk.try_lead(&mut member.pen)
@@ -78,6 +80,7 @@ impl<S: Store<Entry<P>>, P: Part> Queue<S, P> {
     pub fn release(&self, member: &mut Member<S, P>, lead: Lead<S, P>)
         requires queue { member.old.queue ≡ self.now }
         requires lead { IsLeadOf (pen_of member.old) lead }
+        requires terms { MeetsTerms self.now.terms lead.book }
         ensures { member.new ≡ record member.old { pen = after_release member.old.pen } }
     {
         self.desk.release(&mut member.pen, lead);

@@ -3,17 +3,17 @@ ghost use Rattle.std.specs.Prelude.{◌≡◌, ◌≢◌, ◌≤◌, ◌<◌, tr
 ghost use Rattle.std.specs.List.{All};
 ghost use Rattle.pq_types.specs.declared.journal.TheConstants.{GREATEST_NUMBER};
 ghost use Rattle.pq_types.specs.History.{left};
-ghost use Rattle.pq_book.specs.Book.{AllHaveRoom};
+ghost use Rattle.pq_book.specs.Book.{AllHaveRoom, limits_of};
 ghost use Rattle.leftist_heap.specs.Store.{first_of};
 ghost use Rattle.desk_core.specs.Words.{word_number};
+ghost use Rattle.announce_board.specs.Slots.{MeetsTerms};
 ghost use Rattle.announce_board.specs.Tokens.{IsLeadOf, is_idle};
 ghost use Rattle.flat_queue.specs.Members.{HasRoomForAll, pen_of};
 ghost use Rattle.flat_queue.specs.Turns.{FindsLockHeld};
 ghost use Rattle.flat_queue.specs.Batches.{AppliesBatch, ReleasesBatch, CarriesOutBatchBy, MissesThenBatchBy};
-ghost use Rattle.flat_queue.specs.Batches.{EntersTogether, IsBatchShutOut, IsPushAt, IsPop, pushes_of, pops_of, in_one_batch, is_first_due};
+ghost use Rattle.flat_queue.specs.Batches.{EntersTogether, IsPushAt, IsPop, pushes_of, pops_of, in_one_batch, is_first_due};
 ghost use Rattle.flat_queue.specs.Looking.{FindsNext};
 
-use crate::ending::Shut;
 use crate::error::CallError;
 use crate::handle::Handle;
 use crate::looking::{Looked, next_there};
@@ -44,8 +44,8 @@ pub struct Batch {
 #[derive(Clone, Copy, Debug, PartialEq, Eq)]
 pub struct Popped<I = Item> {
     pub batch: Batch,
-    /// What a look finds after it that wants nothing: the first item of those that stay, that none stays, or that the journal is
-    /// full.
+    /// What a look finds after it that wants nothing: the first item of those that stay, that none stays, and whether the queue is
+    /// shut then, or that the journal is full.
     pub next: Looked<I>,
 }
 
@@ -56,8 +56,8 @@ impl<S: Store<Entry<P>>, P: Part> Queue<S, P> {
     /// leaves the rest to its caller. `None` only where it found the lock held: then nothing was done. It wakes nobody: its
     /// caller does, by `owed_wakes` or `wake_owed` of the `waiters`. Takes memory where the store has to grow, and never waits.
     ///
-    /// Refusals, which end the batch: `NoMemory` (9) and `BookFull` (10): the next request has no line. `Spent` (11): no serial
-    /// is left for it.
+    /// Refusals, which end the batch: `NoMemory` (9), `BookFull` (10) and `Refused`, with `Shut` (51) where the queue is shut: the
+    /// next request has no line. `Spent` (11): no serial is left for it.
     pub fn carry_out_pushes(&self, member: &mut Member<S, P>, items: &[Item<P>]) -> Option<Batch>
         requires queue { member.old.queue ≡ self.now }
         requires idle { is_idle member.old.pen.standing ≡ true }
@@ -88,6 +88,7 @@ impl<S: Store<Entry<P>>, P: Part> Queue<S, P> {
     ) -> Batch
         requires queue { member.old.queue ≡ self.now }
         requires lead { IsLeadOf (pen_of member.old) lead }
+        requires terms { MeetsTerms self.now.terms lead.book }
         requires idle { is_idle member.old.pen.standing ≡ true }
         ensures releases { ReleasesBatch member.old (pushes_of (take result.done items.now)) (IsPushAt items.now result.done)
             result member.new }
@@ -106,46 +107,6 @@ impl<S: Store<Entry<P>>, P: Part> Queue<S, P> {
             done,
             first,
             refused,
-        }
-    }
-
-    /// The same; but where the queue is shut it refuses the batch, if there is an item, and releases the lock without it. It
-    /// looks while it has the lock.
-    pub fn carry_out_pushes_unless_shut(
-        &self,
-        member: &mut Member<S, P>,
-        items: &[Item<P>],
-    ) -> Option<Result<Batch, Shut>>
-        requires queue { member.old.queue ≡ self.now }
-        requires idle { is_idle member.old.pen.standing ≡ true }
-        ensures carries { IfSome result (λ told. IfOk told (λ batch. CarriesOutBatchBy (word_number P.wide) member.old
-            (pushes_of (take batch.done items.now)) (IsPushAt items.now batch.done) batch member.new)) }
-        ensures together { IfSome result (λ told. IfOk told (λ batch. EntersTogether member.old
-            (pushes_of (take batch.done items.now)) batch member.new)) }
-        ensures memory { HasRoomForAll S.room self.now
-            → IfSome result (λ told. IfOk told (λ batch. batch.refused ≢ Some CallError.NoMemory)) }
-        ensures within { IfSome result (λ told. IfOk told (λ batch. batch.done ≤ length items.now)) }
-        ensures whole { IfSome result (λ told. IfOk told (λ batch. batch.refused ≡ None
-            → batch.done ≡ in_one_batch (length items.now))) }
-        ensures next { IfSome result (λ told. IfOk told (λ batch. batch.refused ≢ None
-            → batch.done < in_one_batch (length items.now))) }
-        ensures shut { IfSome result (λ told. IfErr told (λ _. IsBatchShutOut member.old member.new)) }
-        ensures held { IfNone result (FindsLockHeld member.old member.new) }
-    {
-        let mut lead = self.lead(member)?;
-        if self.is_shut_for(items) {
-            self.release(member, lead);
-            return Some(Err(Shut));
-        }
-        let served = self.serve_others(member, &mut lead);
-        Some(Ok(self.push_and_release(member, lead, items, served)))
-    }
-
-    // Whether the queue is shut, and there is an item to be pushed.
-    fn is_shut_for(&self, items: &[Item<P>]) -> bool {
-        match items {
-            [] => false,
-            [item, ..] => self.waiters.ending().refuses(&Request::Push(*item)),
         }
     }
 
@@ -195,6 +156,7 @@ impl<S: Store<Entry<P>>, P: Part> Queue<S, P> {
     ) -> Popped<Item<P>>
         requires queue { member.old.queue ≡ self.now }
         requires lead { IsLeadOf (pen_of member.old) lead }
+        requires terms { MeetsTerms self.now.terms lead.book }
         requires idle { is_idle member.old.pen.standing ≡ true }
         ensures slots { length into.new ≡ length into.old }
         ensures releases { ReleasesBatch member.old (pops_of (take result.batch.done into.new)) IsPop result.batch member.new }
@@ -333,8 +295,9 @@ fn push_each<S: Store<Entry<P>>, P: Part>(
     ensures place { pen.new.state.place ≡ pen.old.state.place }
     ensures room { pen.new.state.room ≡ pen.old.state.room }
     ensures lead { IsLeadOf pen.new result.0 }
-    ensures applies { AppliesBatch most (IsPushAt items.now result.1) pen.old.state (pushes_of (take result.1 items.now)) result.2
-        pen.new.state }
+    ensures limits { limits_of result.0.book ≡ limits_of lead.book }
+    ensures applies { AppliesBatch (limits_of lead.book) most (IsPushAt items.now result.1) pen.old.state
+        (pushes_of (take result.1 items.now)) result.2 pen.new.state }
     ensures memory { AllHaveRoom S.room pen.old.state.room → result.2 ≢ Some CallError.NoMemory }
     ensures within { result.1 ≤ length items.now }
     ensures whole { result.2 ≡ None → result.1 ≡ in_one_batch (length items.now) }
@@ -353,6 +316,9 @@ fn push_each<S: Store<Entry<P>>, P: Part>(
             Answer::Entered(_, _) => done += 1,
             Answer::BookFull => return (lead, done, Some(CallError::BookFull)),
             Answer::NoMemory => return (lead, done, Some(CallError::NoMemory)),
+            Answer::Refused(refusal) => {
+                return (lead, done, Some(CallError::Refused(refusal.why())));
+            }
         }
     }
     (lead, done, None)
@@ -376,7 +342,9 @@ fn pop_each<S: Store<Entry<P>>, P: Part>(
     ensures place { pen.new.state.place ≡ pen.old.state.place }
     ensures room { pen.new.state.room ≡ pen.old.state.room }
     ensures lead { IsLeadOf pen.new result.0 }
-    ensures applies { AppliesBatch most IsPop pen.old.state (pops_of (take result.1 into.new)) result.2 pen.new.state }
+    ensures limits { limits_of result.0.book ≡ limits_of lead.book }
+    ensures applies { AppliesBatch (limits_of lead.book) most IsPop pen.old.state (pops_of (take result.1 into.new)) result.2
+        pen.new.state }
     ensures memory { result.2 ≢ Some CallError.NoMemory }
     ensures due { All (λ x. x.priority ≤ P.number priority) (take result.1 into.new) }
     ensures within { result.1 ≤ length into.old }
@@ -400,6 +368,9 @@ fn pop_each<S: Store<Entry<P>>, P: Part>(
             Answer::Entered(_, reply) => reply,
             Answer::BookFull => return (lead, done, Some(CallError::BookFull)),
             Answer::NoMemory => unreachable!(),
+            Answer::Refused(refusal) => {
+                return (lead, done, Some(CallError::Refused(refusal.why())));
+            }
         };
         match reply {
             Reply::Got(item) => {

@@ -6,9 +6,8 @@ ghost use Rattle.flat_queue.specs.Limits.{most_posts};
 ghost use Rattle.flat_queue.specs.Members.{HasRoomForAll};
 ghost use Rattle.flat_queue.specs.Memory.{HasSpareRoom};
 ghost use Rattle.flat_queue.specs.CallSteps.{FitsStage, TriesOnceBy, FindsHeldOnceBy, AsksOnceBy, TurnsOnceBy, CallStepsBy};
-ghost use Rattle.flat_queue.specs.CallSteps.{TriesUnlessShutBy, FindsHeldUnlessShutBy, IsTry, IsForMemory, came_to, answer_of};
+ghost use Rattle.flat_queue.specs.CallSteps.{IsTry, IsForMemory, came_to, answer_of};
 
-use crate::ending::Shut;
 use crate::error::CallError;
 use crate::gate::{Gate, Turn};
 use crate::member::Member;
@@ -22,8 +21,6 @@ use pq_types::{Answer, Item, Part, Reply, Request};
 pub enum CallStage<I = Item> {
     /// It is to carry its request out by itself. Where it finds the lock held it tries so often again, and then posts.
     Tries(Request<I>, u32),
-    /// The same, of a call that heeds the end of its queue: it refuses a push once the queue is shut.
-    TriesUnlessShut(Request<I>, u32),
     /// It has posted, or made a round of its own since: it is to look for its answer, which is there behind a round.
     Looks,
     /// It has posted, and has looked for its answer: it is to look again.
@@ -48,8 +45,6 @@ pub enum Came<I = Item> {
 pub enum CallStepped<I = Item> {
     /// The call is over.
     Ends(Came<I>),
-    /// The call is over: it is a push that heeds the end of its queue, and the queue is shut.
-    IsShut,
     /// It goes on from this stage. Before the next step its caller rests, unless that is to look behind a post or a round.
     Goes(CallStage<I>),
 }
@@ -63,8 +58,6 @@ pub(crate) enum Then {
     TriesAgain,
     /// It has posted its request.
     HasPosted,
-    /// It was to post a push, and the queue is shut.
-    IsShut,
 }
 
 impl<S: Store<Entry<P>>, P: Part> Queue<S, P> {
@@ -87,15 +80,13 @@ impl<S: Store<Entry<P>>, P: Part> Queue<S, P> {
     {
         match stage {
             CallStage::Tries(request, tries) => self.step_trying(member, request, tries, gate),
-            CallStage::TriesUnlessShut(request, tries) => {
-                self.step_unless_shut(member, request, tries, gate)
-            }
             CallStage::Looks | CallStage::Waits => self.step_asking(member, gate),
         }
     }
 
-    /// The idle member tries to carry the request out.
-    pub(crate) fn step_trying<G: Gate>(
+    /// The step of `step_call` at a stage `Tries`: the idle member tries to carry the request out, so many tries before it posts.
+    /// Takes memory for pushes alone.
+    pub fn step_trying<G: Gate>(
         &self,
         member: &mut Member<S, P>,
         request: Request<Item<P>>,
@@ -118,72 +109,8 @@ impl<S: Store<Entry<P>>, P: Part> Queue<S, P> {
                 Then::GivesUp => CallStepped::Ends(Came::Held),
                 Then::TriesAgain => CallStepped::Goes(CallStage::Tries(request, tries - 1)),
                 Then::HasPosted => CallStepped::Goes(CallStage::Looks),
-                Then::IsShut => CallStepped::IsShut,
             },
         }
-    }
-
-    /// The step of `step_call` at a stage `TriesUnlessShut`: the idle member tries to carry the request out. Where the lock is free
-    /// it asks while it has that whether the queue is shut, and then releases it without a push. Takes memory for pushes alone.
-    pub fn step_unless_shut<G: Gate>(
-        &self,
-        member: &mut Member<S, P>,
-        request: Request<Item<P>>,
-        tries: u32,
-        gate: &G,
-    ) -> CallStepped<Item<P>>
-        requires queue { member.old.queue ≡ self.now }
-        requires idle { is_idle member.old.pen.standing ≡ true }
-        ensures tries { TriesUnlessShutBy (word_number P.wide) (G.may_answer gate.now member.old.comer.id) (HasRoomForAll S.room self.now)
-            request tries member.old result member.new }
-        ensures spare { HasSpareRoom S.room member.new.pen.known → ¬ (IsForMemory result) }
-    {
-        if member.posts() >= self.most_posts() {
-            return CallStepped::Ends(Came::Spent);
-        }
-        let asked = request;
-        match self.carry_out_unless_shut(member, asked) {
-            Some(Ok(answer)) => CallStepped::Ends(Came::Answered(answer)),
-            Some(Err(Shut)) => CallStepped::IsShut,
-            None => match self.held_unless_shut(member, request, tries, gate) {
-                Then::GivesUp => CallStepped::Ends(Came::Held),
-                Then::TriesAgain => {
-                    CallStepped::Goes(CallStage::TriesUnlessShut(request, tries - 1))
-                }
-                Then::HasPosted => CallStepped::Goes(CallStage::Looks),
-                Then::IsShut => CallStepped::IsShut,
-            },
-        }
-    }
-
-    // It has found the lock held. A push that it is to post is announced before it asks whether the queue is shut, so that nobody
-    // is told the end meanwhile.
-    #[cold]
-    #[inline(never)]
-    fn held_unless_shut<G: Gate>(
-        &self,
-        member: &mut Member<S, P>,
-        request: Request<Item<P>>,
-        tries: u32,
-        gate: &G,
-    ) -> Then
-        requires queue { member.old.queue ≡ self.now }
-        requires idle { is_idle member.old.pen.standing ≡ true }
-        requires few { member.old.pen.posts < most_posts self.now.room }
-        ensures { FindsHeldUnlessShutBy (word_number P.wide) (G.may_answer gate.now member.old.comer.id)
-            request tries member.old result member.new }
-    {
-        if tries != 0 {
-            return self.step_held(member, request, tries, gate);
-        }
-        let ending = self.waiters.ending();
-        if !ending.begin_post(&request) {
-            return Then::IsShut;
-        }
-        let asked = request;
-        let then = self.step_held(member, asked, tries, gate);
-        ending.end_post(&request);
-        then
     }
 
     // It has found the lock held: unless the gate says to give up it is to try again, or posts. What it does is told in a
@@ -250,9 +177,12 @@ pub(crate) fn end_of<P: Part>(came: Came<Item<P>>) -> Result<(u64, Reply<Item<P>
     ensures { result ≡ came_to came }
 {
     match came {
-        Came::Answered(Answer::Entered(number, reply)) => Ok((number, reply)),
-        Came::Answered(Answer::BookFull) => Err(CallError::BookFull),
-        Came::Answered(Answer::NoMemory) => Err(CallError::NoMemory),
+        Came::Answered(answer) => match answer {
+            Answer::Entered(number, reply) => Ok((number, reply)),
+            Answer::BookFull => Err(CallError::BookFull),
+            Answer::NoMemory => Err(CallError::NoMemory),
+            Answer::Refused(refusal) => Err(CallError::Refused(refusal.why())),
+        },
         Came::Spent => Err(CallError::Spent),
         Came::Held | Came::Posted => Err(CallError::GaveUp),
     }

@@ -83,7 +83,6 @@ impl<S: Store<Entry<P>>, P: Part> Queue<S, P> {
         for _ in rt.forever() {
             match self.step_asking(member, gate) {
                 CallStepped::Ends(came) => return answer_of(came),
-                CallStepped::IsShut => unreachable!(),
                 CallStepped::Goes(stage) => {
                     self.waiters.wake_owed();
                     self.pause_before(rt, stage, &mut rests);
@@ -101,7 +100,7 @@ impl<S: Store<Entry<P>>, P: Part> Queue<S, P> {
         rests: &mut Rest,
     ) {
         match stage {
-            CallStage::Tries(_, _) | CallStage::TriesUnlessShut(_, _) => hint::spin_loop(),
+            CallStage::Tries(_, _) => hint::spin_loop(),
             CallStage::Looks => (),
             CallStage::Waits => rests.rest(rt, self.joined()),
         }
@@ -185,9 +184,12 @@ pub(crate) fn end<P: Part>(
 {
     match answer {
         None => Err(CallError::GaveUp),
-        Some(Answer::Entered(number, reply)) => Ok((number, reply)),
-        Some(Answer::BookFull) => Err(CallError::BookFull),
-        Some(Answer::NoMemory) => Err(CallError::NoMemory),
+        Some(answer) => match answer {
+            Answer::Entered(number, reply) => Ok((number, reply)),
+            Answer::BookFull => Err(CallError::BookFull),
+            Answer::NoMemory => Err(CallError::NoMemory),
+            Answer::Refused(refusal) => Err(CallError::Refused(refusal.why())),
+        },
     }
 }
 

@@ -31,7 +31,6 @@ impl<S: Store<Entry<P>>, P: Part> Queue<S, P> {
             hint: _,
             joined: _,
             waiters: _,
-            backlog: _,
             spare: _,
         } = self;
         grid.close();
@@ -60,7 +59,6 @@ impl<S: Store<Entry<P>>, P: Part> Queue<S, P> {
             hint: _,
             joined: _,
             waiters: _,
-            backlog: _,
             spare: _,
         } = self;
         let Member {
@@ -95,7 +93,6 @@ impl<S: Store<Entry<P>>, P: Part> Queue<S, P> {
             hint: _,
             joined: _,
             waiters: _,
-            backlog: _,
             spare,
         } = self;
         let all = all_of(&desk, members, newcomers, spare.into_licences()).unwrap();

@@ -1,6 +1,7 @@
 // A round: a lead, a whole scan in which every place found is served, and a release.
 ghost use Rattle.std.specs.Prelude.{◌≡◌, ◌+◌, ◌≤◌, IfSome, IfNone};
 ghost use Rattle.split_grid.specs.Opening.{places_of};
+ghost use Rattle.pq_book.specs.Book.{limits_of};
 ghost use Rattle.announce_board.specs.Tokens.{IsLeadOf};
 ghost use Rattle.desk_core.specs.Pen.{after_miss};
 ghost use Rattle.desk_core.specs.Words.{word_number};
@@ -34,6 +35,7 @@ impl<S: Store<Entry<P>>, P: Part> Queue<S, P> {
         requires queue { member.old.queue ≡ self.now }
         requires lead { IsLeadOf (pen_of member.old) lead.old }
         ensures lead { IsLeadOf (pen_of member.new) lead.new }
+        ensures limits { limits_of lead.new.book ≡ limits_of lead.old.book }
         ensures swept { IsSweptBy (word_number P.wide) member.old result.served result.doors member.new }
     {
         let cleared = self.hint.clear();
@@ -76,6 +78,7 @@ fn sweep_places<S: Store<Entry<P>>, P: Part>(
     ensures scanned { IsScanned stopped.old result.doors stopped.new }
     ensures table { pen.new.table ≡ pen.old.table }
     ensures lead { IsLeadOf pen.new lead.new }
+    ensures limits { limits_of lead.new.book ≡ limits_of lead.old.book }
     ensures served { IsServedBy (word_number P.wide) stopped.new.scan.found result.served pen.old.state pen.new.state }
     ensures few { result.served ≤ result.doors }
 {

@@ -3,7 +3,7 @@ ghost use Rattle.std.specs.Prelude.{◌≡◌, Option, None};
 ghost use Rattle.std.specs.declared.time.Instant.{Instant};
 ghost use Rattle.flat_queue.specs.Taking.{MayEnd};
 
-use crate::event_count::{EventCount, Wakes};
+use crate::event_count::EventCount;
 use crate::take_steps::Left;
 use crate::time_source::TimeSource;
 use std::sync::Wait;
@@ -22,7 +22,7 @@ pub trait Deadline {
         ensures { result.0 ≡ Left.Nothing → may_end self.now result.1 };
 
     /// Sleeps while the count of events is this one, and until then at most.
-    fn sleep<R: Wait>(&self, rt: &R, waiters: &EventCount, seen: u64, wakes: Wakes);
+    fn sleep<R: Wait>(&self, rt: &R, waiters: &EventCount, seen: u64);
 }
 
 /// A deadline that never comes.
@@ -36,8 +36,8 @@ impl Deadline for Never {
         (Left::Enough, None)
     }
 
-    fn sleep<R: Wait>(&self, rt: &R, waiters: &EventCount, seen: u64, wakes: Wakes) {
-        waiters.sleep(rt, seen, wakes);
+    fn sleep<R: Wait>(&self, rt: &R, waiters: &EventCount, seen: u64) {
+        waiters.sleep(rt, seen);
     }
 }
 
@@ -65,7 +65,7 @@ impl<'c, C: Wait + TimeSource> Deadline for By<'c, C> {
         (Left::Nothing, Some(now))
     }
 
-    fn sleep<R: Wait>(&self, _rt: &R, waiters: &EventCount, seen: u64, wakes: Wakes) {
-        waiters.sleep_until(self.clock, seen, wakes, self.at);
+    fn sleep<R: Wait>(&self, _rt: &R, waiters: &EventCount, seen: u64) {
+        waiters.sleep_until(self.clock, seen, self.at);
     }
 }

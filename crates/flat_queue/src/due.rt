@@ -2,7 +2,7 @@
 ghost use Rattle.std.specs.Prelude.{◌≡◌, ℕ, ◌^◌, ◌<◌, ◌↔◌, true, Ok, Some, None, IsSome};
 ghost use Rattle.desk_core.specs.Words.{word_number};
 ghost use Rattle.announce_board.specs.Tokens.{is_idle};
-ghost use Rattle.flat_queue.specs.declared.event_count.Wakes.TheVariants.{EventOrEnd};
+ghost use Rattle.flat_queue.specs.declared.event_count.Wakes.TheVariants.{Event, EventOrEnd};
 ghost use Rattle.flat_queue.specs.Looking.{IsWanted};
 ghost use Rattle.flat_queue.specs.Due.{HasCome, IsDueAt, TakesDueBy, TakesDueOrEndsBy};
 ghost use Rattle.flat_queue.specs.DueSteps.{IsLook, IsShort, due_by};
@@ -64,7 +64,7 @@ impl<S: Store<Entry<P>>, P: Part> Queue<S, P> {
     ) -> Result<Due<Item<P>>, CallError>
         requires queue { member.old.queue ≡ self.now }
         requires idle { is_idle member.old.pen.standing ≡ true }
-        ensures { TakesDueBy (word_number P.wide) (R.may_tell rt.now) times deadline member.old result member.new }
+        ensures { TakesDueBy (word_number P.wide) Event (R.may_tell rt.now) times deadline member.old result member.new }
     {
         let call = DueCall {
             times,
@@ -78,8 +78,8 @@ impl<S: Store<Entry<P>>, P: Part> Queue<S, P> {
         }
     }
 
-    /// The same, but no longer than to the end of the queue, as `take_or_end`: `None` where no item is left then. What is left
-    /// there it waits for.
+    /// The same, but no longer than to the end of the queue, as `take_or_end`: `None` exactly where a look found the queue shut, and
+    /// no item, also where the deadline has come by then. What is left there it waits for.
     pub fn take_due_or_end<R: Wait + TimeSource>(
         &self,
         rt: &R,
@@ -89,7 +89,7 @@ impl<S: Store<Entry<P>>, P: Part> Queue<S, P> {
     ) -> Result<Option<Due<Item<P>>>, CallError>
         requires queue { member.old.queue ≡ self.now }
         requires idle { is_idle member.old.pen.standing ≡ true }
-        ensures { TakesDueOrEndsBy (word_number P.wide) (R.may_tell rt.now) times deadline member.old result member.new }
+        ensures { TakesDueOrEndsBy (word_number P.wide) EventOrEnd (R.may_tell rt.now) times deadline member.old result member.new }
     {
         let call = DueCall {
             times,
@@ -109,7 +109,7 @@ impl<S: Store<Entry<P>>, P: Part> Queue<S, P> {
     ) -> Result<Option<Due<Item<P>>>, CallError>
         requires queue { member.old.queue ≡ self.now }
         requires idle { is_idle member.old.pen.standing ≡ true }
-        ensures takes { TakesDueOrEndsBy (word_number P.wide) (R.may_tell rt.now) call.times call.deadline member.old result member.new }
+        ensures takes { TakesDueOrEndsBy (word_number P.wide) call.wakes (R.may_tell rt.now) call.times call.deadline member.old result member.new }
         ensures heeds { result ≡ Ok None → call.wakes ≡ EventOrEnd }
     {
         let mut rests = member.rest().of_tries();
@@ -134,7 +134,7 @@ impl<S: Store<Entry<P>>, P: Part> Queue<S, P> {
         unreachable!()
     }
 
-    // What its caller does before a step of such a call at this stage. While an item is there the end doesn't come.
+    // What its caller does before a step of such a call at this stage.
     fn pause_before_due<R: Wait + TimeSource>(
         &self,
         rt: &R,
@@ -148,11 +148,9 @@ impl<S: Store<Entry<P>>, P: Part> Queue<S, P> {
             DueStage::Sleeps(seen, Some(item)) => {
                 let due_at = call.times.due_at(item.priority.as_u64());
                 let until = sooner(due_at, call.deadline);
-                self.waiters.sleep_to(rt, seen, Wakes::Event, until);
+                self.waiters.sleep_to(rt, seen, until);
             }
-            DueStage::Sleeps(seen, None) => {
-                self.waiters.sleep_to(rt, seen, call.wakes, call.deadline);
-            }
+            DueStage::Sleeps(seen, None) => self.waiters.sleep_to(rt, seen, call.deadline),
         }
     }
 
@@ -258,7 +256,7 @@ impl<'q, S: Store<Entry<P>>, P: Part> Handle<'q, S, P> {
         times: Times,
         deadline: Option<Instant>,
     ) -> Result<Due<Item<P>>, CallError>
-        ensures { TakesDueBy (word_number P.wide) (R.may_tell rt.now) times deadline self.old result self.new }
+        ensures { TakesDueBy (word_number P.wide) Event (R.may_tell rt.now) times deadline self.old result self.new }
     {
         self.queue.take_due(rt, &mut self.member, times, deadline)
     }
@@ -270,7 +268,7 @@ impl<'q, S: Store<Entry<P>>, P: Part> Handle<'q, S, P> {
         times: Times,
         deadline: Option<Instant>,
     ) -> Result<Option<Due<Item<P>>>, CallError>
-        ensures { TakesDueOrEndsBy (word_number P.wide) (R.may_tell rt.now) times deadline self.old result self.new }
+        ensures { TakesDueOrEndsBy (word_number P.wide) EventOrEnd (R.may_tell rt.now) times deadline self.old result self.new }
     {
         self.queue
             .take_due_or_end(rt, &mut self.member, times, deadline)

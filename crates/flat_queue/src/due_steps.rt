@@ -3,7 +3,7 @@ ghost use Rattle.std.specs.Prelude.{◌≡◌, true};
 ghost use Rattle.desk_core.specs.Words.{word_number};
 ghost use Rattle.announce_board.specs.Tokens.{is_idle};
 ghost use Rattle.flat_queue.specs.declared.event_count.Wakes.TheVariants.{EventOrEnd};
-ghost use Rattle.flat_queue.specs.DueSteps.{SightsOnceBy};
+ghost use Rattle.flat_queue.specs.DueSteps.{SightsOnceBy, empty_step};
 
 use crate::error::CallError;
 use crate::event_count::Wakes;
@@ -31,8 +31,6 @@ pub struct DueNow {
 pub struct DueLook {
     /// The count of events.
     pub seen: u64,
-    /// Whether the queue was over before it was announced.
-    pub is_last: bool,
     /// Whether its call has slept: then it may have got a wake, and hands one on.
     pub has_slept: bool,
 }
@@ -61,7 +59,7 @@ pub enum DueTook<I = Item> {
     Nothing,
     /// The deadline has come while another held the lock.
     Held,
-    /// The queue is over, and there was no item.
+    /// The queue is shut, and no item was left.
     Over,
 }
 
@@ -88,15 +86,12 @@ impl<S: Store<Entry<P>>, P: Part> Queue<S, P> {
     ) -> DueStepped<Item<P>>
         requires queue { member.old.queue ≡ self.now }
         requires idle { is_idle member.old.pen.standing ≡ true }
-        ensures steps { SightsOnceBy (word_number P.wide) (now.left ≡ Left.Nothing) now.wanted member.old result member.new }
+        ensures steps { SightsOnceBy (word_number P.wide) now.wakes (now.left ≡ Left.Nothing) now.wanted member.old result member.new }
         ensures heeds { result ≡ DueStepped.Ends DueTook.Over → now.wakes ≡ EventOrEnd }
     {
         match stage {
             DueStage::Announces => self.step_awaiting(member, now, false),
-            DueStage::Looks(look) => {
-                let is_last = look.is_last && matches!(now.wakes, Wakes::EventOrEnd);
-                self.step_sighting(member, now, DueLook { is_last, ..look })
-            }
+            DueStage::Looks(look) => self.step_sighting(member, now, look),
             DueStage::Sleeps(_, _) => {
                 self.waiters.end_wait();
                 self.step_awaiting(member, now, true)
@@ -113,7 +108,7 @@ impl<S: Store<Entry<P>>, P: Part> Queue<S, P> {
         self.waiters.count(1);
     }
 
-    // It announces itself, and looks. Whether the queue is over is asked before: where it is, the look is the last one.
+    // It announces itself, and looks.
     fn step_awaiting(
         &self,
         member: &mut Member<S, P>,
@@ -122,17 +117,11 @@ impl<S: Store<Entry<P>>, P: Part> Queue<S, P> {
     ) -> DueStepped<Item<P>>
         requires queue { member.old.queue ≡ self.now }
         requires idle { is_idle member.old.pen.standing ≡ true }
-        ensures steps { SightsOnceBy (word_number P.wide) (now.left ≡ Left.Nothing) now.wanted member.old result member.new }
+        ensures steps { SightsOnceBy (word_number P.wide) now.wakes (now.left ≡ Left.Nothing) now.wanted member.old result member.new }
         ensures heeds { result ≡ DueStepped.Ends DueTook.Over → now.wakes ≡ EventOrEnd }
     {
-        let is_last = self.waiters.is_over(now.wakes);
         let seen = self.waiters.begin_wait();
-        let look = DueLook {
-            seen,
-            is_last,
-            has_slept,
-        };
-        self.step_sighting(member, now, look)
+        self.step_sighting(member, now, DueLook { seen, has_slept })
     }
 
     // It is announced, and looks. One that leaves an item there, is refused, or goes where it found the lock held, hands a wake on,
@@ -145,8 +134,8 @@ impl<S: Store<Entry<P>>, P: Part> Queue<S, P> {
     ) -> DueStepped<Item<P>>
         requires queue { member.old.queue ≡ self.now }
         requires idle { is_idle member.old.pen.standing ≡ true }
-        ensures steps { SightsOnceBy (word_number P.wide) (now.left ≡ Left.Nothing) now.wanted member.old result member.new }
-        ensures last { result ≡ DueStepped.Ends DueTook.Over → look.is_last ≡ true }
+        ensures steps { SightsOnceBy (word_number P.wide) now.wakes (now.left ≡ Left.Nothing) now.wanted member.old result member.new }
+        ensures heeds { result ≡ DueStepped.Ends DueTook.Over → now.wakes ≡ EventOrEnd }
     {
         if member.posts() >= self.most_posts() {
             return self.end_due(DueTook::Refused(CallError::Spent), true);
@@ -163,12 +152,25 @@ impl<S: Store<Entry<P>>, P: Part> Queue<S, P> {
                 Left::Nothing => self.end_due(DueTook::Later(item), true),
                 Left::Enough => DueStepped::Goes(DueStage::Sleeps(look.seen, Some(item))),
             },
-            Some(Looked::Nothing) => match now.left {
-                Left::Nothing => self.end_due(DueTook::Nothing, false),
-                Left::Enough if look.is_last => self.end_due(DueTook::Over, false),
-                Left::Enough => DueStepped::Goes(DueStage::Sleeps(look.seen, None)),
+            Some(Looked::Nothing) => self.step_empty(now.left, look.seen),
+            Some(Looked::Over) => match now.wakes {
+                Wakes::EventOrEnd => self.end_due(DueTook::Over, false),
+                Wakes::Event => self.step_empty(now.left, look.seen),
             },
             Some(Looked::BookFull) => self.end_due(DueTook::Refused(CallError::BookFull), true),
+            Some(Looked::Refused(refusal)) => {
+                self.end_due(DueTook::Refused(CallError::Refused(refusal)), true)
+            }
+        }
+    }
+
+    // Its look found no item, and that is no end to it: it sleeps, or ends where the deadline has come.
+    fn step_empty(&self, left: Left, seen: u64) -> DueStepped<Item<P>>
+        ensures { result ≡ empty_step left seen }
+    {
+        match left {
+            Left::Nothing => self.end_due(DueTook::Nothing, false),
+            Left::Enough => DueStepped::Goes(DueStage::Sleeps(seen, None)),
         }
     }
 

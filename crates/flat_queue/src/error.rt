@@ -1,10 +1,9 @@
-// Why there is no queue, why a call has no reply, and why a push was not made.
+// Why there is no queue, and why a call has no reply.
 ghost use Rattle.std.specs.Prelude.{◌≡◌};
-ghost use Rattle.flat_queue.specs.Calling.{call_code};
-ghost use Rattle.flat_queue.specs.Ending.{push_code};
+ghost use Rattle.flat_queue.specs.Calling.{call_code, refusal_code};
 ghost use Rattle.flat_queue.specs.Opening.{queue_code};
 
-use crate::ending::Shut;
+use pq_types::Refusal;
 use split_core::ids::IdError;
 use thiserror::Error;
 
@@ -35,6 +34,20 @@ impl QueueError {
     }
 }
 
+/// Why an archive was not brought up to date.
+#[derive(Clone, Copy, Debug, PartialEq, Eq, Error)]
+pub enum ArchiveError {
+    /// The first line that it lacks is forgotten.
+    #[error("lines forgotten")]
+    Forgotten,
+    /// Memory for the lines was refused.
+    #[error("no memory")]
+    NoMemory,
+    /// It is said to have more lines than the journal has.
+    #[error("more lines than the journal has")]
+    Ahead,
+}
+
 /// Why a call has no reply.
 #[derive(Clone, Copy, Debug, PartialEq, Eq, Error)]
 pub enum CallError {
@@ -52,10 +65,15 @@ pub enum CallError {
     /// finds its answer.
     #[error("gave up")]
     GaveUp,
+    /// The queue's rules refuse it. It is a push, or a shut, and the queue is shut; it is a push, and the queue has
+    /// as many items as its bound; or its line would have memory forget one that is not archived. It has no
+    /// line, and the member is idle.
+    #[error("refused by the queue's rules")]
+    Refused(Refusal),
 }
 
 impl CallError {
-    /// The number of this refusal: 9 to 12.
+    /// The number of this refusal: 9 to 12, or 51 to 53.
     pub fn code(&self) -> u32
         ensures { result ≡ call_code self.now }
     {
@@ -64,29 +82,18 @@ impl CallError {
             CallError::BookFull => 10,
             CallError::Spent => 11,
             CallError::GaveUp => 12,
+            CallError::Refused(refusal) => refusal_code(*refusal),
         }
     }
 }
 
-/// Why an item was not pushed by one who heeds the end of its queue.
-#[derive(Clone, Copy, Debug, PartialEq, Eq, Error)]
-pub enum PushError {
-    /// The queue is shut. Nothing was done.
-    #[error(transparent)]
-    Shut(Shut),
-    /// The call was refused.
-    #[error(transparent)]
-    Call(CallError),
-}
-
-impl PushError {
-    /// The number of this refusal: 51, or that of the call's.
-    pub fn code(&self) -> u32
-        ensures { result ≡ push_code self.now }
-    {
-        match self {
-            PushError::Shut(shut) => shut.code(),
-            PushError::Call(error) => error.code(),
-        }
+// The number of a refusal by the queue's rules.
+fn refusal_code(refusal: Refusal) -> u32
+    ensures { result ≡ refusal_code refusal }
+{
+    match refusal {
+        Refusal::Shut => 51,
+        Refusal::Unarchived => 52,
+        Refusal::Full => 53,
     }
 }

@@ -1,8 +1,4 @@
 // An event count, by which those who wait for an item sleep until there may be one.
-ghost use Rattle.std.specs.Prelude.{◌≡◌, true};
-ghost use Rattle.flat_queue.specs.declared.event_count.Wakes.TheVariants.{EventOrEnd};
-
-use crate::ending::Ending;
 use crate::time_source::TimeSource;
 use announce_board::Lead;
 use leftist_heap::Store;
@@ -12,18 +8,14 @@ use std::sync::Wait;
 use std::sync::atomic::{AtomicU64, Ordering};
 use std::time::{Duration, Instant};
 
-/// What wakes one that sleeps until there may be an item.
+/// What ends a wait for an item that doesn't come.
 #[derive(Clone, Copy)]
 pub enum Wakes {
-    /// An event.
+    /// Nothing: where the queue is shut and no item is left, it waits on.
     Event,
-    /// An event, or the end of its queue.
+    /// The end of its queue.
     EventOrEnd,
 }
-
-// For how many microseconds one naps at a time at a queue that is shut, while somebody is posting a push: where that is
-// refused it is no event.
-const NAP: u64 = 50;
 
 /// Counts what may end a wait for an item. Whoever found none announces itself, looks once more, and sleeps only while
 /// the count stands; whoever leads counts an event behind the pushes that it carried out, where anybody is announced,
@@ -35,8 +27,7 @@ pub struct EventCount {
     before: [u64; 8],
     waiters: AtomicU64,
     owed: AtomicU64,
-    ending: Ending,
-    between: [u64; 7],
+    between: [u64; 8],
     events: AtomicU64,
     after: [u64; 8],
 }
@@ -48,8 +39,7 @@ impl EventCount {
             before: [0; 8],
             waiters: AtomicU64::new(0),
             owed: AtomicU64::new(0),
-            ending: Ending::new(),
-            between: [0; 7],
+            between: [0; 8],
             events: AtomicU64::new(0),
             after: [0; 8],
         }
@@ -62,92 +52,45 @@ impl EventCount {
         self.events.load(Ordering::SeqCst)
     }
 
-    /// Whether its queue is shut, and nobody pushes any more.
-    pub fn ending(&self) -> &Ending {
-        &self.ending
-    }
-
-    /// Shuts its queue, and counts an event for all. Who sleeps is woken by `wake_owed` thereafter.
-    pub fn shut(&self) {
-        self.ending.shut();
-        self.count(u64::MAX);
-    }
-
     /// Ends what `begin_wait` began.
     pub fn end_wait(&self) {
         self.waiters.fetch_sub(1, Ordering::SeqCst);
     }
 
-    /// Sleeps while the count is this one; and where the end of its queue wakes too, not once that is over. `shut` counts an
-    /// event for all who are announced and see the queue open, so that they need not look for it while they sleep.
-    pub fn sleep<R: Wait>(&self, rt: &R, seen: u64, wakes: Wakes) {
+    /// Sleeps while the count is this one. A shut is an event for all who are announced.
+    pub fn sleep<R: Wait>(&self, rt: &R, seen: u64) {
         for _ in rt.forever() {
-            if self.is_woken(seen, wakes) {
+            if self.has_counted(seen) {
                 break;
             }
-            match self.nap(wakes) {
-                Some(nap) => self.events.park_timeout(rt, low_half(seen), nap),
-                None => self.events.park(rt, low_half(seen)),
-            }
+            self.events.park(rt, low_half(seen));
         }
     }
 
     /// The same, until this moment at most, where there is one.
-    pub(crate) fn sleep_to<R: Wait + TimeSource>(
-        &self,
-        rt: &R,
-        seen: u64,
-        wakes: Wakes,
-        until: Option<Instant>,
-    ) {
+    pub(crate) fn sleep_to<R: Wait + TimeSource>(&self, rt: &R, seen: u64, until: Option<Instant>) {
         match until {
-            Some(until) => self.sleep_until(rt, seen, wakes, until),
-            None => self.sleep(rt, seen, wakes),
+            Some(until) => self.sleep_until(rt, seen, until),
+            None => self.sleep(rt, seen),
         }
     }
 
     /// The same, until this moment at most, or until the clock can't be read.
-    pub fn sleep_until<R: Wait + TimeSource>(
-        &self,
-        rt: &R,
-        seen: u64,
-        wakes: Wakes,
-        deadline: Instant,
-    ) {
+    pub fn sleep_until<R: Wait + TimeSource>(&self, rt: &R, seen: u64, deadline: Instant) {
         for _ in rt.forever() {
-            if self.is_woken(seen, wakes) {
+            if self.has_counted(seen) {
                 break;
             }
             let Some(left) = left_until(rt, deadline) else {
                 break;
             };
-            let longest = match self.nap(wakes) {
-                Some(nap) => left.min(nap),
-                None => left,
-            };
-            self.events.park_timeout(rt, low_half(seen), longest);
+            self.events.park_timeout(rt, low_half(seen), left);
         }
     }
 
-    /// Whether the queue is over, asked by one that heeds that. Asked before a look that serves who has posted: nothing is left
-    /// where this finds no item; `tests/tools/last_look.py` is a model of it.
-    pub(crate) fn is_over(&self, wakes: Wakes) -> bool
-        ensures { result ≡ true → wakes ≡ EventOrEnd }
-    {
-        matches!(wakes, Wakes::EventOrEnd) && self.ending.is_over()
-    }
-
-    // Whether anything has been counted since, or the queue is over where that wakes too.
-    fn is_woken(&self, seen: u64, wakes: Wakes) -> bool {
-        self.events.load(Ordering::SeqCst) != seen || self.is_over(wakes)
-    }
-
-    // How long it naps in place of a sleep, where the end may come without an event.
-    fn nap(&self, wakes: Wakes) -> Option<Duration> {
-        match wakes {
-            Wakes::EventOrEnd if self.ending.is_shut() => Some(Duration::from_micros(NAP)),
-            _ => None,
-        }
+    // Whether anything has been counted since.
+    fn has_counted(&self, seen: u64) -> bool {
+        self.events.load(Ordering::SeqCst) != seen
     }
 
     // Whether anybody is announced.
@@ -193,6 +136,14 @@ impl EventCount {
         if self.is_awaited() {
             let puts_in = moves && matches!(answer, Answer::Entered(_, Reply::Got(_)));
             self.count(wakes_behind(puts_in, answer, room));
+        }
+    }
+
+    /// The same with a shut: an event for all, where it was entered, or the journal has no line left.
+    pub(crate) fn count_shut<P: Part>(&self, answer: &Answer<Item<P>>) {
+        match answer {
+            Answer::Entered(_, _) | Answer::BookFull => self.count(u64::MAX),
+            Answer::NoMemory | Answer::Refused(_) => (),
         }
     }
 
@@ -249,7 +200,7 @@ fn low_half(seen: u64) -> u32 {
 fn wakes_behind<P: Part>(puts_in: bool, answer: &Answer<Item<P>>, room: u64) -> u64 {
     match answer {
         Answer::BookFull => u64::MAX,
-        Answer::NoMemory => 0,
+        Answer::NoMemory | Answer::Refused(_) => 0,
         Answer::Entered(number, _) if *number >= room => u64::MAX,
         Answer::Entered(_, _) => u64::from(puts_in),
     }

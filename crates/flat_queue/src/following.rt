@@ -4,6 +4,7 @@ ghost use Rattle.std.specs.Prelude.{◌≡◌, ◌+◌, ◌≤◌, IfSome, IfNon
 ghost use Rattle.split_core.specs.TrailReads.{OnWay};
 ghost use Rattle.split_core.specs.Trail.{Trail as TrailScan};
 ghost use Rattle.split_grid.specs.Opening.{places_of};
+ghost use Rattle.pq_book.specs.Book.{limits_of};
 ghost use Rattle.announce_board.specs.Tokens.{IsLeadOf};
 ghost use Rattle.desk_core.specs.Pen.{after_miss};
 ghost use Rattle.desk_core.specs.Words.{word_number};
@@ -32,6 +33,7 @@ impl<S: Store<Entry<P>>, P: Part> Queue<S, P> {
         requires queue { member.old.queue ≡ self.now }
         requires lead { IsLeadOf (pen_of member.old) lead.old }
         ensures lead { IsLeadOf (pen_of member.new) lead.new }
+        ensures limits { limits_of lead.new.book ≡ limits_of lead.old.book }
         ensures swept { IsTrailSweptBy (word_number P.wide) member.old result.served result.doors member.new }
     {
         let cleared = self.hint.clear();
@@ -75,6 +77,7 @@ fn follow_places<S: Store<Entry<P>>, P: Part>(
     ensures still { stopped.new ≡ record stopped.old { looks = stopped.new.looks } }
     ensures table { pen.new.table ≡ pen.old.table }
     ensures lead { IsLeadOf pen.new lead.new }
+    ensures limits { limits_of lead.new.book ≡ limits_of lead.old.book }
     ensures served { IsFollowedBy (word_number P.wide) stopped.old stopped.new result.served result.doors pen.old.state
         pen.new.state }
 {

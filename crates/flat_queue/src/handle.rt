@@ -10,6 +10,7 @@ ghost use Rattle.desk_core.specs.Words.{word_number};
 ghost use Rattle.announce_board.specs.Tokens.{IsLeadOf, is_idle};
 ghost use Rattle.announce_board.specs.Asking.{asked_by, IsFullFor};
 ghost use Rattle.announce_board.specs.Serving.{Wins};
+ghost use Rattle.announce_board.specs.Slots.{MeetsTerms};
 ghost use Rattle.flat_queue.specs.declared.gate.Turn.TheVariants.{GiveUp};
 ghost use Rattle.flat_queue.specs.Members.{Joins, HasRoomForAll, StaysAtPlace, pen_of};
 ghost use Rattle.flat_queue.specs.Calling.{MakesCall, PostsAndWaitsBy, WaitsForBy, popped, found_first};
@@ -24,7 +25,7 @@ ghost use Rattle.flat_queue.specs.Sweeping.{MakesRoundBy};
 ghost use Rattle.flat_queue.specs.TrailSweeping.{MakesTrailRoundBy};
 
 use crate::combining::Round;
-use crate::error::CallError;
+use crate::error::{ArchiveError, CallError};
 use crate::gate::Gate;
 use crate::member::{Member, Newcomer};
 use crate::pending::{Called, Pending};
@@ -32,16 +33,16 @@ use crate::queue::Queue;
 use crate::up_to::UpTo;
 use announce_board::Lead;
 use leftist_heap::Store;
-use pq_book::{Entry, LinesError};
+use pq_book::Entry;
 use pq_types::{Item, Line, Part, Reply, Request};
 use std::alloc::Allocator;
 use std::marker::Model;
 use std::sync::Wait;
 
 /// An idle member at its queue, which it can't be taken from: so its calls are told no queue, and a
-/// loop of them has no more to prove than what it is for. It goes from thread to thread. Its calls go
-/// on at a queue that is shut, but for `push_unless_shut` and the takes that heed the end. A
-/// contract sees of it what it sees of its member.
+/// loop of them has no more to prove than what it is for. It goes from thread to thread. At a queue that
+/// is shut its pushes are refused, and the takes that heed the end return once nothing is left; its
+/// other calls go on. A contract sees of it what it sees of its member.
 #[derive(Drop)]
 pub struct Handle<'q, S: Store<Entry<P>>, P: Part = u32> {
     pub(crate) queue: &'q Queue<S, P>,
@@ -116,7 +117,7 @@ impl<'q, S: Store<Entry<P>>, P: Part> Handle<'q, S, P> {
     /// Puts an item into the queue, as `Queue::push` does: the number of the push's journal line, which is the item's ticket. It
     /// enters at once where it finds the lock free, else it waits, and it takes memory where the store
     /// has to grow. Refusals: `NoMemory` (9), but never over stores that all have room for as many
-    /// items as the journal has lines, `BookFull` (10), `Spent` (11).
+    /// items as the journal has lines, `BookFull` (10), `Spent` (11), `Refused(Shut)` (51) where the queue is shut.
     pub fn push<R: Wait>(&mut self, rt: &R, item: Item<P>) -> Result<u64, CallError>
         ensures { MakesCall (EntersOrWaitsBy (word_number P.wide)) (λ number. (number, Pushed))
             (HasRoomForAll S.room self.old.queue) self.old (Push item) result self.new }
@@ -235,14 +236,14 @@ impl<'q, S: Store<Entry<P>>, P: Part> Handle<'q, S, P> {
         self.queue.settle(&mut self.member)
     }
 
-    /// Brings an archive of the journal, which has so many lines of it already, up to date, as
-    /// `Queue::archive` does: how many lines the journal has. `None` only where it found the lock held.
+    /// Says that the first so many lines of the journal are archived, and brings the archive, which has these already, up to
+    /// date, as `Queue::archive` does: how many lines the journal has. `None` only where it found the lock held.
     /// Takes memory for the archive alone, and never waits.
     pub fn archive<B: Allocator>(
         &mut self,
         archived: u64,
         archive: &mut Vec<Line<P>, B>,
-    ) -> Option<Result<u64, LinesError>>
+    ) -> Option<Result<u64, ArchiveError>>
         ensures queue { self.new.queue ≡ self.old.queue }
         ensures settles { IfSome result (λ _. Settles self.old (length self.new.pen.known) self.new) }
         ensures archives { IfSome result
@@ -285,6 +286,7 @@ impl<'q, S: Store<Entry<P>>, P: Part> Handle<'q, S, P> {
         ensures stays { StaysAtPlace self.old self.new }
         ensures lead { IfSome result (λ lead. IsLeadOf (pen_of self.new) lead) }
         ensures wins { IfSome result (λ lead. Wins self.old.pen lead.book self.new.pen) }
+        ensures terms { IfSome result (λ lead. MeetsTerms self.old.queue.terms lead.book) }
         ensures misses { IfNone result (self.new.pen ≡ after_miss self.old.pen) }
     {
         self.queue.lead(&mut self.member)
@@ -293,6 +295,7 @@ impl<'q, S: Store<Entry<P>>, P: Part> Handle<'q, S, P> {
     /// Puts the Book home and then frees the lock, in one step. Takes no memory, and never waits.
     pub fn release(&mut self, lead: Lead<S, P>)
         requires lead { IsLeadOf (pen_of self.old) lead }
+        requires terms { MeetsTerms self.old.queue.terms lead.book }
         ensures { self.new ≡ record self.old { pen = after_release self.old.pen } }
     {
         self.queue.release(&mut self.member, lead);

@@ -6,8 +6,11 @@
 //! - `Queue::new` and `Queue::with_store` open a queue for the comers of some ids, or tell which of
 //!   the refusals comes first: the ids, the lines, the memory. There is a newcomer for each id, in
 //!   order.
-//! - `Queue::wide`, `wide_with_store`, `wide_lasting` and `wide_keeping` open one of wide items, whose parts are numbers of
-//!   64 bits, as `new`, `with_store`, `lasting` and `keeping` do of narrow ones. All other calls are the same of either width.
+//! - `Queue::wide`, `wide_with_store` and `wide_lasting` open one of wide items, whose parts are numbers of 64 bits, as `new`,
+//!   `with_store` and `lasting` do of narrow ones. All other calls are the same of either width.
+//! - `Queue::limited` opens one of either width with a journal of any `Length`, and with a bound, if it is to have one: the most
+//!   items that pushes may leave. Bound and length are the terms of its desk. By them the Book refuses under the lock, and
+//!   nothing outside the lock decides it.
 //! - `Queue::join` and `Queue::join_step` take a newcomer down the grid. The member has the pen of
 //!   the place where it stopped: idle, with no posts and no calls.
 //! - `Queue::draft`, `post`, `look`, `lead` and `release` are the steps of a member at its own
@@ -20,6 +23,8 @@
 //! - `Queue::sweep_trail` and `Queue::try_trail_round` do the same by a trail scan, which reads only the
 //!   doors of the places to which closed doors have led it. The rounds that calls make are these.
 //! - `Queue::settle` leads without a sweep, and tells how many lines the journal has.
+//! - `Queue::archive` leads so too. It says how many lines are archived, so that the journal may have as many more as memory
+//!   keeps, and copies the lines that come next. One that says more lines than the journal has is refused, and nothing changes.
 //! - `Queue::try_call` carries a member's own request out where it finds the lock free, and posts
 //!   nothing: it leads, serves the others where a hint says that somebody has posted, and releases
 //!   the lock with its request. `None` only where it found the lock held. `Queue::carry_out` does so and wakes nobody,
@@ -40,12 +45,11 @@
 //!   ticket. Both wait until they have the lock, and post nothing; `Queue::carry_out_by_ticket` does so where it finds the lock
 //!   free, and wakes nobody.
 //! - `Queue::count_items` counts the items under the lock, those that wait and the most that waited at once, and makes no
-//!   request. `Queue::carry_out_push_within` pushes only while the queue has fewer items than a bound: it is refused exactly
-//!   where as many are there.
+//!   request.
 //! - `Queue::push_all` puts many items into the queue under one lock, and `Queue::pop_all_up_to` takes many out that are due
 //!   at a bound: their lines stand together in the journal. Each makes at most `MOST_BATCH` requests, waits until it
-//!   has the lock, and tells how many were entered and what refused the next. `Queue::carry_out_pushes`,
-//!   `carry_out_pushes_unless_shut` and `carry_out_pops` do so where they find the lock free, and wake nobody.
+//!   has the lock, and tells how many were entered and what refused the next. `Queue::carry_out_pushes` and
+//!   `carry_out_pops` do so where they find the lock free, and wake nobody.
 //! - `Queue::take` pops, and where that is in vain looks by `take_first` until it got an item, and sleeps behind each look in
 //!   vain until somebody has pushed; `Queue::take_until` does so until a deadline, which ends its wait for the lock too. Only the
 //!   pop in vain has a line.
@@ -58,9 +62,11 @@
 //!   more of them.
 //! - `TimeSource` is where these calls have the time from: each time that one of them tells is one that it may tell, also where
 //!   it says that none can be read. Each clock of the standard library is such a source.
-//! - `Queue::shut` ends the pushes of shared handles (the crate `queue_pool`) and of `Queue::push_unless_shut`, and wakes whoever
-//!   waits for an item. Those who wait by `Queue::take_or_end`, `take_until_or_end`, `take_due_or_end` and the calls for C, C++
-//!   and Rust take what is left, and are told; `take` and `take_until` go on waiting, and `push` goes on pushing.
+//! - `Queue::shut` shuts the queue for good, by a line of the journal that the member enters under the lock, and wakes whoever
+//!   waits for an item. Behind that line no push is entered, and no other shut: the Book refuses them. Those who wait by
+//!   `Queue::take_or_end`, `take_until_or_end`, `take_due_or_end` and the calls for C, C++ and Rust take what is left, and are
+//!   told the end exactly where a look finds the queue shut, and no item; `take`, `take_until` and `take_due` go on waiting.
+//!   `Queue::carry_out_shut` shuts it where it finds the lock free, and wakes nobody.
 //! - How a member rests between two turns in vain is a `Rest` of its own: so many tries of the lock before
 //!   it posts, then so many spins, then yields, then naps that grow up to a longest, or as long as is due for
 //!   all who have joined.
@@ -85,9 +91,8 @@
 //! But for the opening only a sweep and an operation of one's own take memory, for a push or a move alone, and so a
 //! call that makes rounds. What the hint that somebody has posted says is beside all that is proved: its
 //! load and its store, with a post, a sweep and an own request, are no steps of the machine. So is the count
-//! of those who have joined, by which they nap, the event count by which takes sleep (that one is woken is no clause), and the
-//! backlog of an archive, which refuses nobody here.
-//! Only the four calls, `call_by`, `push_unless_shut`, `pop_up_to`, `remove`, `reschedule`, `push_all`, `pop_all_up_to`, the six takes, `Pending::wait`,
+//! of those who have joined, by which they nap, and the event count by which takes sleep (that one is woken is no clause).
+//! Only the four calls, `call_by`, `pop_up_to`, `remove`, `reschedule`, `shut`, `push_all`, `pop_all_up_to`, the six takes, `Pending::wait`,
 //! `Rest::rest` and the sleeps of an `EventCount` may wait; that they return is not promised.
 //!
 //! That a sweep finds the posts of other members is proved of the product machine, and is no clause
@@ -95,7 +100,6 @@
 #![tactic(auto)]
 
 mod asking;
-pub mod backlog;
 pub mod batches;
 pub mod call_steps;
 mod calling;
@@ -105,7 +109,6 @@ pub mod counting;
 pub mod deadline;
 pub mod due;
 pub mod due_steps;
-pub mod ending;
 pub mod error;
 pub mod event_count;
 pub mod following;
@@ -115,6 +118,7 @@ pub mod handle;
 pub mod hint;
 mod joined;
 pub mod laws;
+pub mod length;
 pub mod looking;
 pub mod member;
 pub mod notes;
@@ -138,20 +142,19 @@ pub mod up_to;
 pub mod waiting;
 
 pub use announce_board::{Note, Testimony};
-pub use backlog::Backlog;
 pub use batches::{Batch, MOST_BATCH, Popped};
 pub use call_steps::{CallStage, CallStepped, Came};
 pub use combining::Round;
-pub use counting::{Counts, Unpushed};
+pub use counting::Counts;
 pub use deadline::{By, Deadline, Never};
 pub use due::Due;
 pub use due_steps::{DueLook, DueNow, DueStage, DueStepped, DueTook};
-pub use ending::{Ending, Shut};
-pub use error::{CallError, PushError, QueueError};
+pub use error::{ArchiveError, CallError, QueueError};
 pub use event_count::{EventCount, Wakes};
 pub use gate::{Gate, Open, Turn};
 pub use handle::Handle;
 pub use hint::{Cleared, PostHint};
+pub use length::Length;
 pub use looking::{Looked, Wanted};
 pub use member::{Arrival, Member, Newcomer};
 pub use pending::{Called, Pending};

@@ -1,7 +1,7 @@
 // A look at the first item under the lock, which takes that out where it is wanted, and else makes no request.
 ghost use Rattle.std.specs.Prelude.{◌≡◌, ◌<◌, ◌↔◌, true, length, IfSome, IfNone};
 ghost use Rattle.pq_types.specs.declared.journal.TheConstants.{GREATEST_NUMBER};
-ghost use Rattle.pq_types.specs.History.{left};
+ghost use Rattle.pq_types.specs.History.{left, is_shut};
 ghost use Rattle.leftist_heap.specs.Store.{first_of};
 ghost use Rattle.desk_core.specs.Words.{word_number};
 ghost use Rattle.announce_board.specs.Tokens.{is_idle};
@@ -14,7 +14,7 @@ use crate::settling::law_one_room;
 use announce_board::Lead;
 use leftist_heap::Store;
 use pq_book::Entry;
-use pq_types::{Answer, Item, Part, Reply, Request};
+use pq_types::{Answer, Item, Part, Refusal, Reply, Request};
 
 /// Which items a look takes, by their priorities.
 #[derive(Clone, Copy, Debug, PartialEq, Eq)]
@@ -34,17 +34,21 @@ pub enum Looked<I = Item> {
     Taken(u64, I),
     /// This item is the first, and stays there: it isn't wanted.
     Stays(I),
-    /// There is no item.
+    /// There is no item, and the queue is open.
     Nothing,
+    /// There is no item, and the queue is shut: none comes any more.
+    Over,
     /// The journal has no line left for a pop.
     BookFull,
+    /// The queue's rules refuse a pop.
+    Refused(Refusal),
 }
 
 impl<S: Store<Entry<P>>, P: Part> Queue<S, P> {
     /// The idle member looks at the first item, if it finds the lock free: it leads, serves the others where the hint says that
     /// somebody has posted, and takes that item out by a pop of its own where it wants it. Else it makes no request: a look
-    /// in vain has no line. Where the journal is full it says so, whatever the first item is. `None` only where it found the
-    /// lock held. It wakes nobody: its caller does, by `owed_wakes` or `wake_owed` of the `waiters`. Takes memory for the
+    /// in vain has no line. Where there is no item it says whether the queue is shut. Where the journal is full it says that,
+    /// whatever the first item is. `None` only where it found the lock held. It wakes nobody: its caller does, by `owed_wakes` or `wake_owed` of the `waiters`. Takes memory for the
     /// pushes of others alone, and never waits.
     pub fn take_first(&self, member: &mut Member<S, P>, wanted: Wanted) -> Option<Looked<Item<P>>>
         requires queue { member.old.queue ≡ self.now }
@@ -72,22 +76,28 @@ fn left_there<S: Store<Entry<P>>, P: Part>(
     wanted: Wanted,
 ) -> Option<Looked<Item<P>>>
     ensures some { IfSome result (λ told.
-        IsLeft wanted (first_of (left lead.now.book.journal)) told × (length lead.now.book.journal < room)) }
+        IsLeft wanted (first_of (left lead.now.book.journal)) (is_shut lead.now.book.journal) told
+        × (length lead.now.book.journal < room)) }
     ensures none { IfNone result (length lead.now.book.journal < room
         → IsFirstWanted wanted (first_of (left lead.now.book.journal))) }
 {
     if lead.lines() >= room {
         return None;
     }
-    left_of(lead.first(), wanted)
+    left_of(lead.first(), lead.is_shut(), wanted)
 }
 
 // The same of the first item, where the journal has a line left.
-fn left_of<P: Part>(first: Option<Item<P>>, wanted: Wanted) -> Option<Looked<Item<P>>>
-    ensures some { IfSome result (IsLeft wanted first) }
+fn left_of<P: Part>(
+    first: Option<Item<P>>,
+    is_shut: bool,
+    wanted: Wanted,
+) -> Option<Looked<Item<P>>>
+    ensures some { IfSome result (IsLeft wanted first is_shut) }
     ensures none { IfNone result (IsFirstWanted wanted first) }
 {
     match first {
+        None if is_shut => Some(Looked::Over),
         None => Some(Looked::Nothing),
         Some(item) if is_wanted(wanted, item.priority.as_u64()) => None,
         Some(item) => Some(Looked::Stays(item)),
@@ -105,6 +115,7 @@ pub(crate) fn next_there<S: Store<Entry<P>>, P: Part>(
         return Looked::BookFull;
     }
     match lead.first() {
+        None if lead.is_shut() => Looked::Over,
         None => Looked::Nothing,
         Some(item) => Looked::Stays(item),
     }
@@ -126,8 +137,11 @@ fn looked_by<P: Part>(answer: Answer<Item<P>>) -> Looked<Item<P>>
     ensures { result ≡ looked_by answer }
 {
     match answer {
-        Answer::Entered(number, Reply::Got(item)) => Looked::Taken(number, item),
-        Answer::Entered(_, _) => Looked::Nothing,
+        Answer::Entered(number, reply) => match reply {
+            Reply::Got(item) => Looked::Taken(number, item),
+            _ => Looked::Nothing,
+        },
         Answer::BookFull | Answer::NoMemory => Looked::BookFull,
+        Answer::Refused(refusal) => Looked::Refused(refusal.why()),
     }
 }

@@ -34,6 +34,7 @@ impl Model for Newcomer {
         comers = n.walking.comers;
         places = n.walking.tag.places;
         room = n.walking.tag.sample.value.state.room;
+        terms = n.walking.tag.terms;
       };
       comer = n.walking.comer;
     } };
@@ -65,6 +66,7 @@ impl<S: Store<Entry<P>>, P: Part> Model for Member<S, P> {
         comers = m.stopped.comers;
         places = m.stopped.tag.places;
         room = m.pen.state.room;
+        terms = m.stopped.tag.terms;
       };
       comer = m.stopped.comer;
       scan = m.stopped.scan;

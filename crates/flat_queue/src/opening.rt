@@ -8,26 +8,28 @@ ghost use Rattle.split_core.specs.Places.{IsGridSize};
 ghost use Rattle.split_grid.specs.Opening.{places_of};
 ghost use Rattle.pq_types.specs.declared.journal.TheConstants.{GREATEST_NUMBER};
 ghost use Rattle.pq_book.specs.Book.{IsRoom, AllHaveRoom};
-ghost use Rattle.pq_book.specs.Pages.{IsLongPage, page_of, room_keeping};
+ghost use Rattle.pq_book.specs.Pages.{page_of};
 ghost use Rattle.announce_board.specs.Opening.{ArePens};
+ghost use Rattle.announce_board.specs.Slots.{plain_terms};
 ghost use Rattle.flat_queue.specs.Gathered.{licences_at};
+ghost use Rattle.flat_queue.specs.Lengths.{room_of, kept_of, terms_with, IsLength};
 ghost use Rattle.flat_queue.specs.Members.{HasRoomForAll};
 ghost use Rattle.flat_queue.specs.Opening.{Opens, waiting_of, AreAsleep, is_coming};
 
-use crate::backlog::Backlog;
 use crate::error::QueueError;
 use crate::event_count::EventCount;
 use crate::gathered::all_licences;
 use crate::hint::PostHint;
 use crate::joined::JoinCount;
+use crate::length::{Length, room_of, terms_with};
 use crate::member::Newcomer;
 use crate::queue::Queue;
 use crate::spare::Spare;
 use crate::waiting::{DeskTag, Waiting};
-use announce_board::{Desk, DeskError, Pen, Testimony};
+use announce_board::{Desk, Pen, Testimony};
 use leftist_heap::{Leftist, Store};
 use pq_book::Entry;
-use pq_book::limit::{LONG_PAGE, LONGEST_PAGE, SHORTEST_PAGE};
+use pq_book::limit::LONG_PAGE;
 use pq_types::Part;
 use split_core::ids::check_ids;
 use split_core::laws::law_places;
@@ -35,6 +37,48 @@ use split_core::places::place_number;
 use split_grid::Grid;
 use std::alloc::{AllocError, Global};
 use std::snapshot::Snapshot;
+
+impl<S: Store<Entry<P>>, P: Part> Queue<S, P> {
+    /// A queue of this empty store, of either width, for the comers of these ids, with a journal of this length, and a
+    /// newcomer for each id, in their order. With a bound, which may be any number, it refuses a push while it has so many
+    /// items, all under the lock. The ids are refused as by `with_store`, then the length, where it is out of its range, by
+    /// `LinesOutOfRange`, then `NoMemory` where memory was. All memory that the queue will ever need is taken here, but for the
+    /// growth of the store.
+    pub fn limited(
+        alloc: Global,
+        ids: &[u64],
+        store: S,
+        length: Length,
+        bound: Option<u64>,
+    ) -> Result<(Queue<S, P>, Vec<Newcomer>), QueueError>
+        requires empty { S.content store ≡ [] }
+        ensures ok { IfOk result (λ r. Opens ids.now (room_of length) r.0 r.1.items) }
+        ensures terms { IfOk result (λ r. r.0.terms ≡ terms_with length bound) }
+        ensures kept { OnOk result (page_of (room_of length) ≡ kept_of length) }
+        ensures opens { OnOk result (OpenGrid ids.now × IsLength length) }
+        ensures comers { (e : IdError) → (result ≡ Err (QueueError.Comers e)) ↔ IsFault ids.now e }
+        ensures lines { (result ≡ Err QueueError.LinesOutOfRange) ↔ (OpenGrid ids.now × (¬ (IsLength length))) }
+        ensures memory { result ≡ Err QueueError.NoMemory → OpenGrid ids.now × IsLength length }
+    {
+        if let Err(fault) = check_ids(ids) {
+            return Err(QueueError::Comers(fault));
+        }
+        let Some(room) = room_of(length) else {
+            return Err(QueueError::LinesOutOfRange);
+        };
+        law_places();
+        let places = place_number(0, ids.len() as u16);
+        let terms = terms_with(length, room, bound);
+        // The room is in its range, so that memory alone can be missing.
+        let Ok((desk, pens)) = Desk::limited(alloc, store, places, room, terms) else {
+            return Err(QueueError::NoMemory);
+        };
+        match opened(alloc, ids, desk, pens) {
+            Ok(made) => Ok(made),
+            Err(AllocError) => Err(QueueError::NoMemory),
+        }
+    }
+}
 
 impl<S: Store<Entry>> Queue<S> {
     /// A queue of this empty store for the comers of these ids, with a journal of so many lines,
@@ -51,6 +95,7 @@ impl<S: Store<Entry>> Queue<S> {
     ) -> Result<(Queue<S>, Vec<Newcomer>), QueueError>
         requires empty { S.content store ≡ [] }
         ensures ok { IfOk result (λ r. Opens ids.now lines r.0 r.1.items) }
+        ensures terms { IfOk result (λ r. r.0.terms ≡ plain_terms lines) }
         ensures stores { IfOk result (λ r. AllHaveRoom S.room lines → HasRoomForAll S.room r.0) }
         ensures opens { OnOk result (OpenGrid ids.now × IsRoom lines) }
         ensures comers { (e : IdError) → (result ≡ Err (QueueError.Comers e)) ↔ IsFault ids.now e }
@@ -60,7 +105,7 @@ impl<S: Store<Entry>> Queue<S> {
         // queue.
         ensures memory { result ≡ Err QueueError.NoMemory → OpenGrid ids.now × IsRoom lines }
     {
-        open_short(alloc, ids, store, lines)
+        Queue::limited(alloc, ids, store, Length::Lines(lines), None)
     }
 
     /// A queue that runs for years: of this empty store for the comers of these ids, with a journal of
@@ -76,31 +121,13 @@ impl<S: Store<Entry>> Queue<S> {
     ) -> Result<(Queue<S>, Vec<Newcomer>), QueueError>
         requires empty { S.content store ≡ [] }
         ensures ok { IfOk result (λ r. Opens ids.now GREATEST_NUMBER r.0 r.1.items) }
+        ensures terms { IfOk result (λ r. r.0.terms ≡ plain_terms GREATEST_NUMBER) }
         ensures opens { OnOk result (OpenGrid ids.now) }
         ensures comers { (e : IdError) → (result ≡ Err (QueueError.Comers e)) ↔ IsFault ids.now e }
         ensures lines { result ≢ Err QueueError.LinesOutOfRange }
         ensures memory { result ≡ Err QueueError.NoMemory → OpenGrid ids.now }
     {
-        open_long(alloc, ids, store, LONG_PAGE as u32)
-    }
-
-    /// The same, with a journal of which memory holds the last so many lines, 16 to 16,777,216, else
-    /// `LinesOutOfRange`, behind the refusals of the ids. It has room for some 2^56, as `room_keeping` has it.
-    pub fn keeping(
-        alloc: Global,
-        ids: &[u64],
-        store: S,
-        kept: u32,
-    ) -> Result<(Queue<S>, Vec<Newcomer>), QueueError>
-        requires empty { S.content store ≡ [] }
-        ensures ok { IfOk result (λ r. Opens ids.now (room_keeping kept) r.0 r.1.items) }
-        ensures kept { OnOk result (page_of (room_keeping kept) ≡ kept) }
-        ensures opens { OnOk result (OpenGrid ids.now × IsLongPage kept) }
-        ensures comers { (e : IdError) → (result ≡ Err (QueueError.Comers e)) ↔ IsFault ids.now e }
-        ensures lines { (result ≡ Err QueueError.LinesOutOfRange) ↔ (OpenGrid ids.now × (¬ (IsLongPage kept))) }
-        ensures memory { result ≡ Err QueueError.NoMemory → OpenGrid ids.now × IsLongPage kept }
-    {
-        open_long(alloc, ids, store, kept)
+        Queue::limited(alloc, ids, store, Length::Keeping(LONG_PAGE as u32), None)
     }
 }
 
@@ -115,13 +142,14 @@ impl<S: Store<Entry<u64>>> Queue<S, u64> {
     ) -> Result<(Queue<S, u64>, Vec<Newcomer>), QueueError>
         requires empty { S.content store ≡ [] }
         ensures ok { IfOk result (λ r. Opens ids.now lines r.0 r.1.items) }
+        ensures terms { IfOk result (λ r. r.0.terms ≡ plain_terms lines) }
         ensures stores { IfOk result (λ r. AllHaveRoom S.room lines → HasRoomForAll S.room r.0) }
         ensures opens { OnOk result (OpenGrid ids.now × IsRoom lines) }
         ensures comers { (e : IdError) → (result ≡ Err (QueueError.Comers e)) ↔ IsFault ids.now e }
         ensures lines { (result ≡ Err QueueError.LinesOutOfRange) ↔ (OpenGrid ids.now × (¬ (IsRoom lines))) }
         ensures memory { result ≡ Err QueueError.NoMemory → OpenGrid ids.now × IsRoom lines }
     {
-        open_short(alloc, ids, store, lines)
+        Queue::limited(alloc, ids, store, Length::Lines(lines), None)
     }
 
     /// The same, as `lasting` opens one: with a journal of 2^56 lines, of which memory holds the last
@@ -134,31 +162,13 @@ impl<S: Store<Entry<u64>>> Queue<S, u64> {
     ) -> Result<(Queue<S, u64>, Vec<Newcomer>), QueueError>
         requires empty { S.content store ≡ [] }
         ensures ok { IfOk result (λ r. Opens ids.now GREATEST_NUMBER r.0 r.1.items) }
+        ensures terms { IfOk result (λ r. r.0.terms ≡ plain_terms GREATEST_NUMBER) }
         ensures opens { OnOk result (OpenGrid ids.now) }
         ensures comers { (e : IdError) → (result ≡ Err (QueueError.Comers e)) ↔ IsFault ids.now e }
         ensures lines { result ≢ Err QueueError.LinesOutOfRange }
         ensures memory { result ≡ Err QueueError.NoMemory → OpenGrid ids.now }
     {
-        open_long(alloc, ids, store, LONG_PAGE as u32)
-    }
-
-    /// The same, as `keeping` opens one: memory holds the last so many lines, 16 to 16,777,216, else
-    /// `LinesOutOfRange`, behind the refusals of the ids.
-    pub fn wide_keeping(
-        alloc: Global,
-        ids: &[u64],
-        store: S,
-        kept: u32,
-    ) -> Result<(Queue<S, u64>, Vec<Newcomer>), QueueError>
-        requires empty { S.content store ≡ [] }
-        ensures ok { IfOk result (λ r. Opens ids.now (room_keeping kept) r.0 r.1.items) }
-        ensures kept { OnOk result (page_of (room_keeping kept) ≡ kept) }
-        ensures opens { OnOk result (OpenGrid ids.now × IsLongPage kept) }
-        ensures comers { (e : IdError) → (result ≡ Err (QueueError.Comers e)) ↔ IsFault ids.now e }
-        ensures lines { (result ≡ Err QueueError.LinesOutOfRange) ↔ (OpenGrid ids.now × (¬ (IsLongPage kept))) }
-        ensures memory { result ≡ Err QueueError.NoMemory → OpenGrid ids.now × IsLongPage kept }
-    {
-        open_long(alloc, ids, store, kept)
+        Queue::limited(alloc, ids, store, Length::Keeping(LONG_PAGE as u32), None)
     }
 }
 
@@ -171,6 +181,7 @@ impl Queue<Leftist<Entry, Global>> {
         lines: u32,
     ) -> Result<(Queue<Leftist<Entry, Global>>, Vec<Newcomer>), QueueError>
         ensures ok { IfOk result (λ r. Opens ids.now lines r.0 r.1.items) }
+        ensures terms { IfOk result (λ r. r.0.terms ≡ plain_terms lines) }
         ensures opens { OnOk result (OpenGrid ids.now × IsRoom lines) }
         ensures comers { (e : IdError) → (result ≡ Err (QueueError.Comers e)) ↔ IsFault ids.now e }
         ensures lines { (result ≡ Err QueueError.LinesOutOfRange) ↔ (OpenGrid ids.now × (¬ (IsRoom lines))) }
@@ -188,76 +199,13 @@ impl Queue<Leftist<Entry<u64>, Global>, u64> {
         lines: u32,
     ) -> Result<(Queue<Leftist<Entry<u64>, Global>, u64>, Vec<Newcomer>), QueueError>
         ensures ok { IfOk result (λ r. Opens ids.now lines r.0 r.1.items) }
+        ensures terms { IfOk result (λ r. r.0.terms ≡ plain_terms lines) }
         ensures opens { OnOk result (OpenGrid ids.now × IsRoom lines) }
         ensures comers { (e : IdError) → (result ≡ Err (QueueError.Comers e)) ↔ IsFault ids.now e }
         ensures lines { (result ≡ Err QueueError.LinesOutOfRange) ↔ (OpenGrid ids.now × (¬ (IsRoom lines))) }
         ensures memory { result ≡ Err QueueError.NoMemory → OpenGrid ids.now × IsRoom lines }
     {
         Queue::wide_with_store(alloc, ids, Leftist::new(alloc), lines)
-    }
-}
-
-// A queue of this empty store, of either width, with a journal of so many lines.
-fn open_short<S: Store<Entry<P>>, P: Part>(
-    alloc: Global,
-    ids: &[u64],
-    store: S,
-    lines: u32,
-) -> Result<(Queue<S, P>, Vec<Newcomer>), QueueError>
-    requires empty { S.content store ≡ [] }
-    ensures ok { IfOk result (λ r. Opens ids.now lines r.0 r.1.items) }
-    ensures stores { IfOk result (λ r. AllHaveRoom S.room lines → HasRoomForAll S.room r.0) }
-    ensures opens { OnOk result (OpenGrid ids.now × IsRoom lines) }
-    ensures comers { (e : IdError) → (result ≡ Err (QueueError.Comers e)) ↔ IsFault ids.now e }
-    ensures lines { (result ≡ Err QueueError.LinesOutOfRange) ↔ (OpenGrid ids.now × (¬ (IsRoom lines))) }
-    ensures memory { result ≡ Err QueueError.NoMemory → OpenGrid ids.now × IsRoom lines }
-{
-    if let Err(fault) = check_ids(ids) {
-        return Err(QueueError::Comers(fault));
-    }
-    law_places();
-    let places = place_number(0, ids.len() as u16);
-    let (desk, pens) = match Desk::with_store(alloc, store, places, lines) {
-        Ok(made) => made,
-        Err(DeskError::LinesOutOfRange) => return Err(QueueError::LinesOutOfRange),
-        Err(DeskError::NoMemory) => return Err(QueueError::NoMemory),
-    };
-    match opened(alloc, ids, desk, pens) {
-        Ok(made) => Ok(made),
-        Err(AllocError) => Err(QueueError::NoMemory),
-    }
-}
-
-// The same, with a long journal of which memory holds the last so many lines.
-fn open_long<S: Store<Entry<P>>, P: Part>(
-    alloc: Global,
-    ids: &[u64],
-    store: S,
-    kept: u32,
-) -> Result<(Queue<S, P>, Vec<Newcomer>), QueueError>
-    requires empty { S.content store ≡ [] }
-    ensures ok { IfOk result (λ r. Opens ids.now (room_keeping kept) r.0 r.1.items) }
-    ensures kept { OnOk result (page_of (room_keeping kept) ≡ kept) }
-    ensures opens { OnOk result (OpenGrid ids.now × IsLongPage kept) }
-    ensures comers { (e : IdError) → (result ≡ Err (QueueError.Comers e)) ↔ IsFault ids.now e }
-    ensures lines { (result ≡ Err QueueError.LinesOutOfRange) ↔ (OpenGrid ids.now × (¬ (IsLongPage kept))) }
-    ensures memory { result ≡ Err QueueError.NoMemory → OpenGrid ids.now × IsLongPage kept }
-{
-    if let Err(refused) = check_ids(ids) {
-        return Err(QueueError::Comers(refused));
-    }
-    let kept = kept as usize;
-    if kept < SHORTEST_PAGE || kept > LONGEST_PAGE {
-        return Err(QueueError::LinesOutOfRange);
-    }
-    law_places();
-    let places = place_number(0, ids.len() as u16);
-    let Ok((desk, pens)) = Desk::lasting(alloc, store, places, kept) else {
-        return Err(QueueError::NoMemory);
-    };
-    match opened(alloc, ids, desk, pens) {
-        Ok(made) => Ok(made),
-        Err(AllocError) => Err(QueueError::NoMemory),
     }
 }
 
@@ -273,7 +221,8 @@ fn opened<S: Store<Entry<P>>, P: Part>(
     requires places { desk.places ≡ places_of (length ids.now) }
     requires counted { length pens.items ≡ desk.places }
     requires dealt { ArePens desk.table desk.room pens.items }
-    ensures { IfOk result (λ r. Opens ids.now desk.room r.0 r.1.items) }
+    ensures opens { IfOk result (λ r. Opens ids.now desk.room r.0 r.1.items) }
+    ensures terms { IfOk result (λ r. r.0.terms ≡ desk.terms) }
 {
     let (waiting, licences) = asleep(alloc, &desk, pens)?;
     let tag = tag_of(&desk, &waiting);
@@ -289,7 +238,6 @@ fn opened<S: Store<Entry<P>>, P: Part>(
         hint: PostHint::new(),
         joined: JoinCount::new(),
         waiters: EventCount::new(),
-        backlog: Backlog::new(),
         spare,
     };
     Ok((queue, newcomers))
@@ -302,10 +250,12 @@ fn tag_of<S: Store<Entry<P>>, P: Part>(desk: &Desk<S, P>, waiting: &[Waiting]) -
     ensures table { result.sample.value.table ≡ desk.now.table }
     ensures room { result.sample.value.state.room ≡ desk.now.room }
     ensures places { result.places ≡ desk.now.places }
+    ensures terms { result.terms ≡ desk.now.terms }
 {
     DeskTag {
         sample: Snapshot::of(&waiting[0].sleeper),
         places: desk.places(),
+        terms: desk.terms(),
     }
 }
 

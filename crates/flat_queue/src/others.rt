@@ -1,6 +1,7 @@
 // How a leader serves the others before it releases with a request of its own.
 ghost use Rattle.std.specs.Prelude.{◌≡◌};
 ghost use Rattle.desk_core.specs.Words.{word_number};
+ghost use Rattle.pq_book.specs.Book.{limits_of};
 ghost use Rattle.announce_board.specs.Tokens.{IsLeadOf};
 ghost use Rattle.flat_queue.specs.Members.{pen_of};
 ghost use Rattle.flat_queue.specs.OwnRequest.{SweepsWhereBy};
@@ -26,6 +27,7 @@ impl<S: Store<Entry<P>>, P: Part> Queue<S, P> {
         requires queue { member.old.queue ≡ self.now }
         requires lead { IsLeadOf (pen_of member.old) lead.old }
         ensures lead { IsLeadOf (pen_of member.new) lead.new }
+        ensures limits { limits_of lead.new.book ≡ limits_of lead.old.book }
         ensures sweeps { SweepsWhereBy (word_number P.wide) result.read.posted member.old member.new }
     {
         let read = self.hint.read();

@@ -3,6 +3,7 @@ ghost use Rattle.std.specs.Prelude.{◌≡◌, ◌≢◌, ◌<◌, true, Some, N
 ghost use Rattle.pq_types.specs.declared.journal.TheConstants.{GREATEST_NUMBER};
 ghost use Rattle.desk_core.specs.Words.{word_number};
 ghost use Rattle.announce_board.specs.Asking.{IsAnswerTo};
+ghost use Rattle.announce_board.specs.Slots.{MeetsTerms};
 ghost use Rattle.announce_board.specs.Tokens.{IsLeadOf, is_idle};
 ghost use Rattle.flat_queue.specs.Limits.{most_posts};
 ghost use Rattle.flat_queue.specs.Members.{HasRoomForAll, pen_of};
@@ -104,7 +105,6 @@ impl<S: Store<Entry<P>>, P: Part> Queue<S, P> {
             self.waiters.wake_owed();
             match told {
                 CallStepped::Ends(came) => return end_of(came),
-                CallStepped::IsShut => unreachable!(),
                 CallStepped::Goes(next) => stage = next,
             }
         }
@@ -125,7 +125,7 @@ impl<S: Store<Entry<P>>, P: Part> Queue<S, P> {
         match self.step_held(member, asked, tries, &Open) {
             Then::TriesAgain => CallStage::Tries(request, tries - 1),
             Then::HasPosted => CallStage::Looks,
-            Then::GivesUp | Then::IsShut => unreachable!(),
+            Then::GivesUp => unreachable!(),
         }
     }
 
@@ -164,6 +164,7 @@ impl<S: Store<Entry<P>>, P: Part> Queue<S, P> {
     ) -> Answer<Item<P>>
         requires queue { member.old.queue ≡ self.now }
         requires lead { IsLeadOf (pen_of member.old) lead }
+        requires terms { MeetsTerms self.now.terms lead.book }
         requires due { member.old.pen.due ≡ None }
         requires idle { is_idle member.old.pen.standing ≡ true }
         requires few { member.old.pen.posts < GREATEST_NUMBER }

@@ -69,11 +69,16 @@ fn came_back<'q, S: Store<Entry<P>>, P: Part>(
 {
     match answer {
         None => Called::Pending(Pending { queue, member }),
-        Some(Answer::Entered(number, reply)) => {
-            Called::Answered(Handle { queue, member }, number, reply)
-        }
-        Some(Answer::BookFull) => Called::Refused(Handle { queue, member }, CallError::BookFull),
-        Some(Answer::NoMemory) => Called::Refused(Handle { queue, member }, CallError::NoMemory),
+        Some(answer) => match answer {
+            Answer::Entered(number, reply) => {
+                Called::Answered(Handle { queue, member }, number, reply)
+            }
+            Answer::BookFull => Called::Refused(Handle { queue, member }, CallError::BookFull),
+            Answer::NoMemory => Called::Refused(Handle { queue, member }, CallError::NoMemory),
+            Answer::Refused(refusal) => {
+                Called::Refused(Handle { queue, member }, CallError::Refused(refusal.why()))
+            }
+        },
     }
 }
 

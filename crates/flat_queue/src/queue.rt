@@ -7,7 +7,6 @@ ghost use Rattle.flat_queue.specs.Limits.{most_posts};
 ghost use Rattle.flat_queue.specs.Members.{Joins};
 ghost use Rattle.flat_queue.specs.Arrivals.{Arrives};
 
-use crate::backlog::Backlog;
 use crate::event_count::EventCount;
 use crate::hint::PostHint;
 use crate::joined::JoinCount;
@@ -24,7 +23,7 @@ use std::marker::Model;
 
 /// A priority queue that threads share through a `&`: a grid that gives each its place, and a desk
 /// with a pen for each place. Its items have parts of 32 bits, or of 64 where `P` is `u64`. A contract
-/// sees of it the tables of both, the numbers of its comers and places, and the room of its journal.
+/// sees of it the tables of both, the numbers of its comers and places, the room of its journal, and its terms.
 #[derive(Drop)]
 pub struct Queue<S: Store<Entry<P>>, P: Part = u32> {
     pub(crate) grid: Grid<Waiting>,
@@ -32,7 +31,6 @@ pub struct Queue<S: Store<Entry<P>>, P: Part = u32> {
     pub(crate) hint: PostHint,
     pub(crate) joined: JoinCount,
     pub(crate) waiters: EventCount,
-    pub(crate) backlog: Backlog,
     pub(crate) spare: Spare,
 }
 
@@ -47,9 +45,10 @@ impl<S: Store<Entry<P>>, P: Part> Model for Queue<S, P> {
       comers = q.grid.comers;
       places = q.desk.places;
       room = q.desk.room;
+      terms = q.desk.terms;
     } };
 
-    ghost invariant = { λ q. AreTied q.grid.comers q.grid.tag.sample.value q.grid.tag.places q.desk q.spare };
+    ghost invariant = { λ q. AreTied q.grid.comers q.grid.tag.sample.value q.grid.tag.places q.grid.tag.terms q.desk q.spare };
 }
 
 impl<S: Store<Entry<P>>, P: Part> Queue<S, P> {
@@ -82,11 +81,6 @@ impl<S: Store<Entry<P>>, P: Part> Queue<S, P> {
     /// released the lock, wakes them by its `wake_owed`: the calls of handles, and those that may wait, do.
     pub fn waiters(&self) -> &EventCount {
         &self.waiters
-    }
-
-    /// How far an archive is behind the journal: whoever carries out requests of many may ask it before each.
-    pub fn backlog(&self) -> &Backlog {
-        &self.backlog
     }
 
     /// How many have joined, by a count beside the tables: those who wait nap by it.

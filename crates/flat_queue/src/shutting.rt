@@ -1,98 +1,124 @@
-// How a queue is shut, how a member carries a request out that may be refused then, and how it pushes so.
-ghost use Rattle.std.specs.Prelude.{◌≡◌, ◌≢◌, ◌<◌, true, Some, Ok, IfSome, IfNone, IfOk, IfErr};
+// How a member shuts its queue, by an entry of the journal that it makes under the lock.
+ghost use Rattle.std.specs.Prelude.{◌≡◌, ◌≢◌, ◌<◌, true, None, Some, IfSome, IfNone};
 ghost use Rattle.pq_types.specs.declared.journal.TheConstants.{GREATEST_NUMBER};
-ghost use Rattle.pq_types.specs.declared.request.Request.TheVariants.{Push};
-ghost use Rattle.pq_types.specs.declared.answer.Reply.TheVariants.{Pushed};
+ghost use Rattle.pq_types.specs.Operation.{Shuts};
 ghost use Rattle.desk_core.specs.Words.{word_number};
-ghost use Rattle.announce_board.specs.Asking.{IsAnswerTo};
-ghost use Rattle.announce_board.specs.Tokens.{is_idle};
-ghost use Rattle.flat_queue.specs.Members.{HasRoomForAll};
-ghost use Rattle.flat_queue.specs.Calling.{MakesCall};
-ghost use Rattle.flat_queue.specs.Memory.{HasSpareRoom};
+ghost use Rattle.announce_board.specs.Asking.{IsAnswerBy};
+ghost use Rattle.announce_board.specs.Slots.{MeetsTerms};
+ghost use Rattle.announce_board.specs.Tokens.{IsLeadOf, is_idle};
+ghost use Rattle.flat_queue.specs.Members.{pen_of};
 ghost use Rattle.flat_queue.specs.Turns.{FindsLockHeld};
-ghost use Rattle.flat_queue.specs.Ending.{IsShutOut, UnlessShut, IfShut};
-ghost use Rattle.flat_queue.specs.OwnRequest.{CarriesOutBy, EntersOrWaitsBy};
+ghost use Rattle.flat_queue.specs.OwnRequest.{ReleasesOperation};
+ghost use Rattle.flat_queue.specs.Shutting.{CarriesOutShut, TellsShut, ended_shut, MissesThenShutsBy, ShutsBy};
 
-use crate::ending::Shut;
-use crate::error::PushError;
+use crate::error::CallError;
 use crate::handle::Handle;
 use crate::member::Member;
+use crate::others::Served;
 use crate::queue::Queue;
+use announce_board::Lead;
 use leftist_heap::Store;
 use pq_book::Entry;
-use pq_types::{Answer, Item, Part, Request};
+use pq_types::{Answer, Item, Part};
 use std::sync::Wait;
 
 impl<S: Store<Entry<P>>, P: Part> Queue<S, P> {
-    /// Shuts the queue for good: a `SharedHandle` and `push_unless_shut` push no more, and say so; whoever waits for an item
-    /// is woken, and `take_or_end` and `take_until_or_end` tell the end once nothing is left; pops go on. What the other calls
-    /// of the queue and of a `Handle` are asked is not refused, also a push; `take` and `take_until` go on waiting.
-    pub fn shut(&self) {
-        self.waiters.shut();
-        self.waiters.wake_owed();
+    /// Shuts the queue for good: the number of the shut's journal line. Behind that line no push is entered, and no other shut:
+    /// both are refused, also one that was posted before. What waits stays, and goes out as it did. All who wait for an item are
+    /// woken; those that heed the end are told it once nothing is left. The idle member waits until it has the lock, as a call
+    /// rests, serves the others and shuts, all under the one lock. It posts nothing. Takes memory for the pushes of others alone.
+    ///
+    /// Refusals: `Refused(Shut)` (51) where the queue was shut, `Refused(Unarchived)` (52) and `BookFull` (10): the shut has no
+    /// line. `Spent` (11): all serials have been used, and nothing was done. Never `NoMemory`, and it never gives up.
+    #[tactic(auto, using(crate::proofs::Shuttings::unshut_spent))]
+    pub fn shut<R: Wait>(&self, rt: &R, member: &mut Member<S, P>) -> Result<u64, CallError>
+        requires queue { member.old.queue ≡ self.now }
+        requires idle { is_idle member.old.pen.standing ≡ true }
+        ensures { ShutsBy (word_number P.wide) member.old result member.new }
+    {
+        if member.posts() >= self.most_posts() {
+            return Err(CallError::Spent);
+        }
+        end_shut(self.wait_and_shut(rt, member))
     }
 
-    /// The idle member carries its own request out, as by `carry_out`; but where the queue is shut it refuses a push, and
-    /// releases the lock without it. It looks while it has the lock. It wakes nobody: the caller does, by `owed_wakes` or
-    /// `wake_owed`.
-    pub fn carry_out_unless_shut(
-        &self,
-        member: &mut Member<S, P>,
-        request: Request<Item<P>>,
-    ) -> Option<Result<Answer<Item<P>>, Shut>>
+    // The member tries until it finds the lock free, and shuts the queue.
+    fn wait_and_shut<R: Wait>(&self, rt: &R, member: &mut Member<S, P>) -> Answer<Item<P>>
         requires queue { member.old.queue ≡ self.now }
         requires idle { is_idle member.old.pen.standing ≡ true }
         requires few { member.old.pen.posts < GREATEST_NUMBER }
-        ensures carries { IfSome result (λ told.
-            IfOk told (λ answer. CarriesOutBy (word_number P.wide) member.old request answer member.new)) }
-        ensures answers { IfSome result (λ told. IfOk told (λ answer. IsAnswerTo self.now.room request answer)) }
-        ensures shut { IfSome result (λ told. IfErr told (λ _. IsShutOut member.old request member.new)) }
-        ensures held { IfNone result (FindsLockHeld member.old member.new) }
-        ensures memory { HasRoomForAll S.room self.now → result ≢ Some (Ok Answer.NoMemory) }
-        ensures spare { HasSpareRoom S.room member.new.pen.known → result ≢ Some (Ok Answer.NoMemory) }
+        ensures { MissesThenShutsBy (word_number P.wide) member.old result member.new }
     {
-        let mut lead = self.lead(member)?;
-        if self.waiters.ending().refuses(&request) {
-            self.release(member, lead);
-            return Some(Err(Shut));
+        let mut rests = member.rest().of_tries();
+        for _ in rt.forever() {
+            if let Some(answer) = self.carry_out_shut(member) {
+                self.waiters.wake_owed();
+                return answer;
+            }
+            rests.rest(rt, self.joined());
         }
-        let served = self.serve_others(member, &mut lead);
-        Some(Ok(self.release_with(member, lead, request, served)))
+        unreachable!()
     }
 
-    /// Puts an item into the queue, as `push` does, unless the queue is shut: then nothing is done. The whole call is
-    /// announced, so that nobody is told the end meanwhile. Refusals: `Shut` (51), and those of `push`.
-    pub fn push_unless_shut<R: Wait>(
-        &self,
-        rt: &R,
-        member: &mut Member<S, P>,
-        item: Item<P>,
-    ) -> Result<u64, PushError>
+    /// The idle member shuts the queue, as `shut` does, if it finds the lock free, and wakes nobody: its caller does, by
+    /// `owed_wakes` or `wake_owed` of the `waiters`. The answer: `Entered` with `Empty`; or `Refused(Shut)` exactly where the queue
+    /// was shut; or `BookFull`, or `Refused(Unarchived)`. `None` only where it found the lock held. Takes memory for the pushes of
+    /// others alone, and never waits.
+    pub fn carry_out_shut(&self, member: &mut Member<S, P>) -> Option<Answer<Item<P>>>
         requires queue { member.old.queue ≡ self.now }
         requires idle { is_idle member.old.pen.standing ≡ true }
-        ensures pushes { UnlessShut result (λ told. MakesCall (EntersOrWaitsBy (word_number P.wide)) (λ number. (number, Pushed))
-            (HasRoomForAll S.room self.now) member.old (Push item) told member.new) }
-        ensures shut { IfShut result (member.new ≡ member.old) }
+        requires few { member.old.pen.posts < GREATEST_NUMBER }
+        ensures carries { IfSome result (λ answer. CarriesOutShut (word_number P.wide) member.old answer member.new) }
+        ensures tells { IfSome result (λ answer. TellsShut answer member.new.pen.known) }
+        ensures held { IfNone result (FindsLockHeld member.old member.new) }
     {
-        let push = Request::Push(item);
-        let ending = self.waiters.ending();
-        if !ending.begin_post(&push) {
-            return Err(PushError::Shut(Shut));
-        }
-        let told = self.push(rt, member, item);
-        ending.end_post(&push);
-        told.map_err(PushError::Call)
+        let mut lead = self.lead(member)?;
+        let served = self.serve_others(member, &mut lead);
+        Some(self.release_shut(member, lead, served))
+    }
+
+    // The idle leader, to which nothing is due, releases the lock with a shut, behind the requests of the others. It counts all who
+    // wait for an item, as they look for the end.
+    fn release_shut(
+        &self,
+        member: &mut Member<S, P>,
+        lead: Lead<S, P>,
+        _served: Served,
+    ) -> Answer<Item<P>>
+        requires queue { member.old.queue ≡ self.now }
+        requires lead { IsLeadOf (pen_of member.old) lead }
+        requires terms { MeetsTerms self.now.terms lead.book }
+        requires due { member.old.pen.due ≡ None }
+        requires idle { is_idle member.old.pen.standing ≡ true }
+        requires few { member.old.pen.posts < GREATEST_NUMBER }
+        ensures releases { ReleasesOperation member.old Shuts result member.new }
+        ensures answers { IsAnswerBy self.now.room Shuts result }
+    {
+        let answer = self.desk.release_shut(&mut member.pen, lead);
+        self.waiters.count_shut(&answer);
+        answer
     }
 }
 
 impl<'q, S: Store<Entry<P>>, P: Part> Handle<'q, S, P> {
-    /// Puts an item into the queue unless that is shut, as `Queue::push_unless_shut` does: the number of the push's journal
-    /// line. It enters or waits, and takes memory, as `push`. Refusals: `Shut` (51), and those of `push`.
-    pub fn push_unless_shut<R: Wait>(&mut self, rt: &R, item: Item<P>) -> Result<u64, PushError>
-        ensures pushes { UnlessShut result (λ told. MakesCall (EntersOrWaitsBy (word_number P.wide)) (λ number. (number, Pushed))
-            (HasRoomForAll S.room self.old.queue) self.old (Push item) told self.new) }
-        ensures shut { IfShut result (self.new ≡ self.old) }
+    /// Shuts the queue for good, as `Queue::shut` does: the number of the shut's journal line. It waits until it has the lock, and
+    /// posts nothing. Refusals: `Refused(Shut)` (51) where the queue was shut, `Refused(Unarchived)` (52), `BookFull` (10),
+    /// `Spent` (11).
+    pub fn shut<R: Wait>(&mut self, rt: &R) -> Result<u64, CallError>
+        ensures { ShutsBy (word_number P.wide) self.old result self.new }
     {
-        self.queue.push_unless_shut(rt, &mut self.member, item)
+        self.queue.shut(rt, &mut self.member)
+    }
+}
+
+// What an answer comes to as the end of such a call.
+fn end_shut<P: Part>(answer: Answer<Item<P>>) -> Result<u64, CallError>
+    ensures { result ≡ ended_shut answer }
+{
+    match answer {
+        Answer::Entered(number, _) => Ok(number),
+        Answer::BookFull => Err(CallError::BookFull),
+        Answer::NoMemory => Err(CallError::NoMemory),
+        Answer::Refused(refusal) => Err(CallError::Refused(refusal.why())),
     }
 }

@@ -48,7 +48,7 @@ pub enum Took<I = Item> {
     Late(u64),
     /// The deadline came while others held the lock: no pop was made.
     Held,
-    /// The queue is over: the line of the pop that found no item.
+    /// The queue is shut, and no item was left: the line of the pop that found none.
     Over(u64),
 }
 
@@ -76,7 +76,7 @@ impl<S: Store<Entry<P>>, P: Part> Queue<S, P> {
     ) -> TakeStepped<Item<P>>
         requires queue { member.old.queue ≡ self.now }
         requires idle { is_idle member.old.pen.standing ≡ true }
-        ensures steps { TakeStepsBy (word_number P.wide) (left ≡ Left.Nothing) stage member.old result member.new }
+        ensures steps { TakeStepsBy (word_number P.wide) wakes (left ≡ Left.Nothing) stage member.old result member.new }
         ensures heeds { (line : ℕ) → result ≡ TakeStepped.Ends (Took.Over line) → wakes ≡ EventOrEnd }
     {
         match stage {
@@ -122,10 +122,13 @@ impl<S: Store<Entry<P>>, P: Part> Queue<S, P> {
         ensures { result ≡ popped_by answer }
     {
         match answer {
-            Answer::Entered(line, Reply::Got(item)) => TakeStepped::Ends(Took::Taken(line, item)),
-            Answer::Entered(line, _) => TakeStepped::Goes(TakeStage::Announces(line)),
+            Answer::Entered(line, reply) => match reply {
+                Reply::Got(item) => TakeStepped::Ends(Took::Taken(line, item)),
+                _ => TakeStepped::Goes(TakeStage::Announces(line)),
+            },
             Answer::BookFull => self.refused(CallError::BookFull),
             Answer::NoMemory => self.refused(CallError::NoMemory),
+            Answer::Refused(refusal) => self.refused(CallError::Refused(refusal.why())),
         }
     }
 
@@ -140,7 +143,7 @@ impl<S: Store<Entry<P>>, P: Part> Queue<S, P> {
     ) -> TakeStepped<Item<P>>
         requires queue { member.old.queue ≡ self.now }
         requires idle { is_idle member.old.pen.standing ≡ true }
-        ensures steps { LooksOneTimeBy (word_number P.wide) (left ≡ Left.Nothing) line member.old result member.new }
+        ensures steps { LooksOneTimeBy (word_number P.wide) wakes (left ≡ Left.Nothing) line member.old result member.new }
         ensures heeds { (number : ℕ) → result ≡ TakeStepped.Ends (Took.Over number) → wakes ≡ EventOrEnd }
     {
         let now = DueNow {

@@ -2,7 +2,7 @@
 ghost use Rattle.std.specs.Prelude.{◌≡◌, true, Ok, None};
 ghost use Rattle.desk_core.specs.Words.{word_number};
 ghost use Rattle.announce_board.specs.Tokens.{is_idle};
-ghost use Rattle.flat_queue.specs.declared.event_count.Wakes.TheVariants.{EventOrEnd};
+ghost use Rattle.flat_queue.specs.declared.event_count.Wakes.TheVariants.{Event, EventOrEnd};
 ghost use Rattle.flat_queue.specs.Taking.{TakesOneBy, TakesUntilBy, OrEndsBy, LooksUntilBy, LooksOnBy};
 ghost use Rattle.flat_queue.specs.Taking.{AddsPops, awaited_item, told_item};
 
@@ -47,7 +47,7 @@ impl<S: Store<Entry<P>>, P: Part> Queue<S, P> {
     ) -> Result<(u64, Item<P>), CallError>
         requires queue { member.old.queue ≡ self.now }
         requires idle { is_idle member.old.pen.standing ≡ true }
-        ensures takes { TakesOneBy (word_number P.wide) member.old result member.new }
+        ensures takes { TakesOneBy (word_number P.wide) Event member.old result member.new }
         ensures adds { AddsPops member.old (told_item result) member.new }
     {
         match self.take_waking(rt, member, Wakes::Event) {
@@ -70,7 +70,7 @@ impl<S: Store<Entry<P>>, P: Part> Queue<S, P> {
     ) -> Result<Awaited<Item<P>>, CallError>
         requires queue { member.old.queue ≡ self.now }
         requires idle { is_idle member.old.pen.standing ≡ true }
-        ensures takes { TakesUntilBy (word_number P.wide) (R.may_tell rt.now) deadline member.old result member.new }
+        ensures takes { TakesUntilBy (word_number P.wide) Event (R.may_tell rt.now) deadline member.old result member.new }
         ensures adds { AddsPops member.old (awaited_item result) member.new }
     {
         match self.take_waking_until(rt, member, deadline, Wakes::Event) {
@@ -89,7 +89,7 @@ impl<S: Store<Entry<P>>, P: Part> Queue<S, P> {
     ) -> Result<Option<(u64, Item<P>)>, CallError>
         requires queue { member.old.queue ≡ self.now }
         requires idle { is_idle member.old.pen.standing ≡ true }
-        ensures takes { OrEndsBy (word_number P.wide) (TakesOneBy (word_number P.wide)) member.old result member.new }
+        ensures takes { OrEndsBy (word_number P.wide) wakes (TakesOneBy (word_number P.wide) wakes) member.old result member.new }
         ensures heeds { result ≡ Ok None → wakes ≡ EventOrEnd }
     {
         match self.pop(rt, member) {
@@ -114,7 +114,8 @@ impl<S: Store<Entry<P>>, P: Part> Queue<S, P> {
     ) -> Result<Option<Awaited<Item<P>>>, CallError>
         requires queue { member.old.queue ≡ self.now }
         requires idle { is_idle member.old.pen.standing ≡ true }
-        ensures takes { OrEndsBy (word_number P.wide) (TakesUntilBy (word_number P.wide) (R.may_tell rt.now) deadline) member.old result member.new }
+        ensures takes { OrEndsBy (word_number P.wide) wakes (TakesUntilBy (word_number P.wide) wakes (R.may_tell rt.now) deadline)
+            member.old result member.new }
         ensures heeds { result ≡ Ok None → wakes ≡ EventOrEnd }
     {
         let by = By {
@@ -142,7 +143,7 @@ impl<S: Store<Entry<P>>, P: Part> Queue<S, P> {
     }
 
     // Looks for any item by steps, behind a pop that found none on this line, and sleeps between its looks, or rests where it
-    // found the lock held. `None` at the end of the queue: a look that began once that was over found no item.
+    // found the lock held. `None` at the end of the queue, where it heeds that: a look found the queue shut, and no item.
     #[tactic(auto, using(crate::proofs::TakeStepping::looks_first))]
     fn look_on<R: Wait, D: Deadline>(
         &self,
@@ -154,7 +155,7 @@ impl<S: Store<Entry<P>>, P: Part> Queue<S, P> {
     ) -> Result<Option<Awaited<Item<P>>>, CallError>
         requires queue { member.old.queue ≡ self.now }
         requires idle { is_idle member.old.pen.standing ≡ true }
-        ensures looks { LooksOnBy (word_number P.wide) (LooksUntilBy (word_number P.wide) (D.may_end deadline.now) line)
+        ensures looks { LooksOnBy (word_number P.wide) wakes (LooksUntilBy (word_number P.wide) (D.may_end deadline.now) line)
             member.old result member.new }
         ensures heeds { result ≡ Ok None → wakes ≡ EventOrEnd }
     {
@@ -167,7 +168,7 @@ impl<S: Store<Entry<P>>, P: Part> Queue<S, P> {
             match told {
                 TakeStepped::Ends(took) => return awaited_by(took, now),
                 TakeStepped::Goes(next) => {
-                    self.rest_before(rt, next, &mut rests, deadline, wakes);
+                    self.rest_before(rt, next, &mut rests, deadline);
                     rests = rests_at(next, rests, member.rest());
                     stage = next;
                 }
@@ -183,10 +184,9 @@ impl<S: Store<Entry<P>>, P: Part> Queue<S, P> {
         stage: TakeStage,
         rests: &mut Rest,
         deadline: &D,
-        wakes: Wakes,
     ) {
         match stage {
-            TakeStage::Sleeps(_, seen) => deadline.sleep(rt, &self.waiters, seen, wakes),
+            TakeStage::Sleeps(_, seen) => deadline.sleep(rt, &self.waiters, seen),
             TakeStage::Pops | TakeStage::Announces(_) | TakeStage::Looks(_, _) => {
                 rests.rest(rt, self.joined());
             }
@@ -215,7 +215,7 @@ impl<'q, S: Store<Entry<P>>, P: Part> Handle<'q, S, P> {
     /// Takes the first item out of the queue, and waits for one, as `Queue::take` does: the number of the pop's journal
     /// line, and the item. Refusals: `BookFull` (10), `Spent` (11).
     pub fn take<R: Wait>(&mut self, rt: &R) -> Result<(u64, Item<P>), CallError>
-        ensures takes { TakesOneBy (word_number P.wide) self.old result self.new }
+        ensures takes { TakesOneBy (word_number P.wide) Event self.old result self.new }
         ensures adds { AddsPops self.old (told_item result) self.new }
     {
         self.queue.take(rt, &mut self.member)
@@ -227,7 +227,7 @@ impl<'q, S: Store<Entry<P>>, P: Part> Handle<'q, S, P> {
         rt: &R,
         deadline: Instant,
     ) -> Result<Awaited<Item<P>>, CallError>
-        ensures takes { TakesUntilBy (word_number P.wide) (R.may_tell rt.now) deadline self.old result self.new }
+        ensures takes { TakesUntilBy (word_number P.wide) Event (R.may_tell rt.now) deadline self.old result self.new }
         ensures adds { AddsPops self.old (awaited_item result) self.new }
     {
         self.queue.take_until(rt, &mut self.member, deadline)

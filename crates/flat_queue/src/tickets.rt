@@ -4,6 +4,7 @@ ghost use Rattle.pq_types.specs.declared.journal.TheConstants.{GREATEST_NUMBER};
 ghost use Rattle.pq_types.specs.Operation.{ByTicket};
 ghost use Rattle.desk_core.specs.Words.{word_number};
 ghost use Rattle.announce_board.specs.Asking.{IsAnswerBy};
+ghost use Rattle.announce_board.specs.Slots.{MeetsTerms};
 ghost use Rattle.announce_board.specs.Tokens.{IsLeadOf, is_idle};
 ghost use Rattle.flat_queue.specs.Members.{pen_of, HasRoomForAll};
 ghost use Rattle.flat_queue.specs.Memory.{HasSpareRoom};
@@ -144,6 +145,7 @@ impl<S: TicketStore<Entry<P>>, P: Part> Queue<S, P> {
     ) -> Answer<Item<P>>
         requires queue { member.old.queue ≡ self.now }
         requires lead { IsLeadOf (pen_of member.old) lead }
+        requires terms { MeetsTerms self.now.terms lead.book }
         requires due { member.old.pen.due ≡ None }
         requires idle { is_idle member.old.pen.standing ≡ true }
         requires few { member.old.pen.posts < GREATEST_NUMBER }
@@ -199,6 +201,7 @@ fn end_by_ticket<P: Part>(answer: Answer<Item<P>>) -> Result<(u64, Option<Item<P
         Answer::Entered(number, reply) => Ok((number, found(reply))),
         Answer::BookFull => Err(CallError::BookFull),
         Answer::NoMemory => Err(CallError::NoMemory),
+        Answer::Refused(refusal) => Err(CallError::Refused(refusal.why())),
     }
 }
 

@@ -2,6 +2,7 @@
 ghost use Rattle.std.specs.Prelude.{◌≡◌, true};
 ghost use Rattle.desk_core.specs.Words.{word_number};
 ghost use Rattle.announce_board.specs.Tokens.{is_idle};
+ghost use Rattle.flat_queue.specs.declared.event_count.Wakes.TheVariants.{EventOrEnd};
 ghost use Rattle.flat_queue.specs.Taking.{OrEndsBy, TakesOneBy, TakesUntilBy, AddsPops, awaited_item, item_or_end, told_item};
 
 use crate::error::CallError;
@@ -19,9 +20,8 @@ use std::time::Instant;
 
 impl<S: Store<Entry<P>>, P: Part> Queue<S, P> {
     /// Takes the first item out of the queue, and waits for one, as `take` does, but no longer than to the end of the queue:
-    /// `None` once that is shut, nothing is left in it, and no push is under way by a call that heeds the end. This is told
-    /// behind a pop in vain, and a look in vain that began thereafter: it has one line. It passes no wake on then: one that
-    /// was woken for an item has looked since, and found that another took it.
+    /// `None` exactly where a look, behind a pop in vain, found the queue shut, and no item. So it has one line then. It passes no
+    /// wake on: one that was woken for an item has looked since, and found that another took it.
     pub fn take_or_end<R: Wait>(
         &self,
         rt: &R,
@@ -29,13 +29,14 @@ impl<S: Store<Entry<P>>, P: Part> Queue<S, P> {
     ) -> Result<Option<(u64, Item<P>)>, CallError>
         requires queue { member.old.queue ≡ self.now }
         requires idle { is_idle member.old.pen.standing ≡ true }
-        ensures takes { OrEndsBy (word_number P.wide) (TakesOneBy (word_number P.wide)) member.old result member.new }
+        ensures takes { OrEndsBy (word_number P.wide) EventOrEnd (TakesOneBy (word_number P.wide) EventOrEnd)
+            member.old result member.new }
         ensures adds { AddsPops member.old (item_or_end told_item result) member.new }
     {
         self.take_waking(rt, member, Wakes::EventOrEnd)
     }
 
-    /// The same until a deadline, as `take_until` does: where that has come, this is told and not the end.
+    /// The same until a deadline, as `take_until` does: where that came before a look, this is told and not the end.
     pub fn take_until_or_end<R: Wait + TimeSource>(
         &self,
         rt: &R,
@@ -44,7 +45,8 @@ impl<S: Store<Entry<P>>, P: Part> Queue<S, P> {
     ) -> Result<Option<Awaited<Item<P>>>, CallError>
         requires queue { member.old.queue ≡ self.now }
         requires idle { is_idle member.old.pen.standing ≡ true }
-        ensures takes { OrEndsBy (word_number P.wide) (TakesUntilBy (word_number P.wide) (R.may_tell rt.now) deadline) member.old result member.new }
+        ensures takes { OrEndsBy (word_number P.wide) EventOrEnd
+            (TakesUntilBy (word_number P.wide) EventOrEnd (R.may_tell rt.now) deadline) member.old result member.new }
         ensures adds { AddsPops member.old (item_or_end awaited_item result) member.new }
     {
         self.take_waking_until(rt, member, deadline, Wakes::EventOrEnd)
@@ -55,7 +57,8 @@ impl<'q, S: Store<Entry<P>>, P: Part> Handle<'q, S, P> {
     /// Takes the first item out of the queue, and waits for one until the end of the queue, as `Queue::take_or_end` does: the
     /// number of the pop's journal line, and the item; `None` at the end. Refusals: `BookFull` (10), `Spent` (11).
     pub fn take_or_end<R: Wait>(&mut self, rt: &R) -> Result<Option<(u64, Item<P>)>, CallError>
-        ensures takes { OrEndsBy (word_number P.wide) (TakesOneBy (word_number P.wide)) self.old result self.new }
+        ensures takes { OrEndsBy (word_number P.wide) EventOrEnd (TakesOneBy (word_number P.wide) EventOrEnd)
+            self.old result self.new }
         ensures adds { AddsPops self.old (item_or_end told_item result) self.new }
     {
         self.queue.take_or_end(rt, &mut self.member)
@@ -67,7 +70,8 @@ impl<'q, S: Store<Entry<P>>, P: Part> Handle<'q, S, P> {
         rt: &R,
         deadline: Instant,
     ) -> Result<Option<Awaited<Item<P>>>, CallError>
-        ensures takes { OrEndsBy (word_number P.wide) (TakesUntilBy (word_number P.wide) (R.may_tell rt.now) deadline) self.old result self.new }
+        ensures takes { OrEndsBy (word_number P.wide) EventOrEnd
+            (TakesUntilBy (word_number P.wide) EventOrEnd (R.may_tell rt.now) deadline) self.old result self.new }
         ensures adds { AddsPops self.old (item_or_end awaited_item result) self.new }
     {
         self.queue.take_until_or_end(rt, &mut self.member, deadline)

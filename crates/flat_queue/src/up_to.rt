@@ -126,6 +126,7 @@ fn end_up_to<P: Part>(answer: Answer<Item<P>>) -> Result<(u64, UpTo<Item<P>>), C
         Answer::Entered(number, reply) => Ok((number, told_of(reply))),
         Answer::BookFull => Err(CallError::BookFull),
         Answer::NoMemory => Err(CallError::NoMemory),
+        Answer::Refused(refusal) => Err(CallError::Refused(refusal.why())),
     }
 }
 

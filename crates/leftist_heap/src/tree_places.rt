@@ -286,4 +286,10 @@ impl<L: Level<A>, A: Allocator + Clone, const SPAN: u64> Level<A> for Branch<L, 
 /// tickets, in leaves of 64: some 1,100 bytes for each where one ticket in a thousand is open, and
 /// up to 34,000 for one that is open alone. Beside that, 32 bytes are taken for each 16,777,216
 /// tickets and never given back. Places of tickets from 2^48 on aren't kept.
-pub type TreePlaces<A> = Branch<Branch<Branch<Leaf<A>, A, 64>, A, 32_768>, A, 16_777_216>;
+pub type TreePlaces<A> = Above<Leaves<A>, A>;
+
+/// Leaves side by side.
+pub type Leaves<A> = Branch<Leaf<A>, A, 64>;
+
+/// What stands above leaves in such a table.
+pub type Above<L, A> = Branch<Branch<L, A, 32_768>, A, 16_777_216>;

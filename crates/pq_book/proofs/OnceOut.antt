@@ -9,7 +9,7 @@ use Rattle.pq_types.specs.Item.{Item, item}
 use Rattle.pq_types.specs.Asked.{Line, Operation}
 use Rattle.pq_types.specs.declared.request.Request.TheVariants.{Push, Pop, Least}
 use Rattle.pq_types.specs.declared.answer.Reply.TheVariants.{Got}
-use Rattle.pq_types.specs.Operation.{Asked, ByTicket, Remove, Move, Ticketed, ticket_of}
+use Rattle.pq_types.specs.Operation.{Asked, ByTicket, Shuts, Remove, Move, Ticketed, ticket_of}
 use Rattle.pq_types.specs.Entry.{Entry, entry, item_of, item_at, taken, entry_not_above, with_entry, without, with_moved, entries_after, reply_by}
 use Rattle.pq_types.specs.History.{entries_from, entries_of, IsLegal}
 use Rattle.pq_types.specs.Outs.{StandsAt, IsPutInOn, IsOutOn, put_in, under}
@@ -85,6 +85,7 @@ distinct = along (λ journal. AreDistinct (entries_of journal)) tt
       distinct_after [] n (Asked Pop) below h = tt
       distinct_after (e ∷ es) n (Asked Pop) below h = h.1
       distinct_after es n (Asked Least) below h = h
+      distinct_after es n Shuts below h = h
       distinct_after es n (ByTicket (Remove i)) below h = distinct_without i es h
       distinct_after es n (ByTicket (Move i p)) below h = distinct_moved (item_at i es) where
         distinct_moved : (x : Option Item) → AreDistinct (with_moved n p x (without i es))
@@ -107,6 +108,7 @@ gone_for_good i n es (l ∷ ls) less gone = gone_for_good i (n + 1) (entries_aft
   one_more [] (Asked Pop) gone = refl
   one_more (f ∷ fs) (Asked Pop) gone = right_false (f.line == i) (waits i fs) gone
   one_more fs (Asked Least) gone = gone
+  one_more fs Shuts gone = gone
   one_more fs (ByTicket (Remove j)) gone = still_gone j i fs gone
   one_more fs (ByTicket (Move j p)) gone = moved_waits_not i n p (item_at j fs) (without j fs) less (still_gone j i fs gone)
 

@@ -55,3 +55,9 @@ peak_is_the_greater before items peak is journal line most left =
 pub peak_entered : (old new : List Line) (l : Line) (before items peak : ℕ) → IsPeak old before → IsPeakWith before items peak → new ≡ old ++ l ∷ []
     → items ≡ length (left new) → IsPeak new peak
 peak_entered old new l before items peak was now grown is = subst (λ ls. IsPeak ls peak) (sym grown) (now old l was (is ∙ ap count grown))
+
+-- and it stays where the line changes nothing
+pub peak_stays : (old new : List Line) (l : Line) (peak : ℕ) → IsPeak old peak → new ≡ old ++ l ∷ [] → count new ≡ count old → IsPeak new peak
+peak_stays old new l peak was grown same =
+    let now : count old ≤ peak = omega (arith, was.bound (length old), ap count (take-length old)) in
+    peak_entered old new l peak (count new) peak was (peak_is_the_greater peak (count new) peak (omega (arith, now, same))) grown (omega arith)

@@ -1,21 +1,39 @@
 -- What a contract sees of a Book, and runs of requests on one.
-use Rattle.std.specs.Prelude.{Bool, ◌≡◌, ℕ, ◌<◌, ◌≤◌, List, [], ◌∷◌, ◌++◌}
+use Rattle.std.specs.Prelude.{Bool, ◌≡◌, ℕ, ◌+◌, ◌<◌, ◌≤◌, List, [], ◌∷◌, ◌++◌}
 use Rattle.pq_types.specs.Asked.{Request}
 use Rattle.pq_types.specs.Asked.{Reply}
 use Rattle.pq_types.specs.Asked.{Answer}
-use Rattle.pq_types.specs.declared.answer.Answer.TheVariants.{Entered, BookFull, NoMemory}
+use Rattle.pq_types.specs.declared.answer.Answer.TheVariants.{Entered, BookFull, NoMemory, Refused}
 use Rattle.pq_types.specs.Asked.{Line}
 use Rattle.pq_types.specs.declared.journal.TheConstants.{MOST_LINES, GREATEST_NUMBER}
 use Rattle.pq_types.specs.Queue.{IsProperReplyOf}
-use Rattle.pq_types.specs.History.{last_serial, journal_after, MayAnswer}
+use Rattle.pq_types.specs.History.{last_serial, journal_after, Limits, MayAnswer}
 use Rattle.leftist_heap.specs.declared.store.TheConstants.{MOST_ITEMS}
 use Rattle.pq_book.specs.declared.book.BookError.{BookError}
 use Rattle.pq_book.specs.declared.book.BookError.TheVariants.{LinesOutOfRange, NoMemory as OutOfMemory}
 
--- how many lines a Book has room for, and its journal
+-- how many lines a Book has room for, how many items pushes may leave in it, how many lines its journal may have until more
+-- are archived, and its journal
 pub record Volume : Type 0 where
   pub room : ℕ
+  pub bound : ℕ
+  pub allowed : ℕ
   pub journal : List Line
+
+-- the limits of these three numbers
+abbrev pub limits : ℕ → ℕ → ℕ → Limits
+limits room bound allowed = record { room = room; bound = bound; allowed = allowed }
+
+abbrev pub limits_of : Volume → Limits
+limits_of book = limits book.room book.bound book.allowed
+
+-- The Book has no bound, and forgets: until it is shut, it refuses nothing but for room and memory.
+abbrev pub IsPlain : Volume → Type 0
+IsPlain book = (book.bound ≡ book.room + 1) × (book.allowed ≡ book.room)
+
+-- the Book keeps its constants
+abbrev pub KeepsTerms : Volume → Volume → Type 0
+KeepsTerms old new = (new.room ≡ old.room) × (new.bound ≡ old.bound)
 
 -- a number of lines that a short journal may have room for, which is kept whole
 abbrev pub IsRoom : ℕ → Type 0
@@ -36,49 +54,62 @@ abbrev pub IsAnswerWithin : Bool → ℕ → Answer → Type 0
 IsAnswerWithin wide room (Entered number reply) = (0 < number) × (number ≤ room) × IsProperReplyOf wide reply
 IsAnswerWithin wide room BookFull = Unit {0}
 IsAnswerWithin wide room NoMemory = Unit {0}
+IsAnswerWithin wide room (Refused refusal) = Unit {0}
+
+-- the answer is a refusal, and not for want of memory
+abbrev pub IsBar : Answer → Type 0
+IsBar (Entered number reply) = ⊥
+IsBar BookFull = Unit {0}
+IsBar NoMemory = ⊥
+IsBar (Refused refusal) = Unit {0}
 
 -- the number of each refusal
 abbrev pub book_code : BookError → ℕ
 book_code LinesOutOfRange = 5
 book_code OutOfMemory = 6
 
--- a request from a place, with its serial and its answer
+-- a request from a place, with its serial and its answer, and how many lines were allowed then
 pub record Dealing : Type 0 where
+  pub allowed : ℕ
   pub place : ℕ
   pub serial : ℕ
   pub request : Request
   pub answer : Answer
 
--- A Book with this room and journal may answer these requests so, one after another, and then has
+-- A Book with this room, bound and journal may answer these requests so, one after another, and then has
 -- the journal `after`. Each request comes with a serial above those of its place.
-abbrev pub MayDeal : ℕ → List Line → List Dealing → List Line → Type 0
-MayDeal room journal [] after = after ≡ journal
-MayDeal room journal (d ∷ ds) after =
-    (last_serial d.place journal < d.serial) × MayAnswer room journal d.request d.answer
-    × MayDeal room (journal_after journal d.place d.serial d.request d.answer) ds after
+abbrev pub MayDeal : ℕ → ℕ → List Line → List Dealing → List Line → Type 0
+MayDeal room bound journal [] after = after ≡ journal
+MayDeal room bound journal (d ∷ ds) after =
+    (last_serial d.place journal < d.serial) × MayAnswer (limits room bound d.allowed) journal d.request d.answer
+    × MayDeal room bound (journal_after journal d.place d.serial d.request d.answer) ds after
 
 -- a request from this place and under this serial, which was answered so
-abbrev pub dealing : ℕ → ℕ → Request → Answer → Dealing
-dealing place serial request answer = record { place = place; serial = serial; request = request; answer = answer }
+abbrev pub dealing : ℕ → ℕ → ℕ → Request → Answer → Dealing
+dealing allowed place serial request answer =
+    record { allowed = allowed; place = place; serial = serial; request = request; answer = answer }
 
 -- A run of dealings and another that goes on from its journal are one run: so whoever calls `apply`
 -- again and again makes one.
 abbrev pub RunsJoin : Type 0
 RunsJoin =
-    (room : ℕ) (journal middle after : List Line) (first then : List Dealing)
-    → MayDeal room journal first middle → MayDeal room middle then after → MayDeal room journal (first ++ then) after
+    (room bound : ℕ) (journal middle after : List Line) (first then : List Dealing)
+    → MayDeal room bound journal first middle → MayDeal room bound middle then after
+    → MayDeal room bound journal (first ++ then) after
 
 -- the request x before the others, where the answer enters it
 abbrev pub with_entered : {X : Type 0} → Answer → X → List X → List X
 with_entered (Entered line reply) x xs = x ∷ xs
 with_entered BookFull x xs = xs
 with_entered NoMemory x xs = xs
+with_entered (Refused refusal) x xs = xs
 
 -- the reply before the others, where the answer has one
 abbrev pub with_reply : Answer → List Reply → List Reply
 with_reply (Entered line reply) replies = reply ∷ replies
 with_reply BookFull replies = replies
 with_reply NoMemory replies = replies
+with_reply (Refused refusal) replies = replies
 
 -- the requests that were entered, in their order
 abbrev pub entered_requests : List Dealing → List Request

@@ -8,6 +8,10 @@ pub record IsPeak (journal : List Line) (peak : ℕ) : Type 0 where
   pub bound : (k : ℕ) → length (left (take k journal)) ≤ peak
   pub reached : (k : ℕ) × (length (left (take k journal)) ≡ peak)
 
+-- neither the journal nor any beginning of it leaves more items than the bound
+abbrev pub KeepsBound : ℕ → List Line → Type 0
+KeepsBound bound journal = (k : ℕ) → length (left (take k journal)) ≤ bound
+
 -- Whatever journal had the peak `before`: with a line more, which leaves so many items, it has this peak.
 abbrev pub IsPeakWith : (before items peak : ℕ) → Type 0
 IsPeakWith before items peak =

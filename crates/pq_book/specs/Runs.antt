@@ -1,39 +1,43 @@
--- Runs of requests, removals and moves on a Book.
+-- Runs of requests, removals, moves and shuts on a Book.
 use Rattle.std.specs.Prelude.{◌≡◌, ℕ, ◌+◌, ◌<◌, List, [], ◌∷◌, ◌++◌}
 use Rattle.pq_types.specs.Asked.{Operation, Reply, Answer, Line}
 use Rattle.pq_types.specs.Operation.{Asked}
 use Rattle.pq_types.specs.Entry.{Entry, entries_after, reply_by}
 use Rattle.pq_types.specs.History.{last_serial, journal_by, MayDo}
-use Rattle.pq_book.specs.Book.{Dealing, with_entered, with_reply}
+use Rattle.pq_book.specs.Book.{Dealing, limits, with_entered, with_reply}
 
--- a request, a removal or a move from a place, with its serial and its answer
+-- a request, a removal, a move or a shut from a place, with its serial and its answer, and how many lines
+-- were allowed then
 pub record Doing : Type 0 where
+  pub allowed : ℕ
   pub place : ℕ
   pub serial : ℕ
   pub operation : Operation
   pub answer : Answer
 
 -- what was done for this place under this serial, and was answered so
-abbrev pub doing : ℕ → ℕ → Operation → Answer → Doing
-doing place serial operation answer = record { place = place; serial = serial; operation = operation; answer = answer }
+abbrev pub doing : ℕ → ℕ → ℕ → Operation → Answer → Doing
+doing allowed place serial operation answer =
+    record { allowed = allowed; place = place; serial = serial; operation = operation; answer = answer }
 
 -- a dealing as such
 abbrev pub as_doing : Dealing → Doing
-as_doing d = doing d.place d.serial (Asked d.request) d.answer
+as_doing d = doing d.allowed d.place d.serial (Asked d.request) d.answer
 
--- A Book with this room and journal may answer these so, one after another, and then has the journal `after`. Each comes with
+-- A Book with this room, bound and journal may answer these so, one after another, and then has the journal `after`. Each comes with
 -- a serial above those of its place.
-abbrev pub MayRun : ℕ → List Line → List Doing → List Line → Type 0
-MayRun room journal [] after = after ≡ journal
-MayRun room journal (d ∷ ds) after =
-    (last_serial d.place journal < d.serial) × MayDo room journal d.operation d.answer
-    × MayRun room (journal_by journal d.place d.serial d.operation d.answer) ds after
+abbrev pub MayRun : ℕ → ℕ → List Line → List Doing → List Line → Type 0
+MayRun room bound journal [] after = after ≡ journal
+MayRun room bound journal (d ∷ ds) after =
+    (last_serial d.place journal < d.serial) × MayDo (limits room bound d.allowed) journal d.operation d.answer
+    × MayRun room bound (journal_by journal d.place d.serial d.operation d.answer) ds after
 
 -- a run and another that goes on from its journal are one run
 abbrev pub DoingsJoin : Type 0
 DoingsJoin =
-    (room : ℕ) (journal middle after : List Line) (first then : List Doing)
-    → MayRun room journal first middle → MayRun room middle then after → MayRun room journal (first ++ then) after
+    (room bound : ℕ) (journal middle after : List Line) (first then : List Doing)
+    → MayRun room bound journal first middle → MayRun room bound middle then after
+    → MayRun room bound journal (first ++ then) after
 
 -- the operations that were entered, in their order
 abbrev pub entered_operations : List Doing → List Operation

@@ -1,14 +1,14 @@
 // A store of items with the journal of what was done on it: memory holds the last lines of the journal, all
 // of a short one, and a contract sees all of every one.
 ghost use Rattle.std.specs.Prelude.{◌≡◌, ◌+◌, ◌-◌, ◌≢◌, ◌<◌, ◌≤◌, ◌↔◌, ◌⊎◌, [], ◌∷◌, ◌++◌, length};
-ghost use Rattle.std.specs.Prelude.{map, drop, OnErr, OnOk, OnSome, IfOk, IfSome, IfNone, IsSome, IsErrOf};
+ghost use Rattle.std.specs.Prelude.{map, drop, max, min, OnErr, OnOk, OnSome, IfOk, IfSome, IfNone, IsSome, IsErrOf};
 ghost use Rattle.std.specs.List.{AllByRecursion};
 ghost use Rattle.pq_types.specs.Queue.{IsPush, reply_to};
 ghost use Rattle.pq_types.specs.Mail.{IsProperAnswerOf};
-ghost use Rattle.pq_types.specs.History.{left, IsLegal, SerialsRise, last_serial, journal_after, MayAnswer};
+ghost use Rattle.pq_types.specs.History.{left, is_shut, IsLegal, SerialsRise, HeedsShut, IsAdmitted, MayDo, last_serial, journal_after, MayAnswer};
 ghost use Rattle.pq_types.specs.Operation.{Asked};
-ghost use Rattle.pq_book.specs.Book.{IsRoom, IsLongRoom, IsAnswerWithin, AllHaveRoom, MayDeal, dealing, book_code};
-ghost use Rattle.pq_book.specs.Peak.{IsPeak, IsPeakWith};
+ghost use Rattle.pq_book.specs.Book.{Volume, limits_of, IsPlain, KeepsTerms, IsBar, IsRoom, IsLongRoom, IsAnswerWithin, AllHaveRoom, MayDeal, dealing, book_code};
+ghost use Rattle.pq_book.specs.Peak.{IsPeak, IsPeakWith, KeepsBound};
 ghost use Rattle.pq_book.specs.Parts.{AreParts};
 ghost use Rattle.pq_types.specs.Entry.{item_of, entries_after};
 ghost use Rattle.pq_book.specs.Pages.{page_of, AreLast};
@@ -19,13 +19,16 @@ use crate::limit::page_of;
 use crate::lines::{LastLines, LinesError};
 use crate::pages::Journal;
 use leftist_heap::{MOST_ITEMS, Store};
-use pq_types::laws::{law_items_stay_in_range, law_one_more_line, law_request_is_proper};
-use pq_types::{Answer, GREATEST_NUMBER, Item, Line, MOST_LINES, Operation, Part, Reply, Request};
+use pq_types::laws::{law_items_stay_in_range, law_one_more_line, law_request_is_proper, law_shut};
+use pq_types::{
+    Answer, GREATEST_NUMBER, Item, Line, MOST_LINES, Operation, Part, Refusal, Reply, Request,
+};
 use std::alloc::{AllocError, Allocator};
 use std::marker::Model;
 use thiserror::Error;
 
 pub mod by_ticket;
+pub mod shutting;
 
 /// Why there is no Book.
 #[derive(Clone, Copy, Debug, PartialEq, Eq, Error)]
@@ -50,31 +53,42 @@ impl BookError {
     }
 }
 
-/// A store of items and the journal of the requests, removals and moves that were carried out on it. Its
-/// store always holds what the journal leaves on the empty queue, each item with the journal line that
-/// put it in; each line has the reply of that queue, and the serials of each place rise strictly. In
-/// memory is a page of the journal: all lines of one with room for 1,048,576 at most, else the last
-/// 65,536. A contract sees the room and the whole journal.
+/// A store of items and the journal of the operations that were carried out on it. Its store always holds
+/// what the journal leaves on the empty queue, each item with the journal line that put it in; each line
+/// has the reply of that queue, and the serials of each place rise strictly. No push stands after a shut,
+/// and no beginning of the journal leaves more items than the bound. In memory is a page of the journal:
+/// all lines of one with room for 1,048,576 at most, else the last 65,536. A contract sees the limits and
+/// the whole journal.
 #[derive(Drop)]
 pub struct Book<S: Store<Entry<P>>, A: Allocator, P: Part = u32> {
     store: S,
     journal: Journal<A, P>,
     room: u64,
+    bound: u64,
+    allowed: u64,
+    // The lesser of `room` and `allowed`: with so many lines the journal takes no other.
+    line_limit: u64,
+    // The bound, or 0 where the queue is shut: with so many items it takes no push.
+    push_limit: u64,
+    shut: bool,
     peak: u64,
 }
 
 impl<S: Store<Entry<P>>, A: Allocator, P: Part> Model for Book<S, A, P> {
-    ghost use Rattle.pq_book.specs.Book.{Volume};
+    ghost use Rattle.std.specs.Prelude.{◌≡◌, min, if◌then◌else◌};
+    ghost use Rattle.pq_book.specs.Book.{Volume, limits};
+    ghost use Rattle.pq_types.specs.History.{is_shut};
     ghost use Rattle.pq_book.specs.Kept.{Kept};
     ghost use Rattle.pq_book.specs.Pages.{all, IsPaged};
     ghost use Rattle.pq_book.specs.Peak.{IsPeak};
 
     ghost Value = { Volume };
 
-    ghost view = { λ b. record { room = b.room; journal = all b.journal } };
+    ghost view = { λ b. record { room = b.room; bound = b.bound; allowed = b.allowed; journal = all b.journal } };
 
-    ghost invariant = { λ b. Kept P.wide (S.content b.store) (all b.journal) b.room × IsPaged b.room b.journal
-        × IsPeak (all b.journal) b.peak };
+    ghost invariant = { λ b. Kept P.wide (S.content b.store) (all b.journal) (limits b.room b.bound b.allowed)
+        × IsPaged b.room b.journal × IsPeak (all b.journal) b.peak × (b.shut ≡ is_shut (all b.journal))
+        × (b.line_limit ≡ min b.room b.allowed) × (b.push_limit ≡ (if b.shut then 0 else b.bound)) };
 }
 
 impl<S: Store<Entry<P>>, A: Allocator, P: Part> Book<S, A, P> {
@@ -83,6 +97,7 @@ impl<S: Store<Entry<P>>, A: Allocator, P: Part> Book<S, A, P> {
     pub fn new(alloc: A, store: S, lines: u32) -> Result<Self, BookError>
         requires { S.content store ≡ [] }
         ensures ok { IfOk result (λ book. (book.room ≡ lines) × (book.journal ≡ [])) }
+        ensures plain { IfOk result IsPlain }
         ensures in_range { IfOk result (λ _. IsRoom lines) }
         ensures out_of_range { IsErrOf result BookError.LinesOutOfRange ↔ (¬ (IsRoom lines)) }
     {
@@ -99,6 +114,25 @@ impl<S: Store<Entry<P>>, A: Allocator, P: Part> Book<S, A, P> {
     pub fn lasting(alloc: A, store: S, room: u64) -> Result<Self, BookError>
         requires { S.content store ≡ [] }
         ensures ok { IfOk result (λ book. (book.room ≡ room) × (book.journal ≡ [])) }
+        ensures plain { IfOk result IsPlain }
+        ensures in_range { IfOk result (λ _. IsLongRoom room) }
+        ensures out_of_range { IsErrOf result BookError.LinesOutOfRange ↔ (¬ (IsLongRoom room)) }
+    {
+        Book::limited(alloc, store, room, room.saturating_add(1), room)
+    }
+
+    /// As `lasting`, with a bound, the most items that pushes may leave; and with the number of lines that
+    /// the journal may have until more are archived. That is `page_of` the room where the Book refuses rather
+    /// than forget, the room where it forgets.
+    pub fn limited(
+        alloc: A,
+        store: S,
+        room: u64,
+        bound: u64,
+        allowed: u64,
+    ) -> Result<Self, BookError>
+        requires { S.content store ≡ [] }
+        ensures ok { IfOk result (λ book. (book.room ≡ room) × (book.bound ≡ bound) × (book.allowed ≡ allowed) × (book.journal ≡ [])) }
         ensures in_range { IfOk result (λ _. IsLongRoom room) }
         ensures out_of_range { IsErrOf result BookError.LinesOutOfRange ↔ (¬ (IsLongRoom room)) }
     {
@@ -112,35 +146,43 @@ impl<S: Store<Entry<P>>, A: Allocator, P: Part> Book<S, A, P> {
             store,
             journal,
             room,
+            bound,
+            allowed,
+            line_limit: room.min(allowed),
+            push_limit: bound,
+            shut: false,
             peak: 0,
         })
     }
 
     /// Carries a request out and enters it in the journal; where the page is full, its oldest line is
-    /// forgotten. It answers BookFull exactly where the journal is full, and else NoMemory only to a
-    /// push: one for which the store could not grow, or which found 4,294,967,295 items in it. After
-    /// these two nothing has changed. Over stores that all have room for as many items as the
+    /// forgotten. Journal and limits decide whether it is refused, and why: `MayDo` has the order. Else it answers NoMemory only
+    /// to a push: one for which the store could not grow, or which found 4,294,967,295 items in it. After
+    /// a refusal nothing has changed. Over stores that all have room for as many items as the
     /// journal has lines, as `ReservedHeap`, it never answers NoMemory; nor, in a lasting journal too,
     /// while they all have room for one item more than the journal leaves. It takes no memory but the
     /// store's. The serial is above each one that the place has in the journal.
     #[inline(always)]
     pub fn apply(&mut self, place: u16, serial: u64, request: Request<Item<P>>) -> Answer<Item<P>>
         requires { last_serial place self.old.journal < serial }
-        ensures answer { MayAnswer self.old.room self.old.journal request result }
+        ensures answer { MayAnswer (limits_of self.old) self.old.journal request result }
         ensures journal { self.new.journal ≡ journal_after self.old.journal place serial request result }
-        ensures room { self.new.room ≡ self.old.room }
+        ensures terms { KeepsTerms self.old self.new }
+        ensures allowed { self.new.allowed ≡ self.old.allowed }
         ensures proper { IsProperAnswerOf P.wide result }
         ensures within { IsAnswerWithin P.wide self.old.room result }
         ensures memory { AllHaveRoom S.room self.old.room → result ≢ Answer.NoMemory }
         ensures spare { AllHaveRoom S.room (length (left self.old.journal) + 1) → result ≢ Answer.NoMemory }
         // A run of one dealing, of those that `law_every_run` speaks of.
-        ensures run { MayDeal self.old.room self.old.journal (dealing place serial request result ∷ []) self.new.journal }
+        ensures run { MayDeal self.old.room self.old.bound self.old.journal
+            (dealing self.old.allowed place serial request result ∷ []) self.new.journal }
     {
         law_one_more_line();
+        law_shut();
         law_items_stay_in_range();
         law_request_is_proper(&request);
-        if self.journal.len() >= self.room {
-            return Answer::BookFull;
+        if let Some(refused) = self.bar(&Operation::asked(request)) {
+            return refused;
         }
         let number = self.journal.len() + 1;
         let asked = request;
@@ -156,6 +198,82 @@ impl<S: Store<Entry<P>>, A: Allocator, P: Part> Book<S, A, P> {
         });
         self.peak = peak_with(self.peak, self.store.len() as u64);
         Answer::Entered(number, reply)
+    }
+
+    // What refuses the operation, but for memory. Where nothing does, two comparisons say so, but of a shut.
+    #[inline(always)]
+    fn bar(&self, operation: &Operation<P>) -> Option<Answer<Item<P>>>
+        ensures refused { IfSome result (λ answer. MayDo (limits_of self.now) self.now.journal operation.now answer × IsBar answer) }
+        ensures admitted { IfNone result (IsAdmitted (limits_of self.now) self.now.journal operation.now) }
+    {
+        if self.journal.len() < self.line_limit {
+            if operation.adds() {
+                if (self.store.len() as u64) < self.push_limit {
+                    return None;
+                }
+            } else if !operation.ends_at_shut() {
+                return None;
+            }
+        }
+        self.first_bar(operation)
+    }
+
+    // The same, by the first of these that is true.
+    #[inline(always)]
+    fn first_bar(&self, operation: &Operation<P>) -> Option<Answer<Item<P>>>
+        ensures refused { IfSome result (λ answer. MayDo (limits_of self.now) self.now.journal operation.now answer × IsBar answer) }
+        ensures admitted { IfNone result (IsAdmitted (limits_of self.now) self.now.journal operation.now) }
+    {
+        let lines = self.journal.len();
+        if lines >= self.room {
+            return Some(Answer::BookFull);
+        }
+        if self.shut && operation.ends_at_shut() {
+            return Some(Answer::Refused(Refusal::Shut.padded()));
+        }
+        if lines >= self.allowed {
+            return Some(Answer::Refused(Refusal::Unarchived.padded()));
+        }
+        if operation.adds() && self.store.len() as u64 >= self.bound {
+            return Some(Answer::Refused(Refusal::Full.padded()));
+        }
+        None
+    }
+
+    /// The first so many lines are archived, or all where there are fewer. From now on the journal may have
+    /// as many more as memory keeps. Enters nothing, and takes no memory.
+    pub fn archived(&mut self, lines: u64)
+        ensures allowed { self.new.allowed ≡ max self.old.allowed (min lines (length self.old.journal) + page_of self.old.room) }
+        ensures journal { self.new.journal ≡ self.old.journal }
+        ensures terms { KeepsTerms self.old self.new }
+    {
+        let archived = lines.min(self.journal.len());
+        self.allowed = self.allowed.max(archived + page_of(self.room) as u64);
+        self.line_limit = self.room.min(self.allowed);
+    }
+
+    /// Whether the queue is shut: whether the journal has a shut line. Enters nothing, and takes no memory.
+    pub fn is_shut(&self) -> bool
+        ensures shut { result ≡ is_shut self.now.journal }
+        ensures heeds { HeedsShut self.now.journal }
+    {
+        self.shut
+    }
+
+    /// The most items that pushes may leave: none of its journal's beginnings leaves more. Enters nothing, and takes no memory.
+    pub fn bound(&self) -> u64
+        ensures bound { result ≡ self.now.bound }
+        ensures kept { KeepsBound result self.now.journal }
+    {
+        self.bound
+    }
+
+    /// How many lines the journal may have until more are archived. Enters nothing, and takes no memory.
+    pub fn allowed(&self) -> u64
+        ensures allowed { result ≡ self.now.allowed }
+        ensures kept { length self.now.journal ≤ result }
+    {
+        self.allowed
     }
 
     /// The first item that the journal leaves in the queue, where there is one: what a pop would take
@@ -246,6 +364,8 @@ impl<S: Store<Entry<P>>, A: Allocator, P: Part> Book<S, A, P> {
         ensures ok { OnOk result (archive.new.items ≡ archive.old.items ++ drop archived self.now.journal) }
         ensures err { OnErr result (archive.new.items ≡ archive.old.items) }
         ensures forgotten { IsErrOf result LinesError.Forgotten ↔ archived + page_of self.now.room < length self.now.journal }
+        // An archive with as many lines as the Book takes for archived loses none.
+        ensures kept { self.now.allowed ≤ archived + page_of self.now.room → IsErrOf result LinesError.Forgotten → ⊥ }
     {
         if archived < self.journal.forgotten() {
             return Err(LinesError::Forgotten);
@@ -270,6 +390,11 @@ impl<S: Store<Entry<P>>, A: Allocator, P: Part> Book<S, A, P> {
             store,
             journal,
             room: _,
+            bound: _,
+            allowed: _,
+            line_limit: _,
+            push_limit: _,
+            shut: _,
             peak: _,
         } = book;
         let forgotten = journal.forgotten();
@@ -287,6 +412,11 @@ impl<S: Store<Entry>, A: Allocator> Book<S, A> {
             store,
             journal,
             room: _,
+            bound: _,
+            allowed: _,
+            line_limit: _,
+            push_limit: _,
+            shut: _,
             peak: _,
         } = self;
         let forgotten = journal.forgotten();

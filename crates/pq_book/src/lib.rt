@@ -1,9 +1,10 @@
-//! The Book of the combining priority queue: a store of items and the journal of the requests, removals
-//! and moves that it carried out.
+//! The Book of the combining priority queue: a store of items and the journal of the requests, removals,
+//! moves and shuts that it carried out.
 //!
 //! To the layer above it promises that the content and the replies of a Book are those of its
-//! journal on a queue of one thread, and that `apply` and `apply_by_ticket` add one line or nothing; of a
-//! long journal memory holds the last lines alone.
+//! journal on a queue of one thread; that `apply`, `apply_by_ticket` and `apply_shut` add one line or
+//! nothing; and that journal and limits decide what they refuse, but for memory. Of a long journal
+//! memory holds the last lines alone.
 #![tactic(auto)]
 
 pub mod book;

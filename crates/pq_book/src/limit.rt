@@ -1,5 +1,6 @@
 // How much of a journal is kept.
-ghost use Rattle.std.specs.Prelude.{◌≡◌, ◌<◌};
+ghost use Rattle.std.specs.Prelude.{◌≡◌, ◌<◌, ◌≤◌};
+ghost use Rattle.pq_book.specs.declared.limit.TheConstants.{LONGEST_PAGE};
 ghost use Rattle.pq_book.specs.Pages.{page_of, room_keeping, IsLongPage};
 
 use pq_types::{GREATEST_NUMBER, MOST_LINES};
@@ -20,6 +21,7 @@ pub const LONGEST_PAGE: usize = 16_777_216;
 pub fn page_of(room: u64) -> usize
     ensures page { result ≡ page_of room }
     ensures some { 0 < room → 0 < result }
+    ensures most { result ≤ LONGEST_PAGE }
 {
     if room <= MOST_LINES {
         return room as usize;

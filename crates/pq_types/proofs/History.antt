@@ -9,7 +9,7 @@ use Rattle.pq_types.specs.Asked.{Line}
 use Rattle.pq_types.specs.Item.{Item}
 use Rattle.pq_types.specs.Item.{item, bound_of, IsItemOf, not_above}
 use Rattle.pq_types.specs.Asked.{Operation}
-use Rattle.pq_types.specs.Operation.{Asked, ByTicket, Remove, Move, ticket_of}
+use Rattle.pq_types.specs.Operation.{Asked, ByTicket, Shuts, Remove, Move, ticket_of}
 use Rattle.pq_types.specs.Queue.{AreItemsOf, IsAscending, IsProperRequestOf, IsProperReplyOf, content_after, reply_to, with_item}
 use Rattle.pq_types.specs.Queue.{replies_from, content_after_all}
 use Rattle.pq_types.specs.Entry.{Entry, entry, item_of, entry_not_above, with_entry, without, with_moved, entries_after, reply_by, item_at, taken, IsProperOperationOf}
@@ -69,6 +69,7 @@ left_asked es n (l ∷ ls) h = step l.operation h.0 (λ xs. left_asked xs (n + 1
       → map item_of (entries_from (entries_after es n d) (n + 1) ls) ≡ content_after_all (map item_of es) (asked_before d (requests_of ls))
   step (Asked q) a rest = rest (entries_after es n (Asked q)) ∙ ap (λ ys. content_after_all ys (requests_of ls)) (map-asked es n q)
   step (ByTicket t) a rest = absurd a
+  step Shuts a rest = absurd a
 
 both : {A : Type 0} {x y : A} {xs ys : List A} → x ≡ y → xs ≡ ys → x ∷ xs ≡ y ∷ ys
 both {A} {x} {y} {xs} {ys} e es = ap (λ z. z ∷ xs) e ∙ ap (λ zs. y ∷ zs) es
@@ -79,7 +80,7 @@ heads {A} {x} {y} {xs} {ys} e = ap first e where
   first [] = x
   first (z ∷ zs) = z
 
-tails : {A : Type 0} {x y : A} {xs ys : List A} → x ∷ xs ≡ y ∷ ys → xs ≡ ys
+pub tails : {A : Type 0} {x y : A} {xs ys : List A} → x ∷ xs ≡ y ∷ ys → xs ≡ ys
 tails {A} {x} {y} {xs} {ys} e = ap rest e where
   rest : List A → List A
   rest [] = []
@@ -93,6 +94,7 @@ replied es n (l ∷ ls) h legal = step l.operation h.0 legal.0 (replied (entries
       → l.reply ∷ replies_of ls ≡ replies_from (map item_of es) (asked_before d (requests_of ls))
   step (Asked q) a e rest = both e (rest ∙ ap (λ ys. replies_from ys (requests_of ls)) (map-asked es n q))
   step (ByTicket t) a e rest = absurd a
+  step Shuts a e rest = absurd a
 
 legal_by : (es : List Entry) (n : ℕ) (ls : List Line) → AreAllAsked ls → replies_of ls ≡ replies_from (map item_of es) (requests_of ls) → IsLegalFrom es n ls
 legal_by es n [] h e = tt
@@ -102,6 +104,7 @@ legal_by es n (l ∷ ls) h e = step l.operation h.0 e (λ r. legal_by (entries_a
       → (l.reply ≡ reply_by es d) × IsLegalFrom (entries_after es n d) (n + 1) ls
   step (Asked q) a e rest = (heads e, rest (tails e ∙ sym (ap (λ ys. replies_from ys (requests_of ls)) (map-asked es n q))))
   step (ByTicket t) a e rest = absurd a
+  step Shuts a e rest = absurd a
 
 pub without_tickets : (ls : List Line) → AreAllAsked ls
     → (left ls ≡ content_after_all [] (requests_of ls)) × (IsLegal ls ↔ (replies_of ls ≡ replies_from [] (requests_of ls)))
@@ -160,6 +163,7 @@ moved_items wide n p (Some x) es low found h =
 pub entries_items : (wide : Bool) (es : List Entry) (n : ℕ) (o : Operation) → IsProperOperationOf wide o → AreItemsOf wide (map item_of es)
     → AreItemsOf wide (map item_of (entries_after es n o))
 entries_items wide es n (Asked q) i h = subst (AreItemsOf wide) (sym (map-asked es n q)) (content_items wide (map item_of es) q i h)
+entries_items wide es n Shuts u h = h
 entries_items wide es n (ByTicket (Remove i)) u h = all_without (IsItemOf wide) i es h
 entries_items wide es n (ByTicket (Move i p)) low h =
     moved_items wide n p (item_at i es) (without i es) low (of_item_at (IsItemOf wide) i es h) (all_without (IsItemOf wide) i es h)
@@ -171,6 +175,7 @@ taken_proper wide i (e ∷ es) h =
 
 pub reply_by_proper : (wide : Bool) (es : List Entry) (o : Operation) → AreItemsOf wide (map item_of es) → IsProperReplyOf wide (reply_by es o)
 reply_by_proper wide es (Asked q) h = reply_proper wide (map item_of es) q h
+reply_by_proper wide es Shuts h = tt
 reply_by_proper wide es (ByTicket t) h = taken_proper wide (ticket_of t) es h
 
 length-with_entry : (e : Entry) (es : List Entry) → length (with_entry e es) ≡ length es + 1
@@ -194,6 +199,7 @@ entries_longer es n (Asked (Push x)) = omega (arith, length-with_entry (entry n 
 entries_longer [] n (Asked Pop) = omega arith
 entries_longer (e ∷ es) n (Asked Pop) = omega arith
 entries_longer es n (Asked Least) = omega arith
+entries_longer es n Shuts = omega arith
 entries_longer es n (ByTicket (Remove i)) = omega (arith, length-without i es)
 entries_longer es n (ByTicket (Move i p)) = omega (arith, length-moved n p (item_at i es) (without i es), length-without i es)
 
@@ -258,6 +264,7 @@ ascending_moved n p (Some x) es a =
 
 entries_ascending : (es : List Entry) (n : ℕ) (d : Operation) → IsAscending (map item_of es) → IsAscending (map item_of (entries_after es n d))
 entries_ascending es n (Asked q) a = subst IsAscending (sym (map-asked es n q)) (content_ascending (map item_of es) q a)
+entries_ascending es n Shuts a = a
 entries_ascending es n (ByTicket (Remove i)) a = ascending_without i es a
 entries_ascending es n (ByTicket (Move i p)) a = ascending_moved n p (item_at i es) (without i es) (ascending_without i es a)
 

@@ -59,16 +59,19 @@ abbrev pub notice_of : Answer → Notice
 notice_of (answer.Entered line r) = notice.Entered line (outcome_of r)
 notice_of answer.BookFull = notice.BookFull
 notice_of answer.NoMemory = notice.NoMemory
+notice_of (answer.Refused refusal) = notice.Refused refusal
 
 abbrev pub answer_with : Notice → Item → Answer
 answer_with (notice.Entered line o) x = answer.Entered line (reply_with o x)
 answer_with notice.BookFull x = answer.BookFull
 answer_with notice.NoMemory x = answer.NoMemory
+answer_with (notice.Refused refusal) x = answer.Refused refusal
 
 abbrev pub answer_item : Answer → Option Item
 answer_item (answer.Entered line r) = reply_item r
 answer_item answer.BookFull = None
 answer_item answer.NoMemory = None
+answer_item (answer.Refused refusal) = None
 
 -- the control of a posted request with this serial, and of an answer
 abbrev pub posted : ℕ → Request → Control
@@ -126,6 +129,7 @@ abbrev pub notice_has_item : Notice → Bool
 notice_has_item (notice.Entered line o) = outcome_has_item o
 notice_has_item notice.BookFull = false
 notice_has_item notice.NoMemory = false
+notice_has_item (notice.Refused refusal) = false
 
 abbrev pub has_item : Control → Bool
 has_item Nothing = false

@@ -5,7 +5,7 @@ use Rattle.pq_types.specs.Asked.{Operation}
 use Rattle.pq_types.specs.Asked.{Reply}
 use Rattle.pq_types.specs.declared.request.Request.TheVariants.{Push, Pop, Least}
 use Rattle.pq_types.specs.declared.answer.Reply.TheVariants.{Got, Empty}
-use Rattle.pq_types.specs.Operation.{Asked, ByTicket, Remove, Move, ticket_of}
+use Rattle.pq_types.specs.Operation.{Asked, ByTicket, Shuts, Remove, Move, ticket_of}
 use Rattle.pq_types.specs.Queue.{reply_to, IsProperRequestOf}
 
 -- an entry as contracts see it, whatever the width of its parts
@@ -48,7 +48,7 @@ with_moved line priority (Some x) es = with_entry (entry line (item priority x.v
 
 -- The entries after what this line says was done: a push puts its entry behind every one whose priority is not above
 -- its own, a pop takes the first one out, a removal that of its line, where it waits. A move puts that one behind every
--- one whose priority is not above its new one, as an entry of its own line.
+-- one whose priority is not above its new one, as an entry of its own line. A shut changes nothing.
 abbrev pub entries_after : List Entry → ℕ → Operation → List Entry
 entries_after es line (Asked (Push x)) = with_entry (entry line x) es
 entries_after [] line (Asked Pop) = []
@@ -56,19 +56,23 @@ entries_after (e ∷ es) line (Asked Pop) = es
 entries_after es line (Asked Least) = es
 entries_after es line (ByTicket (Remove i)) = without i es
 entries_after es line (ByTicket (Move i priority)) = with_moved line priority (item_at i es) (without i es)
+entries_after es line Shuts = es
 
 -- what is told of an item that was to be taken out
 abbrev pub taken : Option Item → Reply
 taken None = Empty
 taken (Some x) = Got x
 
--- the reply to it: to a request that of the queue with these items, to the use of a ticket the item as it was, where it waits
+-- the reply to it: to a request that of the queue with these items, to the use of a ticket the item as it
+-- was, where it waits; to a shut Empty, as it takes nothing out
 abbrev pub reply_by : List Entry → Operation → Reply
 reply_by es (Asked q) = reply_to (map item_of es) q
 reply_by es (ByTicket ticketed) = taken (item_at (ticket_of ticketed) es)
+reply_by es Shuts = Empty
 
 -- what was done, with an item in the range where a request has one, and with a priority in the range where a move has one
 abbrev pub IsProperOperationOf : Bool → Operation → Type 0
 IsProperOperationOf wide (Asked q) = IsProperRequestOf wide q
 IsProperOperationOf wide (ByTicket (Remove i)) = Unit {0}
 IsProperOperationOf wide (ByTicket (Move i priority)) = priority < bound_of wide
+IsProperOperationOf wide Shuts = Unit {0}

@@ -1,14 +1,15 @@
 -- The journal: what its lines leave in the queue, and when it is the history of one queue.
-use Rattle.std.specs.Prelude.{◌≡◌, ℕ, ◌+◌, ◌<◌, max, if◌then◌else◌, ◌==◌, List, [], ◌∷◌, ◌++◌, length, map}
+use Rattle.std.specs.Prelude.{◌≡◌, ℕ, ◌+◌, ◌<◌, ◌≤◌, max, if◌then◌else◌, ◌==◌, ◌||◌, Bool, true, false, List, [], ◌∷◌, ◌++◌, length, map}
 use Rattle.std.specs.List.{AllByRecursion}
 use Rattle.pq_types.specs.Item.{Item}
 use Rattle.pq_types.specs.Asked.{Request}
 use Rattle.pq_types.specs.Asked.{Reply}
 use Rattle.pq_types.specs.Asked.{Answer}
-use Rattle.pq_types.specs.declared.answer.Answer.TheVariants.{Entered, BookFull, NoMemory}
+use Rattle.pq_types.specs.declared.answer.Answer.TheVariants.{Entered, BookFull, NoMemory, Refused}
+use Rattle.pq_types.specs.declared.answer.Refusal.TheVariants.{Shut, Unarchived, Full}
 use Rattle.pq_types.specs.Asked.{Line}
 use Rattle.pq_types.specs.Asked.{Operation}
-use Rattle.pq_types.specs.Operation.{Asked, ByTicket, Remove, Move}
+use Rattle.pq_types.specs.Operation.{Asked, ByTicket, Shuts, Remove, Move}
 use Rattle.pq_types.specs.Queue.{IsPush}
 use Rattle.pq_types.specs.Entry.{Entry, item_of, entries_after, reply_by}
 
@@ -57,42 +58,99 @@ abbrev pub PutsIn : Operation → Type 0
 PutsIn (Asked request) = IsPush request
 PutsIn (ByTicket (Remove i)) = ⊥
 PutsIn (ByTicket (Move i priority)) = Unit {0}
+PutsIn Shuts = ⊥
 
 -- the journal after something is answered: what is entered has a line at the end, anything else has none
 abbrev pub journal_by : List Line → ℕ → ℕ → Operation → Answer → List Line
 journal_by lines place serial operation (Entered number reply) = lines ++ line_of place serial operation reply ∷ []
 journal_by lines place serial operation BookFull = lines
 journal_by lines place serial operation NoMemory = lines
+journal_by lines place serial operation (Refused refusal) = lines
 
 -- the journal after a request is answered
 abbrev pub journal_after : List Line → ℕ → ℕ → Request → Answer → List Line
 journal_after lines place serial request answer = journal_by lines place serial (Asked request) answer
 
--- What an operation may be answered where the journal has these lines and room for so many: BookFull
--- where it is full; else the next line's number and the one-thread queue's reply, or, to a push
--- or a move alone, NoMemory.
-abbrev pub MayDo : ℕ → List Line → Operation → Answer → Type 0
-MayDo room lines operation (Entered number reply) =
-    (length lines < room) × (number ≡ length lines + 1) × (reply ≡ reply_by (entries_of lines) operation)
-MayDo room lines operation BookFull = length lines ≡ room
-MayDo room lines operation NoMemory = (length lines < room) × PutsIn operation
+-- an operation after which one item more waits: a push
+abbrev pub Adds : Operation → Type 0
+Adds (Asked request) = IsPush request
+Adds (ByTicket ticketed) = ⊥
+Adds Shuts = ⊥
+
+-- an operation that a shut queue refuses: a push, and another shut
+abbrev pub EndsAtShut : Operation → Type 0
+EndsAtShut (Asked request) = IsPush request
+EndsAtShut (ByTicket ticketed) = ⊥
+EndsAtShut Shuts = Unit {0}
+
+-- this line shuts the queue
+abbrev pub shuts : Operation → Bool
+shuts (Asked request) = false
+shuts (ByTicket ticketed) = false
+shuts Shuts = true
+
+-- the queue is shut: the journal has a shut line
+abbrev pub is_shut : List Line → Bool
+is_shut [] = false
+is_shut (l ∷ ls) = shuts l.operation || is_shut ls
+
+-- after a shut line stands no push, and no other shut
+abbrev pub HeedsShut : List Line → Type 0
+HeedsShut [] = Unit {0}
+HeedsShut (l ∷ ls) = (shuts l.operation ≡ true → AllByRecursion (λ m. EndsAtShut m.operation → ⊥) ls) × HeedsShut ls
+
+-- A queue's limits: for how many lines its journal has room, and how many items pushes may leave, which are
+-- constants; and how many lines the journal may have until more are archived.
+pub record Limits : Type 0 where
+  pub room : ℕ
+  pub bound : ℕ
+  pub allowed : ℕ
+
+-- no shut refuses the operation
+abbrev pub IsHeard : List Line → Operation → Type 0
+IsHeard lines operation = EndsAtShut operation → is_shut lines ≡ false
+
+-- Nothing but memory refuses the operation: the journal has room for a line; its line makes memory forget none that is not
+-- archived; no shut refuses it; and a push finds fewer items than the bound.
+pub record IsAdmitted (limits : Limits) (lines : List Line) (operation : Operation) : Type 0 where
+  pub space : length lines < limits.room
+  pub kept : length lines < limits.allowed
+  pub heard : IsHeard lines operation
+  pub below : Adds operation → length (left lines) < limits.bound
+
+-- What an operation may be answered where the journal has these lines. By the first that is true: BookFull where the journal
+-- is full; Shut where a shut refuses the operation; Unarchived where its line would make memory forget one that is not archived;
+-- to a push, Full where as many items wait as the bound. Else the next line's number and the one-thread queue's reply, or,
+-- to a push or a move alone, NoMemory.
+abbrev pub MayDo : Limits → List Line → Operation → Answer → Type 0
+MayDo limits lines operation (Entered number reply) =
+    IsAdmitted limits lines operation × (number ≡ length lines + 1) × (reply ≡ reply_by (entries_of lines) operation)
+MayDo limits lines operation BookFull = length lines ≡ limits.room
+MayDo limits lines operation NoMemory = IsAdmitted limits lines operation × PutsIn operation
+MayDo limits lines operation (Refused Shut) = (length lines < limits.room) × EndsAtShut operation × (is_shut lines ≡ true)
+MayDo limits lines operation (Refused Unarchived) =
+    (length lines < limits.room) × (limits.allowed ≤ length lines) × IsHeard lines operation
+MayDo limits lines operation (Refused Full) =
+    (length lines < limits.room) × (length lines < limits.allowed) × Adds operation × (limits.bound ≤ length (left lines))
+    × IsHeard lines operation
 
 -- what a request may be answered
-abbrev pub MayAnswer : ℕ → List Line → Request → Answer → Type 0
-MayAnswer room lines request answer = MayDo room lines (Asked request) answer
+abbrev pub MayAnswer : Limits → List Line → Request → Answer → Type 0
+MayAnswer limits lines request answer = MayDo limits lines (Asked request) answer
 
 -- what a removal of what this line put in may be answered
-abbrev pub MayRemove : ℕ → List Line → ℕ → Answer → Type 0
-MayRemove room lines i answer = MayDo room lines (ByTicket (Remove i)) answer
+abbrev pub MayRemove : Limits → List Line → ℕ → Answer → Type 0
+MayRemove limits lines i answer = MayDo limits lines (ByTicket (Remove i)) answer
 
 -- what a move to this priority of what this line put in may be answered
-abbrev pub MayMove : ℕ → List Line → ℕ → ℕ → Answer → Type 0
-MayMove room lines i priority answer = MayDo room lines (ByTicket (Move i priority)) answer
+abbrev pub MayMove : Limits → List Line → ℕ → ℕ → Answer → Type 0
+MayMove limits lines i priority answer = MayDo limits lines (ByTicket (Move i priority)) answer
 
 -- the line is a request, and no use of a ticket
 abbrev pub IsAsked : Operation → Type 0
 IsAsked (Asked q) = Unit {0}
 IsAsked (ByTicket ticketed) = ⊥
+IsAsked Shuts = ⊥
 
 abbrev pub AreAllAsked : List Line → Type 0
 AreAllAsked lines = AllByRecursion (λ l. IsAsked l.operation) lines
@@ -101,6 +159,7 @@ AreAllAsked lines = AllByRecursion (λ l. IsAsked l.operation) lines
 abbrev pub asked_before : Operation → List Request → List Request
 asked_before (Asked q) qs = q ∷ qs
 asked_before (ByTicket ticketed) qs = qs
+asked_before Shuts qs = qs
 
 abbrev pub requests_of : List Line → List Request
 requests_of [] = []

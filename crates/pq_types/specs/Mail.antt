@@ -2,7 +2,9 @@
 -- each.
 use Rattle.std.specs.Prelude.{Bool, false, ◌≡◌, ℕ, ◌+◌, ◌*◌, ◌<◌, ◌≤◌, ◌&&◌, nat_lt, nat_le, Option, Some, None, if◌then◌else◌}
 use Rattle.pq_types.specs.Asked.{Answer}
-use Rattle.pq_types.specs.declared.answer.Answer.TheVariants.{Entered, BookFull, NoMemory}
+use Rattle.pq_types.specs.declared.answer.Answer.TheVariants.{Entered, BookFull, NoMemory, Refused}
+use Rattle.pq_types.specs.declared.answer.Refusal.{Refusal}
+use Rattle.pq_types.specs.declared.answer.Refusal.TheVariants as refusal
 use Rattle.pq_types.specs.Asked.{Mail}
 use Rattle.pq_types.specs.declared.mail.Mail.TheVariants as mail
 use Rattle.pq_types.specs.declared.control.Kind.{Kind}
@@ -14,7 +16,7 @@ use Rattle.pq_types.specs.declared.control.Notice.TheVariants as notice
 use Rattle.pq_types.specs.declared.control.Control.{Control}
 use Rattle.pq_types.specs.declared.control.Control.TheVariants.{Nothing, Posted, Answered}
 use Rattle.pq_types.specs.declared.control.TheConstants.{NOTHING, PUSH_POSTED, POP_POSTED, LEAST_POSTED, PUSHED, GOT}
-use Rattle.pq_types.specs.declared.control.TheConstants.{LEAST_TOLD, EMPTY, BOOK_FULL, NO_MEMORY, PHASES}
+use Rattle.pq_types.specs.declared.control.TheConstants.{LEAST_TOLD, EMPTY, BOOK_FULL, NO_MEMORY, SHUT, FULL, UNARCHIVED, PHASES}
 use Rattle.pq_types.specs.declared.journal.TheConstants.{MOST_LINES, GREATEST_SERIAL, GREATEST_NUMBER}
 use Rattle.pq_types.specs.Item.{item_word}
 use Rattle.pq_types.specs.Queue.{IsProperRequest, IsProperReply, IsProperReplyOf}
@@ -34,6 +36,7 @@ abbrev pub IsProperAnswerOf : Bool → Answer → Type 0
 IsProperAnswerOf wide (Entered l r) = IsLineNumber l × IsProperReplyOf wide r
 IsProperAnswerOf wide BookFull = Unit {0}
 IsProperAnswerOf wide NoMemory = Unit {0}
+IsProperAnswerOf wide (Refused refusal) = Unit {0}
 
 abbrev pub IsProperAnswer : Answer → Type 0
 IsProperAnswer = IsProperAnswerOf false
@@ -43,6 +46,7 @@ abbrev pub IsShortAnswer : Answer → Type 0
 IsShortAnswer (Entered l r) = (0 < l) × (l ≤ MOST_LINES) × IsProperReply r
 IsShortAnswer BookFull = Unit {0}
 IsShortAnswer NoMemory = Unit {0}
+IsShortAnswer (Refused refusal) = Unit {0}
 
 -- a mail that has words: its serial, its line number and its item are in their ranges
 abbrev pub IsProper : Mail → Type 0
@@ -57,12 +61,14 @@ FitsShort (mail.Posted s q) = s ≤ GREATEST_SERIAL
 FitsShort (mail.Answered (Entered l r)) = l ≤ MOST_LINES
 FitsShort (mail.Answered BookFull) = Unit {0}
 FitsShort (mail.Answered NoMemory) = Unit {0}
+FitsShort (mail.Answered (Refused refusal)) = Unit {0}
 
 -- the same of the halves without items
 abbrev pub IsProperNotice : Notice → Type 0
 IsProperNotice (notice.Entered l o) = IsLineNumber l
 IsProperNotice notice.BookFull = Unit {0}
 IsProperNotice notice.NoMemory = Unit {0}
+IsProperNotice (notice.Refused refusal) = Unit {0}
 
 abbrev pub IsProperControl : Control → Type 0
 IsProperControl Nothing = Unit {0}
@@ -81,11 +87,17 @@ outcome_phase outcome.Got = GOT
 outcome_phase outcome.Least = LEAST_TOLD
 outcome_phase outcome.Empty = EMPTY
 
+abbrev pub refusal_phase : Refusal → ℕ
+refusal_phase refusal.Shut = SHUT
+refusal_phase refusal.Full = FULL
+refusal_phase refusal.Unarchived = UNARCHIVED
+
 -- the word of a control: its phase in the low 4 bits, its serial or its journal line above them
 abbrev pub notice_word : Notice → ℕ
 notice_word (notice.Entered l o) = outcome_phase o + PHASES * l
 notice_word notice.BookFull = BOOK_FULL
 notice_word notice.NoMemory = NO_MEMORY
+notice_word (notice.Refused refusal) = refusal_phase refusal
 
 abbrev pub control_word : Control → ℕ
 control_word Nothing = NOTHING

@@ -34,15 +34,17 @@ pub deed_ticketed : {P : Type 0} (number : P → ℕ) (part : ℕ → P) → ((p
 deed_ticketed number part back (deed.Remove ticket) = refl
 deed_ticketed number part back (deed.Move priority ticket) = ap (λ p. deed.Move p ticket) (back priority)
 
--- a request, as it may be posted, or the use of a ticket, which is never posted
+-- a request, as it may be posted; or the use of a ticket, or that the queue is shut, which are never posted
 pub data OperationOf (X : Type 0) : Type 0 where
   Asked : Request X → OperationOf X
   ByTicket : Ticketed → OperationOf X
+  Shuts : OperationOf X
 
--- the request that is replied to as this is: the use of a ticket as a pop
+-- the request that is replied to as this is: the use of a ticket as a pop, a shut as a pop that finds nothing
 abbrev pub request_of : {X : Type 0} → OperationOf X → Request X
 request_of (Asked request) = request
 request_of (ByTicket ticketed) = Pop
+request_of Shuts = Pop
 
 -- what the code's one enum says was done, where its parts are these numbers
 abbrev pub seen : {P : Type 0} → (P → ℕ) → Done P → OperationOf Item
@@ -51,6 +53,7 @@ seen number done.Pop = Asked Pop
 seen number done.Least = Asked Least
 seen number (done.Remove ticket) = ByTicket (Remove ticket)
 seen number (done.Move priority ticket) = ByTicket (Move ticket (number priority))
+seen number done.Shut = Shuts
 
 -- and back
 abbrev pub shown : {P : Type 0} → (ℕ → P) → OperationOf Item → Done P
@@ -59,6 +62,7 @@ shown part (Asked Pop) = done.Pop
 shown part (Asked Least) = done.Least
 shown part (ByTicket (Remove ticket)) = done.Remove ticket
 shown part (ByTicket (Move ticket priority)) = done.Move (part priority) ticket
+shown part Shuts = done.Shut
 
 pub shown_seen : {P : Type 0} (number : P → ℕ) (part : ℕ → P) → ((p : P) → part (number p) ≡ p) → (d : Done P)
     → shown part (seen number d) ≡ d
@@ -67,3 +71,4 @@ shown_seen number part back done.Pop = refl
 shown_seen number part back done.Least = refl
 shown_seen number part back (done.Remove ticket) = refl
 shown_seen number part back (done.Move priority ticket) = ap (λ p. done.Move p ticket) (back priority)
+shown_seen number part back done.Shut = refl

@@ -3,7 +3,7 @@ use Rattle.std.specs.Prelude.{◌≡◌, ℕ, ◌+◌, ◌⊎◌, List, ◌∷�
 use Rattle.pq_types.specs.Item.{Item, item}
 use Rattle.pq_types.specs.declared.request.Request.TheVariants.{Push, Pop, Least}
 use Rattle.pq_types.specs.declared.answer.Reply.TheVariants.{Empty}
-use Rattle.pq_types.specs.Operation.{Asked, ByTicket, Remove, Move, Ticketed, ticket_of}
+use Rattle.pq_types.specs.Operation.{Asked, ByTicket, Shuts, Remove, Move, Ticketed, ticket_of}
 use Rattle.pq_types.specs.Asked.{Line, Operation}
 use Rattle.pq_types.specs.Entry.{Entry, item_at}
 use Rattle.pq_types.specs.History.{entries_of, IsLegal}
@@ -27,6 +27,7 @@ put_in es (Asked Pop) = None
 put_in es (Asked Least) = None
 put_in es (ByTicket (Remove i)) = None
 put_in es (ByTicket (Move i priority)) = under priority (item_at i es)
+put_in es Shuts = None
 
 -- line i of the journal puts this item in
 abbrev pub IsPutInOn : List Line → ℕ → Item → Type 0

@@ -4,7 +4,7 @@ ghost use Rattle.std.specs.Prelude.{◌≡◌, ◌≢◌, ◌+◌, ◌*◌, ◌<
 ghost use Rattle.pq_types.specs.Control.{kind_of, request_with, outcome_of, reply_with, notice_of, answer_with};
 ghost use Rattle.pq_types.specs.Mail.{IsProperControl, control_word, posted_of, entered_of};
 
-use crate::answer::{Answer, Reply};
+use crate::answer::{Answer, Refusal, Reply};
 use crate::item::Item;
 use crate::journal::GREATEST_NUMBER;
 use crate::part::Part;
@@ -33,6 +33,7 @@ pub enum Notice {
     Entered(u64, Outcome),
     BookFull,
     NoMemory,
+    Refused(Refusal),
 }
 
 /// What the control word of a place says.
@@ -67,6 +68,12 @@ pub const EMPTY: u64 = 11;
 pub const BOOK_FULL: u64 = 12;
 /// The phase of a push for which there was no memory.
 pub const NO_MEMORY: u64 = 13;
+/// The phase of a push to a queue that is shut.
+pub const SHUT: u64 = 14;
+/// The phase of a push to a queue with as many items as its bound.
+pub const FULL: u64 = 15;
+/// The phase of a request whose line would make memory forget one that is not archived.
+pub const UNARCHIVED: u64 = 7;
 
 /// A phase is below this number, by which a serial or line is multiplied.
 pub const PHASES: u64 = 16;
@@ -134,6 +141,7 @@ impl<P: Part> Answer<Item<P>> {
             Answer::Entered(line, reply) => Notice::Entered(line, reply.outcome()),
             Answer::BookFull => Notice::BookFull,
             Answer::NoMemory => Notice::NoMemory,
+            Answer::Refused(refusal) => Notice::Refused(refusal.why()),
         }
     }
 }
@@ -147,6 +155,7 @@ impl Notice {
             Notice::Entered(line, outcome) => Answer::Entered(line, outcome.with_item(item)),
             Notice::BookFull => Answer::BookFull,
             Notice::NoMemory => Answer::NoMemory,
+            Notice::Refused(refusal) => Answer::Refused(refusal.padded()),
         }
     }
 }
@@ -190,6 +199,9 @@ fn control_of_parts(phase: u64, number: u64) -> Option<Control>
         NOTHING if number == 0 => Some(Control::Nothing),
         BOOK_FULL if number == 0 => Some(Control::Answered(Notice::BookFull)),
         NO_MEMORY if number == 0 => Some(Control::Answered(Notice::NoMemory)),
+        SHUT if number == 0 => Some(Control::Answered(Notice::Refused(Refusal::Shut))),
+        FULL if number == 0 => Some(Control::Answered(Notice::Refused(Refusal::Full))),
+        UNARCHIVED if number == 0 => Some(Control::Answered(Notice::Refused(Refusal::Unarchived))),
         _ => None,
     }
 }
@@ -222,6 +234,9 @@ impl Control {
             }
             Control::Answered(Notice::BookFull) => BOOK_FULL,
             Control::Answered(Notice::NoMemory) => NO_MEMORY,
+            Control::Answered(Notice::Refused(Refusal::Shut)) => SHUT,
+            Control::Answered(Notice::Refused(Refusal::Full)) => FULL,
+            Control::Answered(Notice::Refused(Refusal::Unarchived)) => UNARCHIVED,
         }
     }
 

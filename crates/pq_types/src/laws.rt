@@ -3,6 +3,7 @@
 ghost use Rattle.pq_types.specs.Laws.{LeavesOneMore, EntersOneMore, WithoutTickets, StaysLegal, StillRises, SerialOfOneMore};
 ghost use Rattle.pq_types.specs.Laws.{NoMoreItemsThanLines, LeavesAscending};
 ghost use Rattle.pq_types.specs.Laws.{ItemsStayInRange, RepliesAreProper, EntriesStayInRange, RepliesByAreProper, VainChangeNothing};
+ghost use Rattle.pq_types.specs.Laws.{ShutByOneMore, StillHeeds, ShutLeavesAll, NothingBehindShut, AnswersAgree, EntriesAgree, PlainRefuseNothing};
 ghost use Rattle.pq_types.specs.Outs.{VainAreTold};
 ghost use Rattle.pq_types.specs.Queue.{IsProperRequestOf};
 ghost use Rattle.pq_types.specs.Operation.{ByTicket};
@@ -34,6 +35,22 @@ pub fn law_without_tickets()
 pub fn law_by_tickets()
     ensures told { VainAreTold }
     ensures unchanged { VainChangeNothing }
+{}
+
+/// A journal with a shut line: that drops no item, and no push and no other shut stands after it.
+pub fn law_shut()
+    ensures more { ShutByOneMore }
+    ensures heeds { StillHeeds }
+    ensures unchanged { ShutLeavesAll }
+    ensures behind { NothingBehindShut }
+{}
+
+/// What an operation may be answered: journal and limits decide whether it is refused, and why, but for
+/// memory. A queue without a bound that forgets refuses nothing else but for room, until it is shut.
+pub fn law_one_answer()
+    ensures refusals { AnswersAgree }
+    ensures entries { EntriesAgree }
+    ensures plain { PlainRefuseNothing }
 {}
 
 /// Proper operations keep the items of a content in their range, and so the replies.

@@ -16,7 +16,7 @@ pub mod part;
 pub mod request;
 pub mod ticketed;
 
-pub use answer::{Answer, Reply};
+pub use answer::{Answer, PaddedRefusal, Refusal, Reply};
 pub use control::{Control, Kind, Notice, Outcome};
 pub use item::Item;
 pub use journal::{GREATEST_NUMBER, GREATEST_SERIAL, Line, MOST_LINES};

@@ -1,6 +1,7 @@
 // What a line of the journal says was done.
-ghost use Rattle.std.specs.Prelude.{◌≡◌};
-ghost use Rattle.pq_types.specs.Operation.{Asked, ByTicket, Remove, Move};
+ghost use Rattle.std.specs.Prelude.{◌≡◌, ◌↔◌, IsTrue};
+ghost use Rattle.pq_types.specs.History.{Adds, EndsAtShut};
+ghost use Rattle.pq_types.specs.Operation.{Asked, ByTicket, Shuts, Remove, Move};
 
 use crate::item::Item;
 use crate::part::Part;
@@ -24,10 +25,12 @@ pub enum Done<P: Part = u32> {
     /// The item with this ticket was put behind all of this priority, if it still waited. Its ticket is this line's number
     /// from then on.
     Move(P, u64),
+    /// The queue was shut.
+    Shut,
 }
 
-/// What was done. A contract sees a request as `Asked`, which may be posted, and the use of a ticket as `ByTicket`, which is
-/// never posted.
+/// What was done. A contract sees a request as `Asked`, which may be posted, the use of a ticket as `ByTicket`, and that the
+/// queue was shut as `Shuts`. These two are never posted.
 #[derive(Copy, Debug, PartialEq, Eq)]
 pub struct Operation<P: Part = u32> {
     pub done: Done<P>,
@@ -79,6 +82,27 @@ impl<P: Part> Operation<P> {
             Deed::Move(priority, ticket) => Done::Move(priority, ticket),
         };
         Operation { done }
+    }
+
+    /// A shut of the queue.
+    pub fn shut() -> Operation<P>
+        ensures { result ≡ Shuts }
+    {
+        Operation { done: Done::Shut }
+    }
+
+    /// Whether one item more waits after it: it is a push.
+    pub fn adds(&self) -> bool
+        ensures { IsTrue result ↔ Adds self.now }
+    {
+        matches!(&self.done, Done::Push(_))
+    }
+
+    /// Whether a queue that is shut refuses it: it is a push, or another shut.
+    pub fn ends_at_shut(&self) -> bool
+        ensures { IsTrue result ↔ EndsAtShut self.now }
+    {
+        matches!(&self.done, Done::Push(_) | Done::Shut)
     }
 
     /// The removal of the item with this ticket.

@@ -57,11 +57,14 @@ pub struct BookCaller<'a, S: Store<Entry<P>>, P: Part = u32> {
 
 impl<'a, S: Store<Entry>> Caller for BookCaller<'a, S> {
     fn call<R: Wait>(&mut self, rt: &R, request: Request) -> Result<Option<Item>, CallError> {
-        match self.book.lock(rt).apply(self.place, request) {
-            Some(Answer::Entered(_, reply)) => Ok(item_of(reply)),
-            Some(Answer::BookFull) => Err(CallError::BookFull),
-            Some(Answer::NoMemory) => Err(CallError::NoMemory),
-            None => Err(CallError::Spent),
+        let Some(answer) = self.book.lock(rt).apply(self.place, request) else {
+            return Err(CallError::Spent);
+        };
+        match answer {
+            Answer::Entered(_, reply) => Ok(item_of(reply)),
+            Answer::BookFull => Err(CallError::BookFull),
+            Answer::NoMemory => Err(CallError::NoMemory),
+            Answer::Refused(refusal) => Err(CallError::Refused(refusal.why())),
         }
     }
 }

@@ -1,20 +1,17 @@
 -- What the calls for C that ask something of a member answer, and what they make of what its handle holds.
 use Rattle.std.specs.Prelude.{◌≡◌, ◌≢◌, ℕ, ◌≤◌, ◌↔◌, false, true, [], ◌∷◌, Option, None, IfSome, IsSome}
 use Rattle.std.specs.Option.{MatchOption}
-use Rattle.pq_types.specs.Item.{Item}
 use Rattle.pq_types.specs.Asked.{Request}
-use Rattle.pq_types.specs.Queue.{IsPush}
 use Rattle.announce_board.specs.Tokens.{is_idle}
 use Rattle.flat_queue.specs.Limits.{most_posts}
 use Rattle.flat_queue.specs.declared.counting.Counts.{Counts}
 use Rattle.flat_queue.specs.declared.looking.Wanted.{Wanted}
-use Rattle.flat_queue.specs.declared.counting.Unpushed.TheVariants as unpushed
 use Rattle.queue_c.specs.Handles.{member_in, owner_in}
 use Rattle.queue_c.specs.Calls.{IsOneOf, Posting, Looking, Waiting, Rounding, Missing}
 use Rattle.queue_c.specs.Looking.{PoppingOrLooking}
-use Rattle.queue_c.specs.Counting.{Counting, PushingWithin, NotPushing}
-use Rattle.queue_c.specs.declared.codes.TheConstants.{FULL, IDLE, LOCK_HELD, NO_HANDLE, OK, POSTS_SPENT}
-use Rattle.queue_c.specs.declared.codes.TheConstants.{SHUT, UNARCHIVED, UNKNOWN, WAITS}
+use Rattle.queue_c.specs.Counting.{Counting}
+use Rattle.queue_c.specs.declared.codes.TheConstants.{IDLE, LOCK_HELD, NO_HANDLE, OK, POSTS_SPENT}
+use Rattle.queue_c.specs.declared.codes.TheConstants.{UNKNOWN, WAITS}
 use Rattle.queue_c.specs.declared.contents.Contents.{Contents}
 use Rattle.queue_c.specs.declared.plain.PlainAnswer.{PlainAnswer}
 
@@ -23,12 +20,11 @@ pub record PostAnswers (before : Option Contents) (request : Option Request) (co
     (after : Option Contents) : Type 0 where
   pub posted : code ≡ OK → Posting (member_in before) request (member_in after)
   pub refused : code ≢ OK → after ≡ before
-  pub codes : IsOneOf code (OK ∷ POSTS_SPENT ∷ NO_HANDLE ∷ WAITS ∷ UNKNOWN ∷ SHUT ∷ UNARCHIVED ∷ [])
+  pub codes : IsOneOf code (OK ∷ POSTS_SPENT ∷ NO_HANDLE ∷ WAITS ∷ UNKNOWN ∷ [])
   pub no_member : (code ≡ NO_HANDLE) ↔ (member_in before ≡ None)
   pub unknown : (code ≡ UNKNOWN) ↔ (IsSome (member_in before) × (request ≡ None))
   pub waits : (code ≡ WAITS) ↔ MatchOption (member_in before) ⊥ (λ m. IsSome request × (is_idle m.pen.standing ≡ false))
   pub spent : code ≡ POSTS_SPENT → IfSome (member_in before) (λ m. most_posts m.queue.room ≤ m.pen.posts)
-  pub shut : code ≡ SHUT → IfSome request IsPush
   pub owner : owner_in after ≡ owner_in before
 
 -- a pop or a look that takes what it wants, with the answer that is told
@@ -37,7 +33,7 @@ pub record LooksAnswers (before : Option Contents) (wants : Wanted) (code : ℕ)
   pub carried_out : code ≡ OK → PoppingOrLooking (member_in before) wants told (member_in after)
   pub misses : code ≡ LOCK_HELD → Missing (member_in before) (member_in after)
   pub refused : code ≢ OK → code ≢ LOCK_HELD → after ≡ before
-  pub codes : IsOneOf code (OK ∷ LOCK_HELD ∷ POSTS_SPENT ∷ NO_HANDLE ∷ WAITS ∷ UNARCHIVED ∷ [])
+  pub codes : IsOneOf code (OK ∷ LOCK_HELD ∷ POSTS_SPENT ∷ NO_HANDLE ∷ WAITS ∷ [])
   pub no_member : (code ≡ NO_HANDLE) ↔ (member_in before ≡ None)
   pub waits : (code ≡ WAITS) ↔ MatchOption (member_in before) ⊥ (λ m. is_idle m.pen.standing ≡ false)
   pub spent : code ≡ POSTS_SPENT → IfSome (member_in before) (λ m. most_posts m.queue.room ≤ m.pen.posts)
@@ -51,20 +47,6 @@ pub record CountAnswers (before : Option Contents) (code : ℕ) (counts : Counts
   pub codes : IsOneOf code (OK ∷ LOCK_HELD ∷ NO_HANDLE ∷ WAITS ∷ [])
   pub no_member : (code ≡ NO_HANDLE) ↔ (member_in before ≡ None)
   pub waits : (code ≡ WAITS) ↔ MatchOption (member_in before) ⊥ (λ m. is_idle m.pen.standing ≡ false)
-  pub owner : owner_in after ≡ owner_in before
-
--- a push that the member carries out itself while the queue has fewer items than the bound, with the answer that is told
-pub record PushWithinAnswers (before : Option Contents) (most : ℕ) (x : Item) (code : ℕ) (told : PlainAnswer)
-    (after : Option Contents) : Type 0 where
-  pub carried_out : code ≡ OK → PushingWithin (member_in before) most x told (member_in after)
-  pub full : code ≡ FULL → NotPushing (member_in before) most x unpushed.Full (member_in after) × (told.owes_wake ≤ 1)
-  pub shut : code ≡ SHUT → NotPushing (member_in before) most x unpushed.Shut (member_in after)
-  pub misses : code ≡ LOCK_HELD → Missing (member_in before) (member_in after)
-  pub refused : code ≢ OK → code ≢ LOCK_HELD → code ≢ SHUT → code ≢ FULL → after ≡ before
-  pub codes : IsOneOf code (OK ∷ LOCK_HELD ∷ POSTS_SPENT ∷ NO_HANDLE ∷ WAITS ∷ SHUT ∷ UNARCHIVED ∷ FULL ∷ [])
-  pub no_member : (code ≡ NO_HANDLE) ↔ (member_in before ≡ None)
-  pub waits : (code ≡ WAITS) ↔ MatchOption (member_in before) ⊥ (λ m. is_idle m.pen.standing ≡ false)
-  pub spent : code ≡ POSTS_SPENT → IfSome (member_in before) (λ m. most_posts m.queue.room ≤ m.pen.posts)
   pub owner : owner_in after ≡ owner_in before
 
 -- a look for the answer to the last request

@@ -4,7 +4,6 @@ use Rattle.std.specs.Prelude.{Option, Some, None}
 use Rattle.std.specs.Option.{MatchOption}
 use Rattle.pq_types.specs.Item.{Item}
 use Rattle.announce_board.specs.Tokens.{is_idle}
-use Rattle.flat_queue.specs.Batches.{IsBatchShutOut}
 use Rattle.flat_queue.specs.Calling.{call_code}
 use Rattle.flat_queue.specs.Members.{Joined}
 use Rattle.flat_queue.specs.declared.batches.Batch.{Batch}
@@ -18,7 +17,7 @@ use Rattle.queue_c.specs.Calls.{IsOneOf, Missing, words_of_item}
 use Rattle.queue_c.specs.Looking.{told_as}
 use Rattle.queue_c.specs.Plain.{plain_item, told_item, told_answer}
 use Rattle.queue_c.specs.declared.buffers.TheConstants.{MOST_MANY}
-use Rattle.queue_c.specs.declared.codes.TheConstants.{LOCK_HELD, NO_HANDLE, OK, SHUT, UNARCHIVED, WAITS}
+use Rattle.queue_c.specs.declared.codes.TheConstants.{LOCK_HELD, NO_HANDLE, OK, WAITS}
 use Rattle.queue_c.specs.declared.contents.Contents.{Contents}
 use Rattle.queue_c.specs.declared.plain.PlainItem.{PlainItem}
 use Rattle.queue_c.specs.declared.plain_batch.PlainBatch.{PlainBatch}
@@ -78,19 +77,13 @@ GivesOutTried slots tried_pops.Waits was items = items ≡ was
 GivesOutTried slots tried_pops.LockHeld was items = items ≡ was
 GivesOutTried slots (tried_pops.Done popped) was items = GivesOut slots popped.batch.done was items
 
--- the idle member has found the lock free, and released it without the batch, as the queue was shut
-abbrev pub ShuttingOutMany : Option Joined → Option Joined → Type 0
-ShuttingOutMany (Some before) (Some after) = (is_idle before.pen.standing ≡ true) × IsBatchShutOut before after
-ShuttingOutMany before after = ⊥
-
 -- a batch that the member carries out itself: what it has done where it found the lock free, with what is told of it
 pub record BatchAnswers {Told : Type 0} (Done : Option Joined → Told → Option Joined → Type 0) (before : Option Contents)
     (code : ℕ) (told : Told) (after : Option Contents) : Type 0 where
   pub carried_out : code ≡ OK → Done (member_in before) told (member_in after)
   pub misses : code ≡ LOCK_HELD → Missing (member_in before) (member_in after)
-  pub shut : code ≡ SHUT → ShuttingOutMany (member_in before) (member_in after)
-  pub refused : code ≢ OK → code ≢ LOCK_HELD → code ≢ SHUT → after ≡ before
-  pub codes : IsOneOf code (OK ∷ LOCK_HELD ∷ NO_HANDLE ∷ WAITS ∷ SHUT ∷ UNARCHIVED ∷ [])
+  pub refused : code ≢ OK → code ≢ LOCK_HELD → after ≡ before
+  pub codes : IsOneOf code (OK ∷ LOCK_HELD ∷ NO_HANDLE ∷ WAITS ∷ [])
   pub no_member : (code ≡ NO_HANDLE) ↔ (member_in before ≡ None)
   pub waits : (code ≡ WAITS) ↔ MatchOption (member_in before) ⊥ (λ m. is_idle m.pen.standing ≡ false)
   pub owner : owner_in after ≡ owner_in before

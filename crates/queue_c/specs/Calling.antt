@@ -6,11 +6,11 @@ use Rattle.announce_board.specs.Tokens.{is_idle}
 use Rattle.flat_queue.specs.Limits.{most_posts}
 use Rattle.flat_queue.specs.Members.{Joined}
 use Rattle.queue_pool.specs.Shared.{MayCall}
-use Rattle.queue_pool.specs.Calling.{PostsBehindMissBy, IsRefusedAsShut, LeadsBehindLookBy, MissesBehindLookBy}
+use Rattle.queue_pool.specs.Calling.{PostsBehindMissBy, LeadsBehindLookBy, MissesBehindLookBy}
 use Rattle.queue_c.specs.Calls.{IsOneOf, CarryingOut, Looking, Missing, words_of_item}
 use Rattle.queue_c.specs.Handles.{member_in, owner_in}
 use Rattle.queue_c.specs.declared.codes.TheConstants.{IDLE, LOCK_HELD, NO_HANDLE, OK, POSTED, POSTS_SPENT}
-use Rattle.queue_c.specs.declared.codes.TheConstants.{SHUT, UNARCHIVED, UNKNOWN, WAITS}
+use Rattle.queue_c.specs.declared.codes.TheConstants.{UNKNOWN, WAITS}
 use Rattle.queue_c.specs.declared.contents.Contents.{Contents}
 use Rattle.queue_c.specs.declared.plain.PlainAnswer.{PlainAnswer}
 
@@ -23,12 +23,6 @@ abbrev pub PostingBehindMiss : Option Joined → Option Request → Option Joine
 PostingBehindMiss (Some before) (Some request) (Some after) =
     MayCall before × PostsBehindMissBy words_of_item before request after
 PostingBehindMiss before request after = ⊥
-
--- The idle member has won the lock, and released it without this request, a push; or it has found the lock held, and not posted
--- the push that it was to post: the queue was shut.
-abbrev pub RefusingAsShut : Option Joined → Option Request → (posts : Bool) → Option Joined → Type 0
-RefusingAsShut (Some before) (Some request) posts (Some after) = MayCall before × IsRefusedAsShut before request posts after
-RefusingAsShut before request posts after = ⊥
 
 -- the waiting member has looked in vain for its answer, and then made a round
 abbrev pub LeadingBehindLook : Option Joined → Option Joined → Type 0
@@ -46,9 +40,8 @@ pub record StepCallAnswers (before : Option Contents) (request : Option Request)
   pub carried_out : code ≡ OK → CarryingOut (member_in before) request told (member_in after)
   pub misses : code ≡ LOCK_HELD → (posts ≡ false) × Missing (member_in before) (member_in after)
   pub posted : code ≡ POSTED → (posts ≡ true) × PostingBehindMiss (member_in before) request (member_in after)
-  pub shut : code ≡ SHUT → RefusingAsShut (member_in before) request posts (member_in after)
-  pub refused : code ≢ OK → code ≢ LOCK_HELD → code ≢ POSTED → code ≢ SHUT → after ≡ before
-  pub codes : IsOneOf code (OK ∷ LOCK_HELD ∷ POSTED ∷ POSTS_SPENT ∷ NO_HANDLE ∷ WAITS ∷ UNKNOWN ∷ SHUT ∷ UNARCHIVED ∷ [])
+  pub refused : code ≢ OK → code ≢ LOCK_HELD → code ≢ POSTED → after ≡ before
+  pub codes : IsOneOf code (OK ∷ LOCK_HELD ∷ POSTED ∷ POSTS_SPENT ∷ NO_HANDLE ∷ WAITS ∷ UNKNOWN ∷ [])
   pub no_member : (code ≡ NO_HANDLE) ↔ (member_in before ≡ None)
   pub unknown : (code ≡ UNKNOWN) ↔ (IsSome (member_in before) × (request ≡ None))
   pub waits : (code ≡ WAITS) ↔ MatchOption (member_in before) ⊥ (λ m. IsSome request × (is_idle m.pen.standing ≡ false))

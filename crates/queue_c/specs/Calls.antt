@@ -6,8 +6,9 @@ use Rattle.pq_types.specs.Asked.{Request}
 use Rattle.pq_types.specs.Asked.{Answer}
 use Rattle.pq_types.specs.Asked.{Line}
 use Rattle.pq_types.specs.Control.{is_answer}
-use Rattle.pq_book.specs.declared.lines.LinesError.{LinesError}
-use Rattle.pq_book.specs.declared.lines.LinesError.TheVariants.{Forgotten, NoMemory}
+use Rattle.flat_queue.specs.declared.length.Length.{Length}
+use Rattle.flat_queue.specs.declared.error.ArchiveError.{ArchiveError}
+use Rattle.flat_queue.specs.declared.error.ArchiveError.TheVariants.{Forgotten, NoMemory, Ahead}
 use Rattle.split_core.specs.Ids.{OpenGrid}
 use Rattle.desk_core.specs.Pen.{after_miss}
 use Rattle.desk_core.specs.Words.{word_number}
@@ -35,9 +36,10 @@ abbrev pub IsOneOf : ℕ → List ℕ → Type 0
 IsOneOf code [] = ⊥
 IsOneOf code (c ∷ cs) = (code ≡ c) ⊎ IsOneOf code cs
 
--- the queue was opened for the comers of these ids, with this room, and all of them wait
-abbrev pub Opening : List ℕ → ℕ → Pooled → Type 0
-Opening ids room opened = OpenGrid ids × IsOpened ids room opened
+-- the queue was opened for the comers of these ids, with a journal of this length and this bound, if it has one, and all of them
+-- wait
+abbrev pub Opening : List ℕ → Length → Option ℕ → Pooled → Type 0
+Opening ids length bound opened = OpenGrid ids × IsOpened ids length bound opened
 
 -- an idle member has come out of the queue's pool: one that was given back, before a comer that joins
 abbrev pub Joining : Option Pooled → Option Pooled → Option Joined → Type 0
@@ -96,7 +98,7 @@ Missing before after = ⊥
 
 -- The member has led and released, and this is what becomes of an empty archive that is brought up to
 -- date from so many lines on.
-abbrev pub Archiving : Option Joined → ℕ → List Line → Result ℕ LinesError → Option Joined → Type 0
+abbrev pub Archiving : Option Joined → ℕ → List Line → Result ℕ ArchiveError → Option Joined → Type 0
 Archiving (Some before) archived lines result (Some after) =
     (after.queue ≡ before.queue) × Settles before (length after.pen.known) after
     × Archives before.queue.room archived after.pen.known [] lines result
@@ -111,6 +113,10 @@ Copying before archived (Some told) after =
 -- so it has, and the first line behind so many is forgotten
 abbrev pub Forgetting : Option Joined → ℕ → Option Joined → Type 0
 Forgetting before archived after = Archiving before archived [] (Err Forgotten) after
+
+-- so it has, and the journal has fewer lines than so many
+abbrev pub Exceeding : Option Joined → ℕ → Option Joined → Type 0
+Exceeding before archived after = Archiving before archived [] (Err Ahead) after
 
 -- nothing was done; or so it has, and the lines behind so many are all kept
 abbrev pub Lacking : Option Joined → ℕ → Option Joined → Type 0

@@ -1,9 +1,7 @@
--- How long the journal is that a queue is opened with.
+-- How long the journal is that a queue is opened with, and its bound.
 use Rattle.std.specs.Prelude.{ℕ, ◌==◌, if◌then◌else◌, Option, Some, None}
-use Rattle.pq_book.specs.Book.{IsRoom}
-use Rattle.pq_book.specs.Pages.{IsLongPage, room_keeping}
-use Rattle.queue_c.specs.declared.length.Length.{Length}
-use Rattle.queue_c.specs.declared.length.Length.TheVariants.{Lines, Keeping, Archived}
+use Rattle.flat_queue.specs.declared.length.Length.{Length}
+use Rattle.flat_queue.specs.declared.length.Length.TheVariants.{Lines, Keeping, Archived}
 
 -- the length that these two numbers mean: how the journal is kept, and how many lines
 abbrev pub length_of : ℕ → ℕ → Option Length
@@ -12,14 +10,6 @@ length_of keeping entries =
     else if keeping == 1 then Some (Archived entries)
     else if keeping == 2 then Some (Lines entries) else None
 
--- for how many lines the journal has room
-abbrev pub room_of : Length → ℕ
-room_of (Lines count) = count
-room_of (Keeping kept) = room_keeping kept
-room_of (Archived kept) = room_keeping kept
-
--- a journal may have so many lines
-abbrev pub IsLength : Length → Type 0
-IsLength (Lines count) = IsRoom count
-IsLength (Keeping kept) = IsLongPage kept
-IsLength (Archived kept) = IsLongPage kept
+-- the bound that this number means: none, or this one
+abbrev pub bound_of : ℕ → Option ℕ
+bound_of most = if most == 0 then None else Some most

@@ -13,7 +13,7 @@ pub mod Numbers
 pub mod Openings
 pub mod Plain
 pub mod Replaying
-pub mod Taking
 pub mod Threads
 pub mod Tickets
+pub mod Shutting
 pub mod Values

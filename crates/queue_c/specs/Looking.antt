@@ -4,6 +4,7 @@ use Rattle.pq_types.specs.Asked.{Answer}
 use Rattle.pq_types.specs.declared.answer.Reply.TheVariants.{Got, Empty, Least as LeastIs}
 use Rattle.pq_types.specs.declared.answer.Answer.TheVariants.{Entered}
 use Rattle.pq_types.specs.declared.answer.Answer.TheVariants as answer
+use Rattle.pq_types.specs.declared.answer.Refusal.TheVariants.{Shut}
 use Rattle.flat_queue.specs.Members.{Joined}
 use Rattle.flat_queue.specs.Looking.{Looked, LooksFirstBy}
 use Rattle.flat_queue.specs.declared.looking.Wanted.{Wanted}
@@ -18,12 +19,15 @@ use Rattle.queue_c.specs.declared.plain.PlainAnswer.{PlainAnswer}
 abbrev pub wanted_of : ℕ → ℕ → Wanted
 wanted_of takes priority = if takes == 0 then wanted.Nothing else wanted.UpTo priority
 
--- a look as an answer: its pop's; or on line 0, as it has no line, that this item is the first, which stays, or that none is
+-- a look as an answer: its pop's; or on line 0, as it has no line, that this item is the first, which stays, or that none is; or,
+-- where none is and the queue is shut, that it is
 abbrev pub told_as : Looked → Answer
 told_as (looked.Taken number x) = Entered number (Got x)
 told_as (looked.Stays x) = Entered 0 (LeastIs x)
 told_as looked.Nothing = Entered 0 Empty
+told_as looked.Over = answer.Refused Shut
 told_as looked.BookFull = answer.BookFull
+told_as (looked.Refused why) = answer.Refused why
 
 -- The idle member has found the lock free, and looked at the first item, which it took out where it wants that, as is told.
 abbrev pub PoppingOrLooking : Option Joined → Wanted → PlainAnswer → Option Joined → Type 0

@@ -2,12 +2,14 @@
 use Rattle.std.specs.Prelude.{◌≡◌, ℕ, ◌≤◌, ◌==◌, if◌then◌else◌, Option, Some, None}
 use Rattle.pq_types.specs.Item.{Item}
 use Rattle.pq_types.specs.Asked.{Request, Operation}
-use Rattle.pq_types.specs.Operation.{Asked, ByTicket, Remove, Move}
+use Rattle.pq_types.specs.Operation.{Asked, ByTicket, Remove, Move, Shuts}
 use Rattle.pq_types.specs.declared.request.Request.TheVariants.{Push, Pop, Least}
 use Rattle.pq_types.specs.Asked.{Reply}
 use Rattle.pq_types.specs.declared.answer.Reply.TheVariants.{Pushed, Got, Empty, Least as LeastIs}
 use Rattle.pq_types.specs.Asked.{Answer}
-use Rattle.pq_types.specs.declared.answer.Answer.TheVariants.{Entered, BookFull, NoMemory}
+use Rattle.pq_types.specs.declared.answer.Answer.TheVariants.{Entered, BookFull, NoMemory, Refused}
+use Rattle.pq_types.specs.declared.answer.Refusal.{Refusal}
+use Rattle.pq_types.specs.declared.answer.Refusal.TheVariants.{Shut, Unarchived, Full}
 use Rattle.pq_types.specs.Asked.{Line}
 use Rattle.pq_types.specs.Item.{item}
 use Rattle.pq_types.specs.Control.{request_item, reply_item}
@@ -31,18 +33,21 @@ abbrev pub operation_number : Operation → ℕ
 operation_number (Asked request) = request_number request
 operation_number (ByTicket (Remove ticket)) = 3
 operation_number (ByTicket (Move ticket priority)) = 4
+operation_number Shuts = 5
 
 -- its item: of a move one of the new priority, and of value 0
 abbrev pub operation_item : Operation → Option Item
 operation_item (Asked request) = request_item request
 operation_item (ByTicket (Remove ticket)) = None
 operation_item (ByTicket (Move ticket priority)) = Some (item priority 0)
+operation_item Shuts = None
 
 -- its ticket, or 0
 abbrev pub operation_ticket : Operation → ℕ
 operation_ticket (Asked request) = 0
 operation_ticket (ByTicket (Remove ticket)) = ticket
 operation_ticket (ByTicket (Move ticket priority)) = ticket
+operation_ticket Shuts = 0
 
 -- the number of a reply
 abbrev pub reply_number : Reply → ℕ
@@ -68,11 +73,18 @@ plain_item x = item x.priority x.value
 abbrev pub told : ℕ → ℕ → ℕ → Item → PlainAnswer
 told wake kind line x = record { kind = kind; owes_wake = wake; line = line; priority = x.priority; value = x.value }
 
+-- the kind of an answer by which the queue's rules refuse
+abbrev pub refusal_number : Refusal → ℕ
+refusal_number Shut = 6
+refusal_number Unarchived = 7
+refusal_number Full = 8
+
 -- the answer for C, with this word on whether a wake is owed
 abbrev pub told_answer : ℕ → Answer → PlainAnswer
 told_answer wake (Entered line reply) = told wake (reply_number reply) line (or_zeros (reply_item reply))
 told_answer wake BookFull = told wake 4 0 (item 0 0)
 told_answer wake NoMemory = told wake 5 0 (item 0 0)
+told_answer wake (Refused why) = told wake (refusal_number why) 0 (item 0 0)
 
 -- this is the answer for C, and says whether a wake is owed, by 0 or 1
 abbrev pub Tells : PlainAnswer → Answer → Type 0

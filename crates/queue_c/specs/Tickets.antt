@@ -11,7 +11,7 @@ use Rattle.queue_pool.specs.Shared.{MayCall}
 use Rattle.queue_c.specs.Handles.{member_in, owner_in}
 use Rattle.queue_c.specs.Plain.{Tells}
 use Rattle.queue_c.specs.Calls.{IsOneOf, Missing, words_of_item}
-use Rattle.queue_c.specs.declared.codes.TheConstants.{LOCK_HELD, NO_HANDLE, OK, POSTS_SPENT, UNARCHIVED, WAITS}
+use Rattle.queue_c.specs.declared.codes.TheConstants.{LOCK_HELD, NO_HANDLE, OK, POSTS_SPENT, WAITS}
 use Rattle.queue_c.specs.declared.contents.Contents.{Contents}
 use Rattle.queue_c.specs.declared.plain.PlainAnswer.{PlainAnswer}
 
@@ -26,7 +26,7 @@ pub record TicketAnswers (before : Option Contents) (ticketed : Ticketed) (code 
   pub carried_out : code ≡ OK → UsingTicket (member_in before) ticketed told (member_in after)
   pub misses : code ≡ LOCK_HELD → Missing (member_in before) (member_in after)
   pub refused : code ≢ OK → code ≢ LOCK_HELD → after ≡ before
-  pub codes : IsOneOf code (OK ∷ LOCK_HELD ∷ POSTS_SPENT ∷ NO_HANDLE ∷ WAITS ∷ UNARCHIVED ∷ [])
+  pub codes : IsOneOf code (OK ∷ LOCK_HELD ∷ POSTS_SPENT ∷ NO_HANDLE ∷ WAITS ∷ [])
   pub no_member : (code ≡ NO_HANDLE) ↔ (member_in before ≡ None)
   pub waits : (code ≡ WAITS) ↔ MatchOption (member_in before) ⊥ (λ m. is_idle m.pen.standing ≡ false)
   pub spent : code ≡ POSTS_SPENT → IfSome (member_in before) (λ m. most_posts m.queue.room ≤ m.pen.posts)

@@ -9,8 +9,7 @@ ghost use Rattle.queue_c.specs.Handles.{member_in};
 ghost use Rattle.queue_c.specs.Asking.{PostAnswers, LookAnswers, RoundAnswers};
 ghost use Rattle.queue_c.specs.declared.codes.TheConstants.{NO_HANDLE, OK};
 
-use crate::calls::{counted, is_let_through};
-use crate::codes::{IDLE, LOCK_HELD, NO_HANDLE, OK, POSTS_SPENT, SHUT, UNARCHIVED, UNKNOWN, WAITS};
+use crate::codes::{IDLE, LOCK_HELD, NO_HANDLE, OK, POSTS_SPENT, UNKNOWN, WAITS};
 use crate::contents::Contents;
 use crate::handle::Handle;
 use crate::plain::{PlainAnswer, request_of, tell_answer};
@@ -88,22 +87,16 @@ fn post(held: &mut Contents, number: u32, item: Item<u64>) -> u32
     let Some(request) = request_of(number, item) else {
         return UNKNOWN;
     };
-    if !is_let_through(member) {
-        return UNARCHIVED;
-    }
-    let code = match member.post(request) {
-        Ok(()) => return OK,
-        Err(NotPosted::Shut) => SHUT,
+    match member.post(request) {
+        Ok(()) => OK,
         Err(NotPosted::Waits) => WAITS,
         Err(NotPosted::Spent) => POSTS_SPENT,
-    };
-    counted(member, code, 0)
+    }
 }
 
 /// Posts a request: 0 a push of this item, 1 a pop, 2 a least. Refusals, which post nothing: 42
 /// where the handle holds no member, 45 where there is no such request, 43 where the last one is not
-/// answered yet, 52 where it might have memory forget a line that is not archived, 11 where all posts
-/// are spent, 51 where it is a push and the queue is shut.
+/// answered yet, 11 where all posts are spent. The queue's rules refuse it by its answer.
 #[unsafe(no_mangle)]
 pub extern "C" fn pq_core_post(
     alloc: Global,
@@ -130,15 +123,14 @@ fn look(held: &mut Contents, answer: &mut PlainAnswer) -> u32
     let Contents::Member(member, _) = held else {
         return NO_HANDLE;
     };
-    let code = match member.look() {
+    match member.look() {
         Seen::Nothing => IDLE,
         Seen::Waits => WAITS,
         Seen::Answered(found) => {
             *answer = tell_answer(&found, 0);
             OK
         }
-    };
-    counted(member, code, answer.line)
+    }
 }
 
 /// Looks for the answer to the last request: 0 where it is told, 43 where there is none yet, 44

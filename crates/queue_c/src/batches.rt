@@ -5,11 +5,11 @@ ghost use Rattle.queue_c.specs.Calls.{words_of_item};
 ghost use Rattle.queue_c.specs.Plain.{plain_item};
 ghost use Rattle.queue_c.specs.Batches.{GivesOutTried, PushManyAnswers, PopManyAnswers};
 ghost use Rattle.queue_c.specs.declared.buffers.TheConstants.{MOST_MANY};
-ghost use Rattle.queue_c.specs.declared.codes.TheConstants.{OK, SHUT};
+ghost use Rattle.queue_c.specs.declared.codes.TheConstants.{OK};
 
 use crate::buffers::{MOST_MANY, first_of, hand_out, take_in};
-use crate::calls::{are_let_through, batch_counted, owes_wake};
-use crate::codes::{LOCK_HELD, NO_HANDLE, OK, SHUT, UNARCHIVED, WAITS};
+use crate::calls::owes_wake;
+use crate::codes::{LOCK_HELD, NO_HANDLE, OK, WAITS};
 use crate::contents::{Contents, QueueMember};
 use crate::handle::Handle;
 use crate::plain::{PlainItem, no_item};
@@ -37,29 +37,22 @@ fn try_push_many(held: &mut Contents, items: &[PlainItem], told: &mut PlainBatch
     let Contents::Member(member, _) = held else {
         return NO_HANDLE;
     };
-    let items = first_of(items);
-    if !are_let_through(member, items.len()) {
-        return UNARCHIVED;
-    }
-    let code = match push_all(member, items) {
+    match push_all(member, first_of(items)) {
         TriedBatch::Waits => WAITS,
         TriedBatch::LockHeld => LOCK_HELD,
-        TriedBatch::Shut => SHUT,
         TriedBatch::Done(batch) => {
             *told = tell_batch(&batch, owes_wake(member));
             OK
         }
-    };
-    batch_counted(member, code, items.len(), told.done)
+    }
 }
 
-/// Puts the first of `items` into the queue under one lock, 64 at most, at once where no other member leads, without a post:
-/// 0, and it is told how many were entered, the number of the first one's journal line, behind which the others stand in the
-/// order of the items, and what refused the next, if something did: 9 no memory, 10 the journal is full, 11 all serials are
-/// spent; and whether a wake is owed. 8 where another member led, and then nothing was done; 51 where the queue is shut: the
-/// member led, and released without an item. Refusals, which do nothing: 42 where the handle holds no member, 43 where the
-/// last request is not answered yet, 52 where the batch might have memory forget a line that is not archived. The pointer
-/// must not be null, where `count` is 0 neither.
+/// Puts the first of `items` into the queue under one lock, 64 at most, at once where no other member leads, without a post: 0,
+/// and it is told how many were entered, the number of the first one's journal line, behind which the others stand in the order
+/// of the items, and what refused the next, if something did: 9 no memory, 10 the journal is full, 11 all serials are spent, 51
+/// to 53 the queue's rules, as kinds 6 to 8 of an answer; and whether a wake is owed. 8 where another member led, and then
+/// nothing was done. Refusals, which do nothing: 42 where the handle holds no member, 43 where the last request is not answered
+/// yet. The pointer must not be null, where `count` is 0 neither.
 #[unsafe(no_mangle)]
 pub extern "C" fn pq_core_try_push_many(
     alloc: Global,
@@ -101,36 +94,30 @@ fn try_pop_many(
     told: &mut PlainPopped,
 ) -> u32
     ensures answers { PopManyAnswers bound items.old items.new (Some held.old) result told.new (Some held.new) }
-    ensures never_shut { result ≢ SHUT }
     ensures untold { result ≢ OK → (told.new ≡ told.old) × (items.new ≡ items.old) }
 {
     let Contents::Member(member, _) = held else {
         return NO_HANDLE;
     };
-    let count = MOST_MANY.min(items.len());
-    if !are_let_through(member, count) {
-        return UNARCHIVED;
-    }
-    let code = match pop_all(member, bound, items) {
+    match pop_all(member, bound, items) {
         TriedPops::Waits => WAITS,
         TriedPops::LockHeld => LOCK_HELD,
         TriedPops::Done(popped) => {
             *told = tell_popped(&popped, owes_wake(member));
             OK
         }
-    };
-    batch_counted(member, code, count, told.batch.done)
+    }
 }
 
 /// Takes the first items out under one lock while their priorities are at most `bound`, 64 at most, and no more than the buffer
-/// at `items` has room for, at once where no other member leads, without a post: 0, and the buffer has them, the first one
-/// first, and behind them what it had; and it is told how many they are, the number of the first one's journal line, behind
-/// which the others stand in their order, and what refused the next, if something did: 10 the journal is full, 11 all serials
-/// are spent; and whether a wake is owed; and the answer to a look after it: the first item of those that stay, that none stays,
-/// or that the journal is full. What stays has no line. 8 where another member led, and then nothing was done. Refusals, which do
-/// nothing: 42 where the handle holds no member, 43 where the last request is not answered yet, 52 where the batch might have
-/// memory forget a line that is not archived. Takes memory for the pushes of others alone. The pointer must not be null, where
-/// the room is 0 neither.
+/// at `items` has room for, at once where no other member leads, without a post: 0, and the buffer has them, the first one first,
+/// and behind them what it had; and it is told how many they are, the number of the first one's journal line, behind which the
+/// others stand in their order, and what refused the next, if something did: 10 the journal is full, 11 all serials are spent, 52
+/// memory would forget a line that is not archived; and whether a wake is owed; and the answer to a look after it: the first item
+/// of those that stay, that none stays, or, of kind 6, that none stays and the queue is shut, or that the journal is full. What
+/// stays has no line. 8 where another member led, and then nothing was done. Refusals, which do nothing: 42 where the handle holds no member, 43 where the last request is not answered
+/// yet. Takes memory for the pushes of others alone. The
+/// pointer must not be null, where the room is 0 neither.
 #[unsafe(no_mangle)]
 pub extern "C" fn pq_core_try_pop_many(
     alloc: Global,
@@ -140,7 +127,6 @@ pub extern "C" fn pq_core_try_pop_many(
     told: &mut PlainPopped,
 ) -> u32
     ensures answers { PopManyAnswers bound items.old items.new member.old.value result told.new member.new.value }
-    ensures never_shut { result ≢ SHUT }
     ensures untold { result ≢ OK → (told.new ≡ told.old) × (items.new ≡ items.old) }
 {
     let Some(mut held) = member.take(alloc) else {

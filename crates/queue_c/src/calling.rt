@@ -5,10 +5,8 @@ ghost use Rattle.queue_c.specs.Plain.{request_of};
 ghost use Rattle.queue_c.specs.Calling.{StepCallAnswers, StepAnswerAnswers, may_post};
 ghost use Rattle.queue_c.specs.declared.codes.TheConstants.{OK};
 
-use crate::calls::{counted, is_let_through, owes_wake};
-use crate::codes::{
-    IDLE, LOCK_HELD, NO_HANDLE, OK, POSTED, POSTS_SPENT, SHUT, UNARCHIVED, UNKNOWN, WAITS,
-};
+use crate::calls::owes_wake;
+use crate::codes::{IDLE, LOCK_HELD, NO_HANDLE, OK, POSTED, POSTS_SPENT, UNKNOWN, WAITS};
 use crate::contents::Contents;
 use crate::handle::Handle;
 use crate::plain::{PlainAnswer, request_of, tell_answer};
@@ -40,28 +38,22 @@ fn step_call(
     let Some(request) = request_of(number, item) else {
         return UNKNOWN;
     };
-    if !is_let_through(member) {
-        return UNARCHIVED;
-    }
-    let code = match member.step_call(request, posts) {
+    match member.step_call(request, posts) {
         CallStep::Waits => WAITS,
         CallStep::Spent => POSTS_SPENT,
         CallStep::LockHeld => LOCK_HELD,
         CallStep::Posted => POSTED,
-        CallStep::Shut => SHUT,
         CallStep::Answered(found) => {
             *answer = tell_answer(&found, owes_wake(member));
             OK
         }
-    };
-    counted(member, code, answer.line)
+    }
 }
 
 /// The first step of a call, and each that tries again. It carries the request out where no other member leads, without a post:
 /// 0, and the answer is told, and whether a wake is owed behind it. Where another member led it posts the request, unless `posts`
-/// is 0: 14, and `pq_core_step_answer` makes the next steps; else nothing was done: 8. 51 where it is a push and the queue is shut:
-/// the member led, and released without it, or it did not post. Else it is refused as `pq_core_post`. Takes memory for pushes
-/// alone.
+/// is 0: 14, and `pq_core_step_answer` makes the next steps; else nothing was done: 8. Else it is refused as `pq_core_post`. Takes
+/// memory for pushes alone.
 #[unsafe(no_mangle)]
 pub extern "C" fn pq_core_step_call(
     alloc: Global,
@@ -99,7 +91,7 @@ fn step_answer(held: &mut Contents, answer: &mut PlainAnswer) -> u32
         AnswerStep::LockHeld => LOCK_HELD,
         AnswerStep::Answered(found) => {
             *answer = tell_answer(&found, 0);
-            counted(member, OK, answer.line)
+            OK
         }
     }
 }

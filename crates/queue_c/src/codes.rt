@@ -45,13 +45,5 @@ pub const NO_ITEM: u32 = 47;
 /// The first of the lines that were asked for is no longer in memory.
 pub const FORGOTTEN: u32 = 49;
 
-/// The queue is shut.
-pub const SHUT: u32 = 51;
-
-/// A request might have memory forget a line that is not archived.
-pub const UNARCHIVED: u32 = 52;
-
-/// The queue has as many items as a push is to find at most, or more.
-pub const FULL: u32 = 53;
 /// A text is no line that may come next in a journal.
 pub const NOT_LAWFUL: u32 = 54;

@@ -1,17 +1,14 @@
-// How a C program counts the items, and pushes one only while the queue has fewer than a bound.
+// How a C program counts the items.
 ghost use Rattle.std.specs.Prelude.{◌≡◌, ◌≢◌, Some};
-ghost use Rattle.pq_types.specs.Item.{item};
-ghost use Rattle.queue_c.specs.Asking.{CountAnswers, PushWithinAnswers};
+ghost use Rattle.queue_c.specs.Asking.{CountAnswers};
 ghost use Rattle.queue_c.specs.Counting.{counts_of};
-ghost use Rattle.queue_c.specs.declared.codes.TheConstants.{FULL, OK};
+ghost use Rattle.queue_c.specs.declared.codes.TheConstants.{OK};
 
-use crate::calls::{counted, is_let_through, owes_wake};
-use crate::codes::{FULL, LOCK_HELD, NO_HANDLE, OK, POSTS_SPENT, SHUT, UNARCHIVED, WAITS};
+use crate::calls::owes_wake;
+use crate::codes::{LOCK_HELD, NO_HANDLE, OK, WAITS};
 use crate::contents::Contents;
 use crate::handle::Handle;
-use crate::plain::{PlainAnswer, tell_answer};
-use pq_types::Item;
-use queue_pool::{TriedCount, TriedPush};
+use queue_pool::TriedCount;
 use std::alloc::Global;
 
 // Counts the items, and tells how many there are, how many there were at the peak, and whether a wake is owed.
@@ -53,60 +50,6 @@ pub extern "C" fn pq_core_try_count(
         return NO_HANDLE;
     };
     let code = try_count(&mut held, count, peak, owes);
-    member.put(held);
-    code
-}
-
-// Pushes the item while the queue has fewer than the bound, and tells the answer.
-fn push_within(held: &mut Contents, most: u64, item: Item<u64>, answer: &mut PlainAnswer) -> u32
-    ensures answers { PushWithinAnswers (Some held.old) most item result answer.new (Some held.new) }
-    ensures full { result ≡ FULL → answer.new ≡ record answer.old { owes_wake = answer.new.owes_wake } }
-    ensures untold { result ≢ OK → result ≢ FULL → answer.new ≡ answer.old }
-{
-    let Contents::Member(member, _) = held else {
-        return NO_HANDLE;
-    };
-    if !is_let_through(member) {
-        return UNARCHIVED;
-    }
-    let code = match member.try_push_within(item, most) {
-        TriedPush::Waits => WAITS,
-        TriedPush::Spent => POSTS_SPENT,
-        TriedPush::LockHeld => LOCK_HELD,
-        TriedPush::Shut => SHUT,
-        TriedPush::Full => {
-            answer.owes_wake = owes_wake(member);
-            FULL
-        }
-        TriedPush::Answered(found) => {
-            *answer = tell_answer(&found, owes_wake(member));
-            OK
-        }
-    };
-    counted(member, code, answer.line)
-}
-
-/// Pushes the item at once where no other member leads, without a post, and only while the queue has fewer than `most` items: 0,
-/// and the answer is told, and whether a wake is owed behind it; 53 where the queue has as many or more: the member led, and
-/// made no request, and `owes_wake` alone is told; 8 where another member led, and then nothing was done; 51 where the queue is
-/// shut. Else it is refused as `pq_core_post` of a push. Takes memory for pushes alone.
-#[unsafe(no_mangle)]
-pub extern "C" fn pq_core_try_push_within(
-    alloc: Global,
-    member: &mut Handle,
-    most: u64,
-    priority: u64,
-    value: u64,
-    answer: &mut PlainAnswer,
-) -> u32
-    ensures answers { PushWithinAnswers member.old.value most (item priority value) result answer.new member.new.value }
-    ensures full { result ≡ FULL → answer.new ≡ record answer.old { owes_wake = answer.new.owes_wake } }
-    ensures untold { result ≢ OK → result ≢ FULL → answer.new ≡ answer.old }
-{
-    let Some(mut held) = member.take(alloc) else {
-        return NO_HANDLE;
-    };
-    let code = push_within(&mut held, most, Item { priority, value }, answer);
     member.put(held);
     code
 }

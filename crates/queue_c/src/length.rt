@@ -1,17 +1,8 @@
-// How long the journal is that a queue is opened with.
+// How long the journal is that a queue is opened with, and its bound, in the numbers for C.
 ghost use Rattle.std.specs.Prelude.{◌≡◌};
-ghost use Rattle.queue_c.specs.Lengths.{length_of};
+ghost use Rattle.queue_c.specs.Lengths.{bound_of, length_of};
 
-/// How many lines the journal of a queue may have.
-#[derive(Clone, Copy)]
-pub enum Length {
-    /// So many, 1 to 1,048,576, which memory has all.
-    Lines(u32),
-    /// 2^56, or just below: memory has the last so many, 16 to 16,777,216.
-    Keeping(u32),
-    /// The same, and the calls for C refuse a request that might have memory forget a line that is not archived.
-    Archived(u32),
-}
+use flat_queue::Length;
 
 /// The length that two numbers of a C program mean, where there is one.
 pub fn length_of(keeping: u32, entries: u32) -> Option<Length>
@@ -22,5 +13,15 @@ pub fn length_of(keeping: u32, entries: u32) -> Option<Length>
         1 => Some(Length::Archived(entries)),
         2 => Some(Length::Lines(entries)),
         _ => None,
+    }
+}
+
+/// The bound that a number of a C program means, where there is one.
+pub fn bound_of(most: u64) -> Option<u64>
+    ensures { result ≡ bound_of most }
+{
+    match most {
+        0 => None,
+        _ => Some(most),
     }
 }

@@ -4,13 +4,13 @@ ghost use Rattle.queue_c.specs.Asking.{LooksAnswers};
 ghost use Rattle.queue_c.specs.Looking.{told_as, wanted_of};
 ghost use Rattle.queue_c.specs.declared.codes.TheConstants.{OK};
 
-use crate::calls::{counted, is_let_through, owes_wake};
-use crate::codes::{LOCK_HELD, NO_HANDLE, OK, POSTS_SPENT, UNARCHIVED, WAITS};
+use crate::calls::owes_wake;
+use crate::codes::{LOCK_HELD, NO_HANDLE, OK, POSTS_SPENT, WAITS};
 use crate::contents::Contents;
 use crate::handle::Handle;
 use crate::plain::{PlainAnswer, tell_answer};
 use flat_queue::{Looked, Wanted};
-use pq_types::{Answer, Item, Reply};
+use pq_types::{Answer, Item, Refusal, Reply};
 use queue_pool::TriedFirst;
 use std::alloc::Global;
 
@@ -32,7 +32,9 @@ pub fn told_as(seen: Looked<Item<u64>>) -> Answer<Item<u64>>
         Looked::Taken(line, item) => Answer::Entered(line, Reply::Got(item)),
         Looked::Stays(item) => Answer::Entered(0, Reply::Least(item)),
         Looked::Nothing => Answer::Entered(0, Reply::Empty),
+        Looked::Over => Answer::Refused(Refusal::Shut.padded()),
         Looked::BookFull => Answer::BookFull,
+        Looked::Refused(refusal) => Answer::Refused(refusal.padded()),
     }
 }
 
@@ -44,10 +46,7 @@ fn pop_or_look(held: &mut Contents, wanted: Wanted, answer: &mut PlainAnswer) ->
     let Contents::Member(member, _) = held else {
         return NO_HANDLE;
     };
-    if !is_let_through(member) {
-        return UNARCHIVED;
-    }
-    let code = match member.try_take_first(wanted) {
+    match member.try_take_first(wanted) {
         TriedFirst::Waits => WAITS,
         TriedFirst::Spent => POSTS_SPENT,
         TriedFirst::LockHeld => LOCK_HELD,
@@ -55,16 +54,16 @@ fn pop_or_look(held: &mut Contents, wanted: Wanted, answer: &mut PlainAnswer) ->
             *answer = tell_answer(&told_as(seen), owes_wake(member));
             OK
         }
-    };
-    counted(member, code, answer.line)
+    }
 }
 
 /// Takes the first item out where its priority is at most this one, but none where `takes` is 0, and else looks at it, at once
-/// where no other member leads, without a post: 0, and the answer is told, that of a pop where it took the item out, or found
-/// the journal full; else, with line 0, as the journal has no line of it, one to a least where the item stays, or that there is
-/// none; and whether a wake is owed behind it; 8 where another member led, and then nothing was done. Refusals, which do
-/// nothing: 42 where the handle holds no member, 43 where the last request is not answered yet, 52 where a pop might have
-/// memory forget a line that is not archived, 11 where all posts are spent. Takes memory for the pushes of others alone.
+/// where no other member leads, without a post: 0, and the answer is told, that of a pop where it took the item out, found the
+/// journal full, or was refused by the queue's rules; else, with line 0, as the journal has no line of it, one to a least where
+/// the item stays, or that there is none, or of kind 6, that there is none and the queue is shut; and whether a wake is owed behind
+/// it; 8 where another member led, and then nothing was done. Refusals, which do nothing: 42 where the handle holds no member, 43 where the last request is not answered yet, 11 where
+/// all posts are spent. Takes memory for the pushes of
+/// others alone.
 #[unsafe(no_mangle)]
 pub extern "C" fn pq_core_try_pop_or_look(
     alloc: Global,

@@ -3,9 +3,9 @@ ghost use Rattle.std.specs.Prelude.{◌≡◌, ℕ};
 ghost use Rattle.pq_types.specs.Item.{item};
 ghost use Rattle.pq_types.specs.Control.{reply_item};
 ghost use Rattle.queue_c.specs.Plain.{request_of, reply_number, operation_number, operation_item, operation_ticket};
-ghost use Rattle.queue_c.specs.Plain.{or_zeros, told, told_item, told_answer, told_line};
+ghost use Rattle.queue_c.specs.Plain.{or_zeros, told, told_item, told_answer, told_line, refusal_number};
 
-use pq_types::{Answer, Done, Item, Line, Operation, Reply, Request};
+use pq_types::{Answer, Done, Item, Line, Operation, Refusal, Reply, Request};
 
 /// An item.
 #[repr(C)]
@@ -15,9 +15,10 @@ pub struct PlainItem {
     pub value: u64,
 }
 
-/// An answer. The kinds: 0 pushed, 1 got, 2 found, 3 empty, 4 book full, 5 no memory left. The line
-/// counts from 1, and is 0 where the request has none; priority and value are 0 where no item is
-/// told. A call that carried requests out, and owes a wake behind them to one who waits for an item, says so by 1.
+/// An answer. The kinds: 0 pushed, 1 got, 2 found, 3 empty, 4 book full, 5 no memory left; and the refusals by the queue's rules:
+/// 6 it is shut, 7 memory would forget a line that is not archived, 8 it has as many items as its bound. The line counts from 1,
+/// and is 0 where the request has none; priority and value are 0 where no item is told. A call that carried requests out, and
+/// owes a wake behind them to one who waits for an item, says so by 1.
 #[repr(C)]
 #[derive(Clone, Copy)]
 pub struct PlainAnswer {
@@ -28,8 +29,9 @@ pub struct PlainAnswer {
     pub value: u64,
 }
 
-/// A line of the journal. The requests: 0 push, 1 pop, 2 least, 3 the removal of the item with this ticket, which is 0 else, 4 its
-/// move to this priority, with 0 for a value; the replies are the first four kinds of answers.
+/// A line of the journal. The requests: 0 push, 1 pop, 2 least, 3 the removal of the item with this ticket, which is 0 else, 4
+/// its move to this priority, with 0 for a value, 5 the shut of the queue, to which the reply is that of an empty one; the
+/// replies are the first four kinds of answers.
 #[repr(C)]
 #[derive(Clone, Copy)]
 pub struct PlainLine {
@@ -76,6 +78,7 @@ pub fn told_operation(operation: &Operation<u64>) -> (u32, Item<u64>, u64)
         Done::Least => (2, no_item(), 0),
         Done::Remove(ticket) => (3, no_item(), *ticket),
         Done::Move(priority, ticket) => (4, Item::of_parts(*priority, 0), *ticket),
+        Done::Shut => (5, no_item(), 0),
     }
 }
 
@@ -90,6 +93,18 @@ pub fn answer_parts(answer: Answer<Item<u64>>) -> (u32, u64, Item<u64>)
         }
         Answer::BookFull => (4, 0, no_item()),
         Answer::NoMemory => (5, 0, no_item()),
+        Answer::Refused(refusal) => (refusal_number(refusal.why()), 0, no_item()),
+    }
+}
+
+// The kind of an answer by which the queue's rules refuse.
+fn refusal_number(refusal: Refusal) -> u32
+    ensures { result ≡ refusal_number refusal }
+{
+    match refusal {
+        Refusal::Shut => 6,
+        Refusal::Unarchived => 7,
+        Refusal::Full => 8,
     }
 }
 

@@ -7,8 +7,8 @@ use crate::plain::{PlainAnswer, tell_answer};
 use flat_queue::{Batch, CallError, Popped};
 use pq_types::Item;
 
-/// What a batch came to: how many of its requests were entered, the first ones; the number of the first one's journal line,
-/// each further one having the next; the code of the refusal that ended it, 9 to 11, or 0; and, by 1, that a wake is owed
+/// What a batch came to: how many of its requests were entered, the first ones; the number of the first one's journal line, each
+/// further one having the next; the code of the refusal that ended it, 9 to 11 or 51 to 53, or 0; and, by 1, that a wake is owed
 /// behind it to one who waits for an item.
 #[repr(C)]
 #[derive(Clone, Copy)]

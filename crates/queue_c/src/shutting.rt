@@ -1,38 +1,53 @@
-// How a C program shuts a queue. Its caller wakes those who wait for an item.
-ghost use Rattle.std.specs.Prelude.{◌≡◌};
-ghost use Rattle.std.specs.Option.{MatchOption};
-ghost use Rattle.queue_c.specs.Handles.{queue_in};
-ghost use Rattle.queue_c.specs.declared.codes.TheConstants.{NO_HANDLE, OK};
+// How a C program shuts a queue.
+ghost use Rattle.std.specs.Prelude.{◌≡◌, ◌≢◌, Some};
+ghost use Rattle.queue_c.specs.Shutting.{ShutAnswers};
+ghost use Rattle.queue_c.specs.declared.codes.TheConstants.{OK};
 
-use crate::codes::{NO_HANDLE, OK};
+use crate::calls::owes_wake;
+use crate::codes::{LOCK_HELD, NO_HANDLE, OK, POSTS_SPENT, WAITS};
 use crate::contents::Contents;
 use crate::handle::Handle;
-use flat_queue::EventCount;
+use crate::plain::{PlainAnswer, tell_answer};
+use queue_pool::Tried;
 use std::alloc::Global;
 
-// Shuts the queue of this event count, whose caller wakes all who wait: so no wake is owed then.
-fn shut(waiters: &EventCount) -> u32
-    ensures { result ≡ OK }
+// Shuts the member's queue, and tells the answer.
+fn try_shut(held: &mut Contents, answer: &mut PlainAnswer) -> u32
+    ensures answers { ShutAnswers (Some held.old) result answer.new (Some held.new) }
+    ensures untold { result ≢ OK → answer.new ≡ answer.old }
 {
-    waiters.shut();
-    waiters.owed_wakes();
-    OK
-}
-
-/// Shuts the queue for good: 0; 42 where the handle holds no queue. Its members push no more from then on, and are told 51. The
-/// caller wakes all who wait for an item.
-#[unsafe(no_mangle)]
-pub extern "C" fn pq_core_shut(alloc: Global, queue: &mut Handle) -> u32
-    ensures codes { MatchOption (queue_in queue.old.value) (result ≡ NO_HANDLE) (λ _. result ≡ OK) }
-    ensures same { queue.new.value ≡ queue.old.value }
-{
-    let Some(held) = queue.take(alloc) else {
+    let Contents::Member(member, _) = held else {
         return NO_HANDLE;
     };
-    let code = match &*held {
-        Contents::Queue(pool) => shut(pool.waiters()),
-        _ => NO_HANDLE,
+    match member.try_shut() {
+        Tried::Waits => WAITS,
+        Tried::Spent => POSTS_SPENT,
+        Tried::LockHeld => LOCK_HELD,
+        Tried::Answered(told) => {
+            *answer = tell_answer(&told, owes_wake(member));
+            OK
+        }
+    }
+}
+
+/// Shuts the queue for good at once where no other member leads, without a post: 0, and the answer is told: of kind 3, with its
+/// line, where the queue is shut now; of kind 6 exactly where it was shut; of kind 7 where its line would have memory forget one
+/// that is not archived; of kind 4 where the journal is full; and whether a wake is owed behind it, to all who wait for an item; 8
+/// where another member led, and then nothing was done. Refusals, which do nothing: 42 where the handle holds no member, 43 where the
+/// last request is not answered yet, 11 where all posts are spent. Takes memory for the pushes of others alone.
+#[unsafe(no_mangle)]
+pub extern "C" fn pq_core_try_shut(
+    alloc: Global,
+    member: &mut Handle,
+    answer: &mut PlainAnswer,
+) -> u32
+    ensures answers { ShutAnswers member.old.value result answer.new member.new.value }
+    ensures untold { result ≢ OK → answer.new ≡ answer.old }
+{
+    let Some(mut held) = member.take(alloc) else {
+        return NO_HANDLE;
     };
-    queue.put(held);
+    let code = try_shut(&mut held, answer);
+    member.put(held);
     code
 }

@@ -3,11 +3,11 @@ ghost use Rattle.std.specs.Prelude.{◌≡◌, ◌≢◌, Some};
 ghost use Rattle.std.specs.Option.{MatchOption};
 ghost use Rattle.flat_queue.specs.declared.looking.Wanted.TheVariants.{UpTo};
 ghost use Rattle.queue_c.specs.Handles.{member_in};
-ghost use Rattle.queue_c.specs.Taking.{StepTakeAnswers};
+ghost use Rattle.queue_c.specs.Asking.{LooksAnswers};
 ghost use Rattle.queue_c.specs.declared.codes.TheConstants.{NO_HANDLE, OK};
 
-use crate::calls::{counted, is_let_through, owes_wake};
-use crate::codes::{LOCK_HELD, NO_HANDLE, OK, POSTS_SPENT, SHUT, UNARCHIVED, WAITS};
+use crate::calls::owes_wake;
+use crate::codes::{LOCK_HELD, NO_HANDLE, OK, POSTS_SPENT, WAITS};
 use crate::contents::Contents;
 use crate::handle::Handle;
 use crate::looking::told_as;
@@ -17,35 +17,29 @@ use queue_pool::TakeStep;
 use std::alloc::Global;
 
 fn step_take(held: &mut Contents, priority: u64, answer: &mut PlainAnswer) -> u32
-    ensures answers { StepTakeAnswers (Some held.old) (UpTo priority) result answer.new (Some held.new) }
+    ensures answers { LooksAnswers (Some held.old) (UpTo priority) result answer.new (Some held.new) }
     ensures untold { result ≢ OK → answer.new ≡ answer.old }
 {
     let Contents::Member(member, _) = held else {
         return NO_HANDLE;
     };
-    if !is_let_through(member) {
-        return UNARCHIVED;
-    }
-    let code = match member.step_take(Wanted::UpTo(priority)) {
+    match member.step_take(Wanted::UpTo(priority)) {
         TakeStep::Waits => WAITS,
         TakeStep::Spent => POSTS_SPENT,
         TakeStep::LockHeld => LOCK_HELD,
-        TakeStep::Over => SHUT,
         TakeStep::Looked(seen) => {
             *answer = tell_answer(&told_as(seen), owes_wake(member));
             OK
         }
-    };
-    counted(member, code, answer.line)
+    }
 }
 
 /// The next step of a take of the first item, where its priority is at most this one. It announces the member as one that waits,
-/// and looks, where no other member leads, without a post: 0, and the answer is told, as by `pq_core_try_pop_or_look`. Where no
-/// item was taken, and the journal is not full, the member is announced, and may sleep until it is woken; then it makes the
-/// next step. 8 where another member led, and then it makes the next step soon; 51 where the queue is shut, nobody posts a push,
-/// and the look found no item. One that gives up calls `pq_core_end_take`. Refusals, which do nothing: 42 where the handle holds
-/// no member, 43 where the last request is not answered yet, 52 where a pop might have memory forget a line that is not
-/// archived, 11 where all posts are spent. Takes memory for the pushes of others alone.
+/// and looks, where no other member leads, without a post: 0, and the answer is told, as by `pq_core_try_pop_or_look`, of kind 6
+/// exactly where the queue is shut and no item is left: then the take is over. Where no item was taken else, and the journal is not
+/// full, the member is announced, and may sleep until it is woken; then it makes the next step. 8 where another member led, and then
+/// it makes the next step soon. One that gives up calls `pq_core_end_take`. Refusals, which do nothing: 42 where the handle holds
+/// no member, 43 where the last request is not answered yet, 11 where all posts are spent. Takes memory for the pushes of others alone.
 #[unsafe(no_mangle)]
 pub extern "C" fn pq_core_step_take(
     alloc: Global,
@@ -53,7 +47,7 @@ pub extern "C" fn pq_core_step_take(
     priority: u64,
     answer: &mut PlainAnswer,
 ) -> u32
-    ensures answers { StepTakeAnswers member.old.value (UpTo priority) result answer.new member.new.value }
+    ensures answers { LooksAnswers member.old.value (UpTo priority) result answer.new member.new.value }
     ensures untold { result ≢ OK → answer.new ≡ answer.old }
 {
     let Some(mut held) = member.take(alloc) else {

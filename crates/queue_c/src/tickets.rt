@@ -3,8 +3,8 @@ ghost use Rattle.std.specs.Prelude.{◌≡◌, ◌≢◌, Some};
 ghost use Rattle.queue_c.specs.Tickets.{TicketAnswers, RemoveAnswers, RescheduleAnswers};
 ghost use Rattle.queue_c.specs.declared.codes.TheConstants.{OK};
 
-use crate::calls::{counted, is_let_through, owes_wake};
-use crate::codes::{LOCK_HELD, NO_HANDLE, OK, POSTS_SPENT, UNARCHIVED, WAITS};
+use crate::calls::owes_wake;
+use crate::codes::{LOCK_HELD, NO_HANDLE, OK, POSTS_SPENT, WAITS};
 use crate::contents::Contents;
 use crate::handle::Handle;
 use crate::plain::{PlainAnswer, tell_answer};
@@ -20,10 +20,7 @@ fn use_held(held: &mut Contents, ticketed: Ticketed<u64>, answer: &mut PlainAnsw
     let Contents::Member(member, _) = held else {
         return NO_HANDLE;
     };
-    if !is_let_through(member) {
-        return UNARCHIVED;
-    }
-    let code = match member.try_ticket(ticketed) {
+    match member.try_ticket(ticketed) {
         Tried::Waits => WAITS,
         Tried::Spent => POSTS_SPENT,
         Tried::LockHeld => LOCK_HELD,
@@ -31,8 +28,7 @@ fn use_held(held: &mut Contents, ticketed: Ticketed<u64>, answer: &mut PlainAnsw
             *answer = tell_answer(&found, owes_wake(member));
             OK
         }
-    };
-    counted(member, code, answer.line)
+    }
 }
 
 // The same, of what the handle holds.
@@ -55,9 +51,9 @@ fn use_ticket(
 
 /// Takes the item out that has this ticket, the number of the line that put it in, at once where no other member leads, without a
 /// post: 0, and the answer is told, that of a pop which got it, or which found nothing where it no longer waits, or that the
-/// journal is full; and whether a wake is owed behind it; 8 where another member led, and then nothing was done. Refusals, which
-/// do nothing: 42 where the handle holds no member, 43 where the last request is not answered yet, 52 where it might have memory
-/// forget a line that is not archived, 11 where all posts are spent. Takes memory for the pushes of others alone.
+/// journal is full, or that the queue's rules refuse it; and whether a wake is owed behind it; 8 where another member led, and
+/// then nothing was done. Refusals, which do nothing: 42 where the handle holds no member, 43 where the last request is not
+/// answered yet, 11 where all posts are spent. Takes memory for the pushes of others alone.
 #[unsafe(no_mangle)]
 pub extern "C" fn pq_core_try_remove(
     alloc: Global,

@@ -6,7 +6,7 @@ use Rattle.pq_types.specs.Item.{Item}
 use Rattle.pq_types.specs.Asked.{Line, Operation, Reply}
 use Rattle.pq_types.specs.declared.request.Request.TheVariants.{Push, Pop, Least}
 use Rattle.pq_types.specs.declared.answer.Reply.TheVariants.{Pushed, Got, Empty, Least as LeastIs}
-use Rattle.pq_types.specs.Operation.{Asked, ByTicket}
+use Rattle.pq_types.specs.Operation.{Asked, ByTicket, Shuts}
 use Rattle.pq_types.specs.Entry.{Entry, entry, item_of, entries_after, reply_by}
 use Rattle.pq_types.specs.History.{entries_from, IsLegalFrom}
 use Rattle.queue_load.specs.declared.tally.Tally.{Tally}
@@ -19,6 +19,7 @@ IsPushOrPop (Asked (Push x)) = Unit {0}
 IsPushOrPop (Asked Pop) = Unit {0}
 IsPushOrPop (Asked Least) = ⊥
 IsPushOrPop (ByTicket ticketed) = ⊥
+IsPushOrPop Shuts = ⊥
 
 abbrev priorities_of : List Entry → ℕ
 priorities_of es = sum_by (λ (x : Item). x.priority) (map item_of es)
@@ -47,6 +48,7 @@ is_one (f ∷ fs) n (Asked Pop) (Got x) e is =
     record { counts = refl; kept = omega arith; sums = omega (arith, priority, sum_by-cons (λ (i : Item). i.priority) (item_of f) (map item_of fs)) }
 is_one es n (Asked Least) r e is = absurd is
 is_one es n (ByTicket ticketed) r e is = absurd is
+is_one es n Shuts r e is = absurd is
 
 -- what all lines count together
 abbrev lines_sum : (Tally → ℕ) → List Line → ℕ

@@ -5,7 +5,7 @@ use Rattle.std.specs.Io.KnownBytes.{Appends}
 use Rattle.std.proofs.KnownBytes.{Appends-nil, Appends-trans}
 use Rattle.std.specs.Prelude.{Result, Ok, Err, OnOk, is_err}
 use Rattle.pq_types.specs.Asked.{Line}
-use Rattle.pq_book.specs.declared.lines.LinesError.{LinesError}
+use Rattle.flat_queue.specs.declared.error.ArchiveError.{ArchiveError}
 use Rattle.queue_texts.specs.LineText.{line_text, journal_text}
 use Rattle.desk_core.specs.Pen.{after_miss}
 use Rattle.desk_core.specs.Rule.{StartsWith}
@@ -108,8 +108,8 @@ pub part_if : (writing : JournalWriter) (lines : ℕ) → EndsSo writing lines f
 part_if writing lines = record { writes = λ first now journal known h s e. writes_some writing.failed first now writing.written journal known h s }
 
 -- an archive that was empty has all lines behind the first so many
-pub archives_all : (room archived count : ℕ) (journal archive after : List Line) (told : Result ℕ LinesError) → Archives room archived journal archive after told → told ≡ Ok count → archive ≡ [] → (after ≡ drop archived journal) × (count ≡ length journal)
-archives_all room archived count journal archive after (Ok n) h e none = (h.1 ∙ ap (λ ls. ls ++ drop archived journal) none, let many = h.0 in cc)
+pub archives_all : (room archived count : ℕ) (journal archive after : List Line) (told : Result ℕ ArchiveError) → Archives room archived journal archive after told → told ≡ Ok count → archive ≡ [] → (after ≡ drop archived journal) × (count ≡ length journal)
+archives_all room archived count journal archive after (Ok n) h e none = (h.2 ∙ ap (λ ls. ls ++ drop archived journal) none, let many = h.1 in cc)
 archives_all room archived count journal archive after (Err x) h e none = absurd (cc)
 
 -- nothing more is written, and nothing more is known

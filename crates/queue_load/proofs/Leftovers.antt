@@ -12,7 +12,7 @@ use Rattle.pq_types.specs.declared.answer.Reply.TheVariants.{Pushed, Got, Empty,
 use Rattle.pq_types.specs.Item.{item, not_above}
 use Rattle.pq_types.specs.declared.journal.TheConstants.{MOST_LINES}
 use Rattle.pq_types.specs.Asked.{Operation}
-use Rattle.pq_types.specs.Operation.{Asked, ByTicket, Remove, Move, request_of}
+use Rattle.pq_types.specs.Operation.{Asked, ByTicket, Shuts, Remove, Move, request_of}
 use Rattle.pq_types.specs.Queue.{with_item, content_after, reply_to}
 use Rattle.pq_types.specs.Entry.{Entry, entry, item_of, item_at, without, with_entry, with_moved, entry_not_above, taken, entries_after, reply_by}
 use Rattle.pq_types.specs.History.{left, entries_from, entries_of, IsLegal, IsLegalFrom}
@@ -182,6 +182,10 @@ holds_by : (l : Leftover) (es : List Entry) (o : Operation) (reply : Reply) → 
 holds_by l es (Asked q) reply c e = holds l (map item_of es) q reply c e
 holds_by l es (ByTicket (Remove i)) reply c e = (removed l es i reply c e).0
 holds_by l es (ByTicket (Move i priority)) reply c e = (removed l es i reply c e).0
+holds_by l es Shuts Empty c e = tt
+holds_by l es Shuts Pushed c e = tt
+holds_by l es Shuts (Got x) c e = absurd (cc)
+holds_by l es Shuts (LeastIs x) c e = tt
 
 counts_more : LeavesOneMore → EntersOneMore → (lines : List Line) (x : Line) (l : Leftover) → Counts l (left lines) → x.reply ≡ reply_by (entries_of lines) x.operation → Counts (left_by l x.operation x.reply) (left (lines ++ x ∷ []))
 counts_more leaves enters lines x l c e = by x.operation refl e
@@ -195,6 +199,9 @@ counts_more leaves enters lines x l c e = by x.operation refl e
         let after = with_moved (length lines + 1) priority (item_at i (entries_of lines)) (without i (entries_of lines)) in
         let now : left (lines ++ x ∷ []) ≡ map item_of after = ap (map item_of) (enters lines x ∙ ap (entries_after (entries_of lines) (length lines + 1)) is) in
         subst (Counts (moved l priority x.reply)) (sym now) (moved_by l (entries_of lines) (length lines + 1) i priority x.reply c e)
+    by Shuts is e =
+        let now : left (lines ++ x ∷ []) ≡ left lines = ap (map item_of) (enters lines x ∙ ap (entries_after (entries_of lines) (length lines + 1)) is) in
+        subst (Counts l) (sym now) c
 
 -- each line of a legal history has the reply of the queue that the lines before it leave
 legal_at : (es : List Entry) (k : ℕ) (lines : List Line) (n : ℕ) (d : Line) → IsLegalFrom es k lines → n < length lines → (get_or lines n d).reply ≡ reply_by (entries_from es k (take n lines)) (get_or lines n d).operation

@@ -4,7 +4,7 @@ use Rattle.pq_types.specs.Asked.{Request, Operation}
 use Rattle.pq_types.specs.declared.request.Request.TheVariants.{Push, Pop, Least}
 use Rattle.pq_types.specs.Asked.{Reply}
 use Rattle.pq_types.specs.declared.answer.Reply.TheVariants.{Pushed, Got, Empty, Least as LeastIs}
-use Rattle.pq_types.specs.Operation.{Asked, ByTicket, Remove, Move}
+use Rattle.pq_types.specs.Operation.{Asked, ByTicket, Shuts, Remove, Move}
 use Rattle.queue_load.specs.declared.leftover.Leftover.{Leftover}
 
 -- a push leaves its item more, and a pop the item that it took out less
@@ -23,11 +23,12 @@ moved l priority Empty = l
 moved l priority Pushed = l
 moved l priority (LeastIs x) = l
 
--- the same of any operation; a removal counts as a pop
+-- the same of any operation; a removal counts as a pop, and a shut leaves all
 abbrev pub left_by : Leftover → Operation → Reply → Leftover
 left_by l (Asked q) reply = left_after l q reply
 left_by l (ByTicket (Remove i)) reply = left_after l Pop reply
 left_by l (ByTicket (Move i priority)) reply = moved l priority reply
+left_by l Shuts reply = l
 
 -- the item that a pop took out was there
 abbrev pub HoldsFor : Leftover → Request → Reply → Type 0

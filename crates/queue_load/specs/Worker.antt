@@ -1,5 +1,5 @@
 -- What a worker has done, and what it was answered, in a load of wide items or of narrow ones.
-use Rattle.std.specs.Prelude.{◌≡◌, ℕ, ◌+◌, ◌*◌, ◌≤◌, Bool, true, false, List, [], ◌++◌, map, sum, Some, None}
+use Rattle.std.specs.Prelude.{◌≡◌, ℕ, ◌+◌, ◌*◌, ◌≤◌, Bool, true, false, List, [], ◌++◌, map, sum, Option, Some, None}
 use Rattle.pq_types.specs.Item.{bound_of}
 use Rattle.pq_types.specs.Asked.{Request}
 use Rattle.pq_types.specs.Asked.{Reply}
@@ -8,11 +8,13 @@ use Rattle.desk_core.specs.Rule.{StartsWith}
 use Rattle.announce_board.specs.Tokens.{is_idle}
 use Rattle.flat_queue.specs.Calling.{IsCalled}
 use Rattle.flat_queue.specs.Members.{QueueName, Joined}
+use Rattle.flat_queue.specs.declared.error.CallError.{CallError}
+use Rattle.flat_queue.specs.declared.error.CallError.TheVariants as error
 use Rattle.queue_load.specs.Points.{IsWithin}
 use Rattle.program_words.specs.Plan.{part_factor, priorities, requests_of, all_requests}
 use Rattle.queue_load.specs.Tally.{counted, tally_of}
 use Rattle.queue_load.specs.declared.load_faults.WorkerError.{WorkerError}
-use Rattle.queue_load.specs.declared.load_faults.WorkerError.TheVariants.{NoMemory, BookFull, GaveUp}
+use Rattle.queue_load.specs.declared.load_faults.WorkerError.TheVariants.{NoMemory, BookFull, GaveUp, Refused}
 use Rattle.program_words.specs.declared.plan.Plan.{Plan}
 use Rattle.queue_load.specs.declared.points.Point.{Point}
 use Rattle.queue_load.specs.declared.tally.Tally.{Tally}
@@ -71,12 +73,21 @@ pub record HasMade (wide : Bool) (queue : QueueName) (worker : ℕ) (plan : Plan
   pub tally : t ≡ tally_of m.pen.mine
   pub share : IsShare wide worker plan rounds t
 
+-- the reason for which a worker ends whose call was so refused: none has so many requests that no serial is left
+abbrev pub reason_of : CallError → Option WorkerError
+reason_of error.NoMemory = Some NoMemory
+reason_of error.BookFull = Some BookFull
+reason_of (error.Refused why) = Some (Refused why)
+reason_of error.GaveUp = Some GaveUp
+reason_of error.Spent = None
+
 -- What the reason says for which a worker ended early: where memory was refused, not every store has
 -- room for all; and where its gate gave up, the gate may do so.
 abbrev pub IsReason : (may_give_up has_room : Type 0) → WorkerError → Type 0
 IsReason may_give_up has_room NoMemory = ¬ has_room
 IsReason may_give_up has_room BookFull = Unit {0}
 IsReason may_give_up has_room GaveUp = may_give_up
+IsReason may_give_up has_room (Refused why) = Unit {0}
 
 -- The worker of this number has come so far: it has made so many whole rounds, and a part of the next, each request of which was
 -- entered in the journal.

@@ -2,6 +2,8 @@
 ghost use Rattle.std.specs.Prelude.{◌≡◌};
 ghost use Rattle.queue_load.specs.LoadFaults.{worker_code, load_code, load_status};
 
+use flat_queue::CallError;
+use pq_types::Refusal;
 use std::io;
 use std::io::Write;
 use thiserror::Error;
@@ -19,10 +21,14 @@ pub enum WorkerError {
     /// Its gate gave up before the answer came. A worker of the program's own loads never does so.
     #[error("gave up")]
     GaveUp,
+    /// The queue's rules refuse its request. The queues of loads never do so: they are plain, and nobody
+    /// shuts them.
+    #[error("refused by the queue's rules")]
+    Refused(Refusal),
 }
 
 impl WorkerError {
-    /// The number of this reason: 9, 10 or 12.
+    /// The number of this reason: 9, 10, 12, or 51 to 53.
     pub fn code(&self) -> u32
         ensures { result ≡ worker_code self.now }
     {
@@ -30,6 +36,7 @@ impl WorkerError {
             WorkerError::NoMemory => 9,
             WorkerError::BookFull => 10,
             WorkerError::GaveUp => 12,
+            WorkerError::Refused(refusal) => CallError::Refused(*refusal).code(),
         }
     }
 }

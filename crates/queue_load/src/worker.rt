@@ -1,6 +1,6 @@
 // A worker of a load: it joins the queue, and in each round pushes its items, and then pops. It does so in one go, or in
 // several, one after another.
-ghost use Rattle.std.specs.Prelude.{◌≡◌, ◌+◌, ◌-◌, ◌<◌, ◌≤◌, map, IfOk, IfErr};
+ghost use Rattle.std.specs.Prelude.{◌≡◌, ◌≢◌, ◌+◌, ◌-◌, ◌<◌, ◌≤◌, map, Some, IfOk, IfErr};
 ghost use Rattle.pq_types.specs.declared.request.Request.TheVariants.{Push, Pop};
 ghost use Rattle.flat_queue.specs.declared.gate.Turn.TheVariants.{GiveUp};
 ghost use Rattle.flat_queue.specs.Limits.{most_posts};
@@ -11,7 +11,7 @@ ghost use Rattle.queue_load.specs.Lines.{MayPostAll};
 ghost use Rattle.queue_load.specs.Points.{IsNext, IsWithin};
 ghost use Rattle.queue_load.specs.Tally.{IsSmall};
 ghost use Rattle.queue_load.specs.declared.worker.WorkerState.{WorkerState};
-ghost use Rattle.queue_load.specs.Worker.{IsAnswered, IsReason, HasCome, HasComeOn, HasWorked, StandsAt, known_of};
+ghost use Rattle.queue_load.specs.Worker.{IsAnswered, IsReason, HasCome, HasComeOn, HasWorked, StandsAt, known_of, reason_of};
 
 use crate::asks::{Asks, Load, make_at_once};
 use crate::load_faults::WorkerError;
@@ -80,6 +80,20 @@ pub fn states_of<T: Drop, W: Resumes<T> + Drop>(
         .collect(alloc)
 }
 
+// Why a worker ends whose call was so refused.
+fn reason_of(error: CallError) -> WorkerError
+    requires { error ≢ CallError.Spent }
+    ensures { Some result ≡ reason_of error }
+{
+    match error {
+        CallError::NoMemory => WorkerError::NoMemory,
+        CallError::BookFull => WorkerError::BookFull,
+        CallError::Refused(refusal) => WorkerError::Refused(refusal),
+        CallError::GaveUp => WorkerError::GaveUp,
+        CallError::Spent => unreachable!(),
+    }
+}
+
 // Makes one request by this gate, and counts its reply: the handle, or the member with the reason why it ended.
 fn ask_by<'q, S: Store<Entry<P>>, R: Wait, G: Gate, P: Part>(
     rt: &R,
@@ -100,13 +114,7 @@ fn ask_by<'q, S: Store<Entry<P>>, R: Wait, G: Gate, P: Part>(
             tally.count(request, reply);
             Ok(handle)
         }
-        Called::Refused(handle, CallError::NoMemory) => {
-            Err((handle.into_member(), WorkerError::NoMemory))
-        }
-        Called::Refused(handle, CallError::BookFull) => {
-            Err((handle.into_member(), WorkerError::BookFull))
-        }
-        Called::Refused(_, CallError::Spent | CallError::GaveUp) => unreachable!(),
+        Called::Refused(handle, error) => Err((handle.into_member(), reason_of(error))),
         Called::Pending(pending) => Err((pending.into_member(), WorkerError::GaveUp)),
     }
 }
@@ -130,9 +138,7 @@ fn ask_at_once<'q, S: Store<Entry<P>>, R: Wait, P: Part>(
             tally.count(request, reply);
             Ok(handle)
         }
-        Err(CallError::NoMemory) => Err((handle.into_member(), WorkerError::NoMemory)),
-        Err(CallError::BookFull) => Err((handle.into_member(), WorkerError::BookFull)),
-        Err(CallError::Spent | CallError::GaveUp) => unreachable!(),
+        Err(error) => Err((handle.into_member(), reason_of(error))),
     }
 }
 

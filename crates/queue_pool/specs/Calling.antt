@@ -1,14 +1,12 @@
 -- What one step of a call makes of its member.
-use Rattle.std.specs.Prelude.{◌≡◌, ℕ, ◌≤◌, ◌⊎◌, Bool, true, false}
+use Rattle.std.specs.Prelude.{◌≡◌, ℕ, ◌≤◌, Bool, true, false}
 use Rattle.pq_types.specs.Item.{Item}
 use Rattle.pq_types.specs.Asked.{Request}
-use Rattle.pq_types.specs.Queue.{IsPush}
 use Rattle.announce_board.specs.Tokens.{is_idle}
 use Rattle.announce_board.specs.Asking.{IsAnswerTo}
 use Rattle.flat_queue.specs.Limits.{most_posts}
 use Rattle.flat_queue.specs.Members.{Joined}
 use Rattle.flat_queue.specs.OwnRequest.{CarriesOutBy}
-use Rattle.flat_queue.specs.Ending.{IsShutOut}
 use Rattle.flat_queue.specs.Turns.{FindsLockHeld, LeadsBy, LooksInVainBy}
 use Rattle.flat_queue.specs.CallSteps.{PostsOnceBy, LooksUpBy}
 use Rattle.queue_pool.specs.Shared.{MayCall}
@@ -33,15 +31,8 @@ tries_of false = 1
 abbrev pub PostsBehindMissBy : ℕ → Joined → Request → Joined → Type 0
 PostsBehindMissBy words before request after = (held : Joined) × FindsLockHeld before held × PostsOnceBy words request held after
 
--- The member won the lock, and released it without this push, as the queue was shut; or it found the lock held, and did not
--- post this push, as it was to.
-abbrev pub IsRefusedAsShut : Joined → Request → (posts : Bool) → Joined → Type 0
-IsRefusedAsShut before request posts after =
-    IsShutOut before request after ⊎ ((posts ≡ true) × IsPush request × FindsLockHeld before after)
-
 -- The last request is not answered yet, or no serial is left, and nothing was done; or the member found the lock held, and was to
--- post nothing; or it found it held, and posted this request; or this is a push, and the queue was shut; or it carried this
--- request out itself, and this is the answer.
+-- post nothing; or it found it held, and posted this request; or it carried this request out itself, and this is the answer.
 abbrev pub StepsCallBy : ℕ → Joined → Request → (posts : Bool) → CallStep → Joined → Type 0
 StepsCallBy words before request posts step.Waits after = (is_idle before.pen.standing ≡ false) × (after ≡ before)
 StepsCallBy words before request posts step.Spent after =
@@ -49,7 +40,6 @@ StepsCallBy words before request posts step.Spent after =
 StepsCallBy words before request posts step.LockHeld after = (posts ≡ false) × MayCall before × FindsLockHeld before after
 StepsCallBy words before request posts step.Posted after =
     (posts ≡ true) × MayCall before × PostsBehindMissBy words before request after
-StepsCallBy words before request posts step.Shut after = MayCall before × IsRefusedAsShut before request posts after
 StepsCallBy words before request posts (step.Answered answer) after =
     MayCall before × CarriesOutBy words before request answer after × IsAnswerTo before.queue.room request answer
 

@@ -5,20 +5,19 @@ use Rattle.pq_types.specs.Item.{Item}
 use Rattle.pq_types.specs.Operation.{Ticketed, Remove, Move}
 use Rattle.pq_types.specs.Control.{is_answer}
 use Rattle.announce_board.specs.Tokens.{is_idle}
-use Rattle.announce_board.specs.Asking.{LooksBy, IsAnswerTo}
+use Rattle.announce_board.specs.Asking.{LooksBy}
 use Rattle.flat_queue.specs.Limits.{most_posts}
 use Rattle.flat_queue.specs.Members.{Joined, StaysAtPlace}
 use Rattle.flat_queue.specs.Turns.{FindsLockHeld}
 use Rattle.flat_queue.specs.UpTo.{CarriesOutUpToBy, TellsUpTo}
 use Rattle.flat_queue.specs.Tickets.{CarriesOutByTicket, TellsFound}
+use Rattle.flat_queue.specs.Shutting.{CarriesOutShut, TellsShut}
 use Rattle.flat_queue.specs.Looking.{LooksFirstBy, FindsNext}
 use Rattle.flat_queue.specs.declared.looking.Wanted.{Wanted}
-use Rattle.flat_queue.specs.Counting.{CountsBy, PushesWithinBy, IsUnpushedBy}
-use Rattle.flat_queue.specs.declared.counting.Unpushed.TheVariants as unpushed
-use Rattle.pq_types.specs.declared.request.Request.TheVariants.{Push}
+use Rattle.flat_queue.specs.Counting.{CountsBy}
 use Rattle.pq_types.specs.History.{left}
 use Rattle.leftist_heap.specs.Store.{first_of}
-use Rattle.flat_queue.specs.Batches.{IsPushAt, IsPop, pushes_of, pops_of, in_one_batch, is_first_due, CarriesOutBatchBy, EntersTogether, IsBatchShutOut}
+use Rattle.flat_queue.specs.Batches.{IsPushAt, IsPop, pushes_of, pops_of, in_one_batch, is_first_due, CarriesOutBatchBy, EntersTogether}
 use Rattle.queue_pool.specs.declared.shared.TriedBatch.{TriedBatch}
 use Rattle.queue_pool.specs.declared.shared.TriedBatch.TheVariants as tried_batch
 use Rattle.queue_pool.specs.declared.shared.TriedPops.{TriedPops as TriedPopsOf}
@@ -31,11 +30,8 @@ use Rattle.queue_pool.specs.declared.shared.TriedFirst.{TriedFirst as TriedFirst
 use Rattle.queue_pool.specs.declared.shared.TriedFirst.TheVariants as tried_first
 use Rattle.queue_pool.specs.declared.shared.TriedCount.{TriedCount}
 use Rattle.queue_pool.specs.declared.shared.TriedCount.TheVariants as tried_count
-use Rattle.queue_pool.specs.declared.shared.TriedPush.{TriedPush as TriedPushOf}
-use Rattle.queue_pool.specs.declared.shared.TriedPush.TheVariants as tried_push
 
--- what a look finds, and what became of a request, of a look at the first item, of a push within a bound, and of a batch of pops,
--- of items of any width
+-- what a look finds, and what became of a request, of a look at the first item, and of a batch of pops, of items of any width
 abbrev pub Seen : Type 0
 Seen = SeenOf Item
 
@@ -44,9 +40,6 @@ Tried = TriedOf Item
 
 abbrev pub TriedFirst : Type 0
 TriedFirst = TriedFirstOf Item
-
-abbrev pub TriedPush : Type 0
-TriedPush = TriedPushOf Item
 
 abbrev pub TriedPops : Type 0
 TriedPops = TriedPopsOf Item
@@ -94,6 +87,16 @@ abbrev pub TriesMoveBy : (words ticket priority : ℕ) → Joined → Tried → 
 TriesMoveBy words ticket priority before tried after = TriesTicketBy words (Move ticket priority) before tried after
 
 -- The last request is not answered yet, or no serial is left, and nothing was done; or the member found
+-- the lock held; or it shut the queue itself, or was refused that, and this is the answer.
+abbrev pub TriesShutBy : ℕ → Joined → Tried → Joined → Type 0
+TriesShutBy words before tried.Waits after = (is_idle before.pen.standing ≡ false) × (after ≡ before)
+TriesShutBy words before tried.Spent after =
+    (is_idle before.pen.standing ≡ true) × (most_posts before.queue.room ≤ before.pen.posts) × (after ≡ before)
+TriesShutBy words before tried.LockHeld after = MayCall before × FindsLockHeld before after
+TriesShutBy words before (tried.Answered answer) after =
+    MayCall before × CarriesOutShut words before answer after × TellsShut answer after.pen.known
+
+-- The last request is not answered yet, or no serial is left, and nothing was done; or the member found
 -- the lock held; or it looked at the first item, and took it out where it wanted it.
 abbrev pub TriesFirstBy : ℕ → Wanted → Joined → TriedFirst → Joined → Type 0
 TriesFirstBy words wants before tried_first.Waits after = (is_idle before.pen.standing ≡ false) × (after ≡ before)
@@ -110,29 +113,12 @@ TriesCountBy words before tried_count.LockHeld after = (is_idle before.pen.stand
 TriesCountBy words before (tried_count.Counted counts) after =
     (is_idle before.pen.standing ≡ true) × CountsBy words before counts after
 
--- The last request is not answered yet, or no serial is left, and nothing was done; or the member found the lock held; or won
--- it, and made no request, as the queue was shut, or had as many items as the bound; or it pushed this item, and this is the
--- answer.
-abbrev pub TriesPushWithinBy : (words most : ℕ) → Joined → Item → TriedPush → Joined → Type 0
-TriesPushWithinBy words most before x tried_push.Waits after = (is_idle before.pen.standing ≡ false) × (after ≡ before)
-TriesPushWithinBy words most before x tried_push.Spent after =
-    (is_idle before.pen.standing ≡ true) × (most_posts before.queue.room ≤ before.pen.posts) × (after ≡ before)
-TriesPushWithinBy words most before x tried_push.LockHeld after = MayCall before × FindsLockHeld before after
-TriesPushWithinBy words most before x tried_push.Shut after =
-    MayCall before × IsUnpushedBy words most before x unpushed.Shut after
-TriesPushWithinBy words most before x tried_push.Full after =
-    MayCall before × IsUnpushedBy words most before x unpushed.Full after
-TriesPushWithinBy words most before x (tried_push.Answered answer) after =
-    MayCall before × PushesWithinBy words most before x answer after × IsAnswerTo before.queue.room (Push x) answer
-
--- The last request is not answered yet, and nothing was done; or the member found the lock held; or won it, and released it
--- without these pushes, as the queue was shut; or it carried so many of them out, the first ones.
+-- The last request is not answered yet, and nothing was done; or the member found the lock held; or it carried so many of these
+-- pushes out, the first ones.
 abbrev pub TriesPushesBy : ℕ → Joined → List Item → TriedBatch → Joined → Type 0
 TriesPushesBy words before items tried_batch.Waits after = (is_idle before.pen.standing ≡ false) × (after ≡ before)
 TriesPushesBy words before items tried_batch.LockHeld after =
     (is_idle before.pen.standing ≡ true) × FindsLockHeld before after
-TriesPushesBy words before items tried_batch.Shut after =
-    (is_idle before.pen.standing ≡ true) × IsBatchShutOut before after
 TriesPushesBy words before items (tried_batch.Done batch) after =
     (is_idle before.pen.standing ≡ true) × (batch.done ≤ length items)
     × (batch.refused ≡ None → batch.done ≡ in_one_batch (length items))

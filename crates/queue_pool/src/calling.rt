@@ -22,8 +22,6 @@ pub enum CallStep<I = Item> {
     LockHeld,
     /// Another leads: the request is posted, and waits for its answer.
     Posted,
-    /// It is a push, and the queue is shut.
-    Shut,
     Answered(Answer<I>),
 }
 
@@ -40,10 +38,9 @@ pub enum AnswerStep<I = Item> {
 }
 
 impl<S: Store<Entry<P>>, P: Part> SharedHandle<S, P> {
-    /// The first step of a call, and each that tries again, as `Queue::step_unless_shut` makes it. It carries the request out
-    /// itself, where the last one is answered, not all serials are spent, and it finds the lock free, but no push where the queue is
-    /// shut. Where it finds the lock held it posts the request, if it `posts`, and else does nothing. Takes memory for pushes alone,
-    /// and never waits.
+    /// The first step of a call, and each that tries again, as `Queue::step_trying` makes it. It carries the request out itself,
+    /// where the last one is answered, not all serials are spent, and it finds the lock free. Where it finds the lock held it posts
+    /// the request, if it `posts`, and else does nothing. Takes memory for pushes alone, and never waits.
     pub fn step_call(&mut self, request: Request<Item<P>>, posts: bool) -> CallStep<Item<P>>
         ensures steps { StepsCallBy (word_number P.wide) self.old request posts result self.new }
         ensures memory { HasRoomForAll S.room self.old.queue → result ≢ CallStep.Answered Answer.NoMemory }
@@ -54,15 +51,15 @@ impl<S: Store<Entry<P>>, P: Part> SharedHandle<S, P> {
         }
         match self
             .queue
-            .step_unless_shut(&mut self.member, request, tries_of(posts), &Open)
+            .step_trying(&mut self.member, request, tries_of(posts), &Open)
         {
             CallStepped::Ends(Came::Answered(answer)) => CallStep::Answered(answer),
             CallStepped::Ends(Came::Spent) => CallStep::Spent,
-            CallStepped::IsShut => CallStep::Shut,
-            CallStepped::Goes(CallStage::TriesUnlessShut(_, _)) => CallStep::LockHeld,
+            CallStepped::Goes(CallStage::Tries(_, _)) => CallStep::LockHeld,
             CallStepped::Goes(CallStage::Looks) => CallStep::Posted,
-            CallStepped::Ends(Came::Held | Came::Posted)
-            | CallStepped::Goes(CallStage::Tries(_, _) | CallStage::Waits) => unreachable!(),
+            CallStepped::Ends(Came::Held | Came::Posted) | CallStepped::Goes(CallStage::Waits) => {
+                unreachable!()
+            }
         }
     }
 
@@ -79,11 +76,8 @@ impl<S: Store<Entry<P>>, P: Part> SharedHandle<S, P> {
             CallStepped::Ends(Came::Answered(answer)) => AnswerStep::Answered(answer),
             CallStepped::Goes(CallStage::Looks) => AnswerStep::Led,
             // It found the lock held, as it waits for its answer, and never gives up.
-            CallStepped::Goes(
-                CallStage::Waits | CallStage::Tries(_, _) | CallStage::TriesUnlessShut(_, _),
-            )
-            | CallStepped::Ends(Came::Spent | Came::Held | Came::Posted)
-            | CallStepped::IsShut => AnswerStep::LockHeld,
+            CallStepped::Goes(CallStage::Waits | CallStage::Tries(_, _))
+            | CallStepped::Ends(Came::Spent | Came::Held | Came::Posted) => AnswerStep::LockHeld,
         }
     }
 }

@@ -3,8 +3,8 @@
 //!
 //! What the crate promises to the layer above:
 //! - `SharedHandle` is a member with a share of its queue, idle or waiting, which its calls see:
-//!   it posts, looks, leads a round, archives the journal, or carries a request out itself, or a batch of pushes or pops, where it
-//!   finds the lock free. It makes a call in steps, of which one posts only where it found the lock held. It takes an item that it
+//!   it posts, looks, leads a round, archives the journal, or carries a request out itself, a batch of pushes or pops, or the shut of
+//!   its queue, where it finds the lock free. It makes a call in steps, of which one posts only where it found the lock held. It takes an item that it
 //!   may wait for in steps, each of which announces it before it looks.
 //! - `Pool` has the members of a queue that nobody has: it hands out those that came back before it lets a
 //!   newcomer join, so that a queue has so many members at once, and not in all its life.
@@ -23,6 +23,6 @@ pub mod taking;
 pub use calling::{AnswerStep, CallStep};
 pub use pool::{NotTaken, Pool, StillOpen};
 pub use shared::{
-    NotPosted, Seen, SharedHandle, Tried, TriedBatch, TriedCount, TriedFirst, TriedPops, TriedPush,
+    NotPosted, Seen, SharedHandle, Tried, TriedBatch, TriedCount, TriedFirst, TriedPops,
 };
 pub use taking::TakeStep;

@@ -1,7 +1,6 @@
 // A member with a share of its queue.
 ghost use Rattle.std.specs.Prelude.{◌≡◌, ◌≢◌, ℕ, ◌↔◌, ◌<◌, ◌≤◌, true, false, length, OnOk, OnErr, IfSome, IfNone, Err};
 ghost use Rattle.std.specs.Arc.{arc_value};
-ghost use Rattle.pq_types.specs.Queue.{IsPush};
 ghost use Rattle.split_core.specs.declared.places.TheConstants.{MAX_COMERS};
 ghost use Rattle.split_grid.specs.Opening.{places_of};
 ghost use Rattle.desk_core.specs.Pen.{after_miss};
@@ -14,14 +13,13 @@ ghost use Rattle.flat_queue.specs.Memory.{HasSpareRoom};
 ghost use Rattle.flat_queue.specs.Settling.{Archives, Settles};
 ghost use Rattle.flat_queue.specs.TrailSweeping.{MakesTrailRoundBy};
 ghost use Rattle.queue_pool.specs.Shared.{SeesBy, TriesUpToBy, TriesFirstBy, TriesPushesBy, TriesPopsBy};
-ghost use Rattle.queue_pool.specs.Shared.{TriesCountBy, TriesPushWithinBy, TriesTicketBy, TriesRemovalBy, TriesMoveBy};
+ghost use Rattle.queue_pool.specs.Shared.{TriesCountBy, TriesTicketBy, TriesRemovalBy, TriesMoveBy, TriesShutBy};
 
 use flat_queue::{
-    Backlog, Batch, Counts, DueStage, EventCount, Looked, Member, Popped, Queue, Round, Shut,
-    Unpushed, Wanted,
+    ArchiveError, Batch, Counts, DueStage, EventCount, Looked, Member, Popped, Queue, Round, Wanted,
 };
 use leftist_heap::{Store, TicketStore};
-use pq_book::{Entry, LinesError};
+use pq_book::Entry;
 use pq_types::{Answer, Item, Line, Part, Request, Ticketed};
 use std::alloc::{Allocator, Global};
 use std::marker::Model;
@@ -57,8 +55,6 @@ pub enum NotPosted {
     Waits,
     /// The member has posted as often as it may.
     Spent,
-    /// It is a push, and the queue is shut.
-    Shut,
 }
 
 /// What became of a batch of pushes.
@@ -68,8 +64,6 @@ pub enum TriedBatch {
     Waits,
     /// Another member leads: nothing was done.
     LockHeld,
-    /// The queue is shut: nothing was pushed.
-    Shut,
     /// It was carried out so far.
     Done(Batch),
 }
@@ -130,22 +124,6 @@ pub enum TriedCount {
     Counted(Counts),
 }
 
-/// What became of a push within a bound that was to be carried out at once.
-#[derive(Clone, Copy, Debug, PartialEq, Eq)]
-pub enum TriedPush<I = Item> {
-    /// The last request is not answered yet: nothing was done.
-    Waits,
-    /// All serials have been used: nothing was done.
-    Spent,
-    /// Another leads: nothing was done.
-    LockHeld,
-    /// The queue is shut.
-    Shut,
-    /// The queue has as many items as the bound, or more.
-    Full,
-    Answered(Answer<I>),
-}
-
 impl<S: Store<Entry<P>>, P: Part> SharedHandle<S, P> {
     // The member of this queue, which does not lead, with the share.
     pub(crate) fn of(queue: Arc<Queue<S, P>, Global>, member: Member<S, P>) -> SharedHandle<S, P>
@@ -195,13 +173,8 @@ impl<S: Store<Entry<P>>, P: Part> SharedHandle<S, P> {
         self.queue.waiters()
     }
 
-    /// How far an archive of its queue is behind. Its calls don't ask it: whoever makes one may do so before.
-    pub fn backlog(&self) -> &Backlog {
-        self.queue.backlog()
-    }
-
     /// Posts a request, in one step, and a push in one more for each word of its item, where the last one is
-    /// answered and not all serials are spent; but no push where the queue is shut. Takes no memory, and never waits.
+    /// answered and not all serials are spent. Takes no memory, and never waits.
     pub fn post(&mut self, request: Request<Item<P>>) -> Result<(), NotPosted>
         ensures idle { OnOk result (is_idle self.old.pen.standing ≡ true) }
         ensures few { OnOk result (self.old.pen.posts < most_posts self.old.queue.room) }
@@ -209,8 +182,8 @@ impl<S: Store<Entry<P>>, P: Part> SharedHandle<S, P> {
             × (self.new ≡ record self.old { pen = asked_by (word_number P.wide) self.old.pen request now })) }
         ensures refused { OnErr result (self.new ≡ self.old) }
         ensures waits { (result ≡ Err NotPosted.Waits) ↔ (is_idle self.old.pen.standing ≡ false) }
-        ensures spent { result ≡ Err NotPosted.Spent → most_posts self.old.queue.room ≤ self.old.pen.posts }
-        ensures shut { result ≡ Err NotPosted.Shut → IsPush request }
+        ensures spent { (result ≡ Err NotPosted.Spent)
+            ↔ ((is_idle self.old.pen.standing ≡ true) × (most_posts self.old.queue.room ≤ self.old.pen.posts)) }
     {
         if !self.member.is_idle() {
             return Err(NotPosted::Waits);
@@ -218,12 +191,7 @@ impl<S: Store<Entry<P>>, P: Part> SharedHandle<S, P> {
         if self.member.posts() >= self.queue.most_posts() {
             return Err(NotPosted::Spent);
         }
-        let ending = self.queue.waiters().ending();
-        if !ending.begin_post(&request) {
-            return Err(NotPosted::Shut);
-        }
         self.queue.post(&mut self.member, request);
-        ending.end_post(&request);
         Ok(())
     }
 
@@ -261,21 +229,17 @@ impl<S: Store<Entry<P>>, P: Part> SharedHandle<S, P> {
     }
 
     /// Puts the items into the queue itself under one lock, where the last request is answered and it finds the lock free, as
-    /// `Queue::carry_out_pushes_unless_shut` does. Takes memory where the store has to grow, and never waits.
+    /// `Queue::carry_out_pushes` does: one of a queue that is shut is refused. Takes memory where the store has to grow, and never waits.
     pub fn try_push_all(&mut self, items: &[Item<P>]) -> TriedBatch
         ensures { TriesPushesBy (word_number P.wide) self.old items.now result self.new }
     {
         if !self.member.is_idle() {
             return TriedBatch::Waits;
         }
-        match self
-            .queue
-            .carry_out_pushes_unless_shut(&mut self.member, items)
-        {
-            Some(Ok(batch)) => TriedBatch::Done(batch),
-            Some(Err(Shut)) => TriedBatch::Shut,
-            None => TriedBatch::LockHeld,
-        }
+        let Some(batch) = self.queue.carry_out_pushes(&mut self.member, items) else {
+            return TriedBatch::LockHeld;
+        };
+        TriedBatch::Done(batch)
     }
 
     /// Takes the first items out itself under one lock while their priorities are at most this one, into as much of the room as
@@ -312,6 +276,24 @@ impl<S: Store<Entry<P>>, P: Part> SharedHandle<S, P> {
         TriedFirst::Looked(told)
     }
 
+    /// Shuts the queue itself for good, where the last request is answered, not all serials are spent, and it finds the lock free, as
+    /// `Queue::shut` does: the answer is `Empty`; or `Refused(Shut)` exactly where the queue was shut. Takes memory for the pushes of
+    /// others alone, and never waits.
+    pub fn try_shut(&mut self) -> Tried<Item<P>>
+        ensures { TriesShutBy (word_number P.wide) self.old result self.new }
+    {
+        if !self.member.is_idle() {
+            return Tried::Waits;
+        }
+        if self.member.posts() >= self.queue.most_posts() {
+            return Tried::Spent;
+        }
+        match self.queue.carry_out_shut(&mut self.member) {
+            Some(answer) => Tried::Answered(answer),
+            None => Tried::LockHeld,
+        }
+    }
+
     /// Counts the items itself, where the last request is answered and it finds the lock free, as `Queue::count_items` does.
     /// Takes memory for the pushes of others alone, and never waits.
     pub fn try_count(&mut self) -> TriedCount
@@ -323,30 +305,6 @@ impl<S: Store<Entry<P>>, P: Part> SharedHandle<S, P> {
         match self.queue.count_items(&mut self.member) {
             Some(counts) => TriedCount::Counted(counts),
             None => TriedCount::LockHeld,
-        }
-    }
-
-    /// Pushes the item itself, where the last request is answered, not all serials are spent, it finds the lock free, and the
-    /// queue has fewer items than `most`, as `Queue::carry_out_push_within` does; else it makes no request. Takes memory for
-    /// pushes alone, and never waits.
-    pub fn try_push_within(&mut self, item: Item<P>, most: u64) -> TriedPush<Item<P>>
-        ensures tries { TriesPushWithinBy (word_number P.wide) most self.old item result self.new }
-        ensures memory { HasRoomForAll S.room self.old.queue → result ≢ TriedPush.Answered Answer.NoMemory }
-    {
-        if !self.member.is_idle() {
-            return TriedPush::Waits;
-        }
-        if self.member.posts() >= self.queue.most_posts() {
-            return TriedPush::Spent;
-        }
-        match self
-            .queue
-            .carry_out_push_within(&mut self.member, item, most)
-        {
-            Some(Ok(answer)) => TriedPush::Answered(answer),
-            Some(Err(Unpushed::Shut)) => TriedPush::Shut,
-            Some(Err(Unpushed::Full)) => TriedPush::Full,
-            None => TriedPush::LockHeld,
         }
     }
 
@@ -362,14 +320,14 @@ impl<S: Store<Entry<P>>, P: Part> SharedHandle<S, P> {
         self.queue.try_trail_round(&mut self.member)
     }
 
-    /// Brings an archive of the journal, which has so many lines of it already, up to date, as
-    /// `Queue::archive` does: how many lines the journal has. `None` only where it found the lock held.
+    /// Says that the first so many lines of the journal are archived, and brings the archive, which has these already, up to
+    /// date, as `Queue::archive` does: how many lines the journal has. `None` only where it found the lock held.
     /// Takes memory for the archive alone, and never waits.
     pub fn archive<B: Allocator>(
         &mut self,
         archived: u64,
         archive: &mut Vec<Line<P>, B>,
-    ) -> Option<Result<u64, LinesError>>
+    ) -> Option<Result<u64, ArchiveError>>
         ensures queue { self.new.queue ≡ self.old.queue }
         ensures settles { IfSome result (λ _. Settles self.old (length self.new.pen.known) self.new) }
         ensures archives { IfSome result
@@ -408,7 +366,7 @@ impl<S: TicketStore<Entry<P>>, P: Part> SharedHandle<S, P> {
 
     /// Moves the item with this ticket to this priority itself, wherever it waits, where the last request is answered, not all
     /// serials are spent, and it finds the lock free, as `Queue::reschedule` does: the answer is `Got` with the item as it was,
-    /// and its line is the item's new ticket; or `Empty` where it no longer waits. A queue that is shut lets it through, as
+    /// and its line is the item's new ticket; or `Empty` where it no longer waits. A queue that is shut carries it out, as
     /// nothing new comes in. Takes memory where the store has to grow, and never waits.
     pub fn try_reschedule(&mut self, ticket: u64, priority: P) -> Tried<Item<P>>
         ensures moves { TriesMoveBy (word_number P.wide) ticket (P.number priority) self.old result self.new }

@@ -1,10 +1,10 @@
 // How a member takes an item that it may wait for, in steps: its caller rests, or sleeps, between them.
 ghost use Rattle.std.specs.Prelude.{◌≡◌};
 ghost use Rattle.desk_core.specs.Words.{word_number};
-ghost use Rattle.queue_pool.specs.Taking.{StepsTakeBy, ended_take, take_goes_on};
+ghost use Rattle.queue_pool.specs.Taking.{StepsTakeBy, refused_look, ended_take, take_goes_on};
 
 use crate::shared::SharedHandle;
-use flat_queue::{DueNow, DueStage, DueStepped, DueTook, Left, Looked, Wakes, Wanted};
+use flat_queue::{CallError, DueNow, DueStage, DueStepped, DueTook, Left, Looked, Wakes, Wanted};
 use leftist_heap::Store;
 use pq_book::Entry;
 use pq_types::{Item, Part};
@@ -18,10 +18,9 @@ pub enum TakeStep<I = Item> {
     Spent,
     /// Another leads: the step is to be made again.
     LockHeld,
-    /// It looked. Where it took no item, and the journal is not full, the member is announced: it may sleep until it is woken.
+    /// It looked. Where it took no item, the journal is not full and the queue not over, the member is announced: it may sleep until
+    /// it is woken.
     Looked(Looked<I>),
-    /// The queue is over: it is shut, nobody is posting a push, and the look found no item.
-    Over,
 }
 
 impl<S: Store<Entry<P>>, P: Part> SharedHandle<S, P> {
@@ -70,17 +69,27 @@ impl<S: Store<Entry<P>>, P: Part> SharedHandle<S, P> {
     }
 }
 
+// What a look that was so refused comes to.
+fn refused_look<P: Part>(error: CallError) -> Looked<Item<P>>
+    ensures { result ≡ refused_look error }
+{
+    match error {
+        CallError::Refused(refusal) => Looked::Refused(refusal),
+        _ => Looked::BookFull,
+    }
+}
+
 // What a step comes to whose take is over.
 fn ended<P: Part>(took: DueTook<Item<P>>) -> TakeStep<Item<P>>
     ensures { result ≡ ended_take took }
 {
     match took {
         DueTook::Taken(number, item) => TakeStep::Looked(Looked::Taken(number, item)),
-        DueTook::Refused(_) => TakeStep::Looked(Looked::BookFull),
+        DueTook::Refused(error) => TakeStep::Looked(refused_look(error)),
         DueTook::Later(item) => TakeStep::Looked(Looked::Stays(item)),
         DueTook::Nothing => TakeStep::Looked(Looked::Nothing),
         DueTook::Held => TakeStep::LockHeld,
-        DueTook::Over => TakeStep::Over,
+        DueTook::Over => TakeStep::Looked(Looked::Over),
     }
 }
 

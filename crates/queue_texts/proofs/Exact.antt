@@ -1,20 +1,23 @@
 -- No line of a lawful journal is refused.
-use Rattle.std.proofs.Common.{◌≡◌, ℕ, ◌+◌, ◌<◌, Bool, inl, inr, List, [], ◌∷◌, ◌++◌, length, Ok, Err, refl, sym, ◌∙◌, ap, subst, arith}
+use Rattle.std.proofs.Common.{◌≡◌, ℕ, ◌+◌, ◌<◌, Bool, true, false, inl, inr, List, [], ◌∷◌, ◌++◌, length, Ok, Err, refl, sym, ◌∙◌, ap, subst, arith}
+use Rattle.std.specs.Prelude.{◌||◌}
 use Rattle.std.specs.List.{AllByRecursion}
 use Rattle.std.proofs.lemmas.Bool.Decides.{nat_tests}
 use Rattle.pq_types.specs.Asked.{Line}
 use Rattle.pq_types.specs.Entry.{Entry, entries_after, reply_by}
 use Rattle.pq_types.specs.History.{entries_from, entries_of, IsLegal, IsLegalFrom, SerialsRise, last_serial}
+use Rattle.pq_types.specs.History.{shuts, is_shut, EndsAtShut, IsHeard, HeedsShut}
 use Rattle.queue_texts.specs.Laws.{LinesAreReadOnce}
 use Rattle.queue_texts.specs.LineText.{IsLineText}
 use Rattle.line_script.specs.declared.error.RunError.{RunError}
 use Rattle.line_script.specs.declared.error.RunError.TheVariants.{Refused, TooLong, NoMemory, Input, Output}
 use Rattle.line_script.specs.Lines.{lines_of, without_return}
 use Rattle.queue_texts.specs.declared.refusal.Breach.{Breach}
-use Rattle.queue_texts.specs.declared.refusal.Breach.TheVariants.{WrongNumber, SerialFalls, WrongReply, WrongRemoval, WrongMove}
+use Rattle.queue_texts.specs.declared.refusal.Breach.TheVariants.{WrongNumber, SerialFalls, BehindShut, WrongReply, WrongRemoval, WrongMove}
 use Rattle.queue_texts.specs.declared.refusal.Unlawful.{Unlawful}
 use Rattle.queue_texts.specs.declared.refusal.Unlawful.TheVariants.{NoLine, Broken}
 use Rattle.queue_texts.specs.declared.refusal.AuditRefusal.{AuditRefusal}
+use Rattle.queue_texts.specs.Replay.{Follows, MayFollow}
 use Rattle.queue_texts.specs.Audit.{SpellsFrom, IsLawful, Breaks, IsUnlawful, IsRefused, IsFirst, LawfulIsNotRefused}
 
 -- the reply of a line in a legal history
@@ -34,6 +37,14 @@ serial_at [] l behind some h = some
 serial_at (m ∷ before) l behind some h =
     let here = member (λ k. k.place ≡ m.place → m.serial < k.serial) before l behind h.0 in
     grind (arith, nat_tests, here, serial_at before l behind some h.1)
+
+-- no shut refuses a line of a journal that heeds its shut
+heard_at : (before : List Line) (l : Line) (behind : List Line) → HeedsShut (before ++ l ∷ behind) → IsHeard before l.operation
+heard_at [] l behind h = λ ends. refl
+heard_at (m ∷ before) l behind h = λ ends. by (heard_at before l behind h.1) (shuts m.operation) refl ends where
+  by : IsHeard before l.operation → (b : Bool) → shuts m.operation ≡ b → EndsAtShut l.operation → (shuts m.operation || is_shut before) ≡ false
+  by rest true e ends = absurd (member (λ k. EndsAtShut k.operation → ⊥) before l behind (h.0 e) ends)
+  by rest false e ends = ap (λ b. b || is_shut before) e ∙ rest ends
 
 module _ (wide : Bool) (once : LinesAreReadOnce) where
   -- what the rest of the texts spell, where the first ones spell this journal
@@ -61,21 +72,22 @@ module _ (wide : Bool) (once : LinesAreReadOnce) where
       }
 
   -- the line that is due breaks no law
-  no_breach : (journal : List Line) (number : ℕ) (l : Line) (b : Breach) → number ≡ length journal + 1
-      → l.reply ≡ reply_by (entries_of journal) l.operation → last_serial l.place journal < l.serial → ¬ (Breaks journal number l b)
-  no_breach journal number l (WrongNumber told due) is reply above (t, d, other) = other (t ∙ is ∙ sym d)
-  no_breach journal number l (SerialFalls place serial last) is reply above (m, p, s, at, falls) = omega (arith, s, at, falls, above)
-  no_breach journal number l (WrongReply told due) is reply above (m, rises, t, (q, o, d), other) =
-      other (t ∙ reply ∙ ap (λ x. reply_by (entries_of journal) x) o ∙ sym d)
-  no_breach journal number l (WrongRemoval ticket told due) is reply above (m, rises, o, t, d, other) = other (t ∙ reply ∙ sym d)
-  no_breach journal number l (WrongMove ticket priority told due) is reply above (m, rises, o, t, d, other) = other (t ∙ reply ∙ sym d)
+  no_breach : (journal : List Line) (number : ℕ) (l : Line) (b : Breach) → Follows journal number l → ¬ (Breaks journal number l b)
+  no_breach journal number l (WrongNumber told due) h (t, d, other) = other (t ∙ h.number_is ∙ sym d)
+  no_breach journal number l (SerialFalls place serial last) h (m, p, s, at, falls) = omega (arith, s, at, falls, h.serial)
+  no_breach journal number l (BehindShut again) h (m, rises, ends, shut, a) =
+      let unshut : is_shut journal ≡ false = h.heard ends in absurd (cc)
+  no_breach journal number l (WrongReply told due) h (m, rises, t, (q, o, d), other) =
+      other (t ∙ h.reply ∙ ap (λ x. reply_by (entries_of journal) x) o ∙ sym d)
+  no_breach journal number l (WrongRemoval ticket told due) h (m, rises, o, t, d, other) = other (t ∙ h.reply ∙ sym d)
+  no_breach journal number l (WrongMove ticket priority told due) h (m, rises, o, t, d, other) = other (t ∙ h.reply ∙ sym d)
 
-  not_unlawful : (journal : List Line) (text : List ℕ) (l : Line) (why : Unlawful) → IsLineText wide text (length journal + 1) l
-      → l.reply ≡ reply_by (entries_of journal) l.operation → last_serial l.place journal < l.serial → ¬ (IsUnlawful wide journal text why)
-  not_unlawful journal text l (NoLine e) line reply above why = (once wide text (length journal + 1) l line).1 e why
-  not_unlawful journal text l (Broken b) line reply above (number, k, line', breaks) =
+  not_unlawful : (journal : List Line) (text : List ℕ) (l : Line) (why : Unlawful) → MayFollow wide journal text l
+      → ¬ (IsUnlawful wide journal text why)
+  not_unlawful journal text l (NoLine e) (line, h) why = (once wide text (length journal + 1) l line).1 e why
+  not_unlawful journal text l (Broken b) (line, h) (number, k, line', breaks) =
       let same = (once wide text (length journal + 1) l line).0 number k line' in
-      no_breach journal (length journal + 1) l b refl reply above
+      no_breach journal (length journal + 1) l b h
       (subst (λ x. Breaks journal (length journal + 1) x b) (sym same.1) (subst (λ m. Breaks journal m k b) (sym same.0) breaks))
 
   -- a line that spells one of a lawful journal is not refused
@@ -85,8 +97,14 @@ module _ (wide : Bool) (once : LinesAreReadOnce) where
       omega (arith, ap length none, filled)
   not_refused n all journal rest text behind (Refused refusal) law whole (short, inr (l, ls, filled', is, line, h)) (short', filled, at, why) =
       let split : all ≡ journal ++ l ∷ ls = whole ∙ ap (λ xs. journal ++ xs) is in
-      not_unlawful journal (without_return text) l refusal.reason (subst (λ m. IsLineText wide (without_return text) m l) (omega arith) line)
-      (reply_at [] 1 journal l ls (subst IsLegal split law.legal)) (serial_at journal l ls line.1.serial_range.0 (subst SerialsRise split law.rise)) why
+      let follows : Follows journal (length journal + 1) l = record {
+        number_is = refl;
+        serial = serial_at journal l ls line.1.serial_range.0 (subst SerialsRise split law.rise);
+        reply = reply_at [] 1 journal l ls (subst IsLegal split law.legal);
+        heard = heard_at journal l ls (subst HeedsShut split law.heeds);
+      } in
+      not_unlawful journal (without_return text) l refusal.reason
+      (subst (λ m. IsLineText wide (without_return text) m l) (omega arith) line, follows) why
   not_refused n all journal rest text behind (TooLong number) law whole (short, spelled) (long, at) = omega (arith, short, long)
   not_refused n all journal rest text behind NoMemory law whole spelled none = none
   not_refused n all journal rest text behind Input law whole spelled none = none

@@ -10,7 +10,7 @@ use Rattle.pq_types.specs.declared.answer.Reply.TheVariants.{Pushed, Got, Empty,
 use Rattle.pq_types.specs.Asked.{Line}
 use Rattle.pq_types.specs.declared.journal.TheConstants.{GREATEST_NUMBER}
 use Rattle.pq_types.specs.History.{last_serial}
-use Rattle.pq_types.specs.Operation.{Asked, ByTicket, Remove, Move}
+use Rattle.pq_types.specs.Operation.{Asked, ByTicket, Shuts, Remove, Move}
 use Rattle.pq_types.specs.Laws.{SerialOfOneMore}
 use Rattle.queue_texts.specs.declared.sums.JournalSums.{JournalSums}
 use Rattle.queue_texts.specs.Sums.{sum_over, places_of, pushes, found, none_found, gots, empties, priority_in, priority_out, counted, HasRoom, AreSumsOf}
@@ -42,6 +42,7 @@ few_pushes (Asked (Push x)) = omega arith
 few_pushes (Asked Pop) = omega arith
 few_pushes (Asked Least) = omega arith
 few_pushes (ByTicket t) = omega arith
+few_pushes Shuts = omega arith
 
 few_found : (r : Reply) → found r ≤ 1
 few_found Pushed = omega arith
@@ -61,12 +62,14 @@ few_gots (Asked Pop) r = few_found r
 few_gots (Asked Least) r = omega arith
 few_gots (ByTicket (Remove i)) r = few_found r
 few_gots (ByTicket (Move i priority)) r = omega arith
+few_gots Shuts r = omega arith
 
 few_empties : (o : Operation) (r : Reply) → empties o r ≤ 1
 few_empties (Asked (Push x)) r = omega arith
 few_empties (Asked Pop) r = few_none_found r
 few_empties (Asked Least) r = omega arith
 few_empties (ByTicket t) r = few_none_found r
+few_empties Shuts r = omega arith
 
 few_of : (b : Bool) → (if b then 1 else 0) ≤ 1
 few_of true = omega arith

@@ -9,10 +9,10 @@ use Rattle.pq_types.specs.Asked.{Reply}
 use Rattle.pq_types.specs.declared.answer.Reply.TheVariants.{Pushed, Got, Empty, Least as LeastIs}
 use Rattle.pq_types.specs.Asked.{Line}
 use Rattle.pq_types.specs.Asked.{Operation}
-use Rattle.pq_types.specs.Operation.{Asked, ByTicket, Remove, Move}
+use Rattle.pq_types.specs.Operation.{Asked, ByTicket, Shuts, Remove, Move}
 use Rattle.pq_types.specs.Item.{item}
 use Rattle.queue_texts.specs.ItemText.{SpellsNumber, HasNoSpace}
-use Rattle.queue_texts.specs.LineText.{Leads, LeadsBoth, LeadsAll, SpellsBoth, SpellsReply, AsksFirst, SaysFirst, SpellsLine}
+use Rattle.queue_texts.specs.LineText.{Leads, LeadsBoth, LeadsAll, SpellsBoth, SpellsReply, SpellsReplyTo, AsksFirst, SaysFirst, SpellsLine}
 use Rattle.queue_texts.proofs.Items.{no_space, no_space_at, one_split, same_number}
 
 -- a text begins with one number
@@ -92,6 +92,12 @@ no_move text numbers rest Least e f = omega (arith, first _ _ (sym e ∙ f))
 pub no_both : (text number numbers : List ℕ) → text ≡ codes "remove " ++ number → ¬ (text ≡ codes "move " ++ numbers)
 no_both text number numbers e f = omega (arith, first _ _ (sym e ∙ f))
 
+-- nor is a request said as a shut is
+no_shut : (text rest : List ℕ) (q : Request) → text ≡ codes "shut" → ¬ (AsksFirst text q rest)
+no_shut text rest (Push x) e (i, f, l) = omega (arith, first _ _ (sym e ∙ f))
+no_shut text rest Pop e f = omega (arith, first _ _ (sym e ∙ f))
+no_shut text rest Least e f = omega (arith, first _ _ (sym e ∙ f))
+
 -- a text says one operation first
 pub says_once : (text a b : List ℕ) (o p : Operation) → SaysFirst text o a → SaysFirst text p b → (o ≡ p) × (a ≡ b)
 says_once text a b (Asked q) (Asked r) h k = let one = asks_once text a b q r h k in (ap (λ z. Asked z) one.0, one.1)
@@ -109,6 +115,13 @@ says_once text a b (ByTicket (Move i m)) (ByTicket (Move j n)) (numbers, e, l) (
     let same = append_cancel_left (codes "move ") numbers numbers' (sym e ∙ f) in
     let one = leads_both_once numbers' a b i m j n (subst (λ t. LeadsBoth t i m a) same l) k in
     (ap (λ z. ByTicket (Move z m)) one.0 ∙ ap (λ z. ByTicket (Move j z)) one.1, one.2)
+says_once text a b (Asked q) Shuts h (f, y) = absurd (no_shut text a q f h)
+says_once text a b Shuts (Asked r) (e, x) k = absurd (no_shut text b r e k)
+says_once text a b (ByTicket (Remove i)) Shuts (number, e, l) (f, y) = absurd (omega (arith, first _ _ (sym e ∙ f)))
+says_once text a b Shuts (ByTicket (Remove j)) (e, x) (number, f, k) = absurd (omega (arith, first _ _ (sym e ∙ f)))
+says_once text a b (ByTicket (Move i m)) Shuts (numbers, e, l) (f, y) = absurd (omega (arith, first _ _ (sym e ∙ f)))
+says_once text a b Shuts (ByTicket (Move j n)) (e, x) (numbers, f, k) = absurd (omega (arith, first _ _ (sym e ∙ f)))
+says_once text a b Shuts Shuts (e, x) (f, y) = (refl, x ∙ sym y)
 
 -- a text says one reply
 pub reply_once : (text : List ℕ) (r s : Reply) → SpellsReply text r → SpellsReply text s → r ≡ s
@@ -133,6 +146,12 @@ reply_once text Empty (Got y) e (j, f, k) = absurd (omega (arith, first _ _ (sym
 reply_once text Empty (LeastIs y) e (j, f, k) = absurd (omega (arith, first _ _ (sym e ∙ f)))
 reply_once text Empty Empty e f = refl
 
+-- a text says one reply to an operation
+reply_to_once : (o : Operation) (text : List ℕ) (r s : Reply) → SpellsReplyTo o text r → SpellsReplyTo o text s → r ≡ s
+reply_to_once (Asked q) text r s h k = reply_once text r s h k
+reply_to_once (ByTicket t) text r s h k = reply_once text r s h k
+reply_to_once Shuts text r s (e, x) (f, y) = x ∙ sym y
+
 same_line : (l k : Line) → l.place ≡ k.place → l.serial ≡ k.serial → l.operation ≡ k.operation → l.reply ≡ k.reply → l ≡ k
 same_line l k p s q r =
     ap (λ x. record l { place = x }) p ∙ ap (λ x. record l { place = k.place; serial = x }) s
@@ -144,5 +163,6 @@ line_once text m n l k h g =
     let head = leads_all_once text h.from_operation g.from_operation m l.place l.serial n k.place k.serial h.head g.head in
     let said = says_once g.from_operation h.from_reply g.from_reply l.operation k.operation
     (subst (λ t. SaysFirst t l.operation h.from_reply) head.3 h.operation_is) g.operation_is in
-    let told = reply_once g.from_reply l.reply k.reply (subst (λ t. SpellsReply t l.reply) said.1 h.reply_is) g.reply_is in
+    let told = reply_to_once k.operation g.from_reply l.reply k.reply
+    (subst (λ o. SpellsReplyTo o g.from_reply l.reply) said.0 (subst (λ t. SpellsReplyTo l.operation t l.reply) said.1 h.reply_is)) g.reply_is in
     (head.0, same_line l k head.1 head.2 said.0 told)

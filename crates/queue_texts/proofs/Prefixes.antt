@@ -3,7 +3,7 @@ use Rattle.std.proofs.Common.{◌≡◌, ℕ, ◌+◌, ◌<◌, List, [], ◌∷
 use Rattle.std.specs.List.{AllByRecursion}
 use Rattle.pq_types.specs.Asked.{Line}
 use Rattle.pq_types.specs.Entry.{Entry, entries_after}
-use Rattle.pq_types.specs.History.{IsLegalFrom, SerialsRise}
+use Rattle.pq_types.specs.History.{IsLegalFrom, SerialsRise, EndsAtShut, HeedsShut}
 use Rattle.queue_texts.specs.Laws.{PrefixIsLawful}
 
 first_all : (P : Line → Type 0) (first others : List Line) → AllByRecursion P (first ++ others) → AllByRecursion P first
@@ -19,5 +19,14 @@ first_rise [] others h = tt
 first_rise (l ∷ first) others h =
     (first_all (λ m. m.place ≡ l.place → l.serial < m.serial) first others h.0, first_rise first others h.1)
 
+first_heeds : (first others : List Line) → HeedsShut (first ++ others) → HeedsShut first
+first_heeds [] others h = tt
+first_heeds (l ∷ first) others h =
+    ((λ shuts. first_all (λ m. EndsAtShut m.operation → ⊥) first others (h.0 shuts)), first_heeds first others h.1)
+
 pub prefix_is_lawful : PrefixIsLawful
-prefix_is_lawful first others h = record { legal = first_legal [] 1 first others h.legal; rise = first_rise first others h.rise }
+prefix_is_lawful first others h = record {
+  legal = first_legal [] 1 first others h.legal;
+  rise = first_rise first others h.rise;
+  heeds = first_heeds first others h.heeds;
+}

@@ -9,11 +9,13 @@ use Rattle.std.proofs.lemmas.List.{get_or-set_same, get_or-set_other, length-rep
 use Rattle.pq_types.specs.Asked.{Line, Operation, Reply}
 use Rattle.pq_types.specs.declared.journal.TheConstants.{GREATEST_NUMBER}
 use Rattle.pq_types.specs.Entry.{reply_by}
-use Rattle.pq_types.specs.History.{entries_of, last_serial}
-use Rattle.pq_types.specs.Operation.{Asked, ByTicket, Remove, Move}
-use Rattle.pq_types.specs.Laws.{SerialOfOneMore, StaysLegal, StillRises}
+use Rattle.pq_types.specs.History.{entries_of, last_serial, IsHeard}
+use Rattle.pq_types.specs.Operation.{Asked, ByTicket, Shuts, Remove, Move}
+use Rattle.pq_types.specs.Laws.{SerialOfOneMore, StaysLegal, StillRises, StillHeeds}
+use Rattle.pq_book.specs.Book.{Volume, IsPlain, KeepsTerms}
 use Rattle.queue_texts.specs.declared.replay.TheConstants.{PLACES}
 use Rattle.queue_texts.specs.declared.refusal.Breach.{Breach}
+use Rattle.queue_texts.specs.LineText.{MayReplyTo, HasReplyOfItsKind}
 use Rattle.queue_texts.specs.Audit.{IsLawful, Breaks, breach_by}
 use Rattle.queue_texts.specs.Replay.{AreLastSerials, IsReplayed}
 
@@ -23,13 +25,16 @@ below p n [] h = tt
 below p n (m ∷ ls) h = ((λ e. grind (arith, nat_tests, h, e)), below p n ls (omega (arith, h)))
 
 pub lawful_none : IsLawful []
-lawful_none = record { legal = tt; rise = tt }
+lawful_none = record { legal = tt; rise = tt; heeds = tt }
 
--- a lawful journal with a line that has the due reply, and a serial above the last of its place
-pub lawful_more : StaysLegal → StillRises → (ls : List Line) (l : Line) → l.reply ≡ reply_by (entries_of ls) l.operation
-    → last_serial l.place ls < l.serial → IsLawful ls → IsLawful (ls ++ l ∷ [])
-lawful_more legal_more rise_more ls l reply above h =
-    record { legal = legal_more ls l h.legal reply; rise = rise_more ls l h.rise (below l.place l.serial ls above) }
+-- a lawful journal with a line that has the due reply, a serial above the last of its place, and is refused by no shut
+pub lawful_more : StaysLegal → StillRises → StillHeeds → (ls : List Line) (l : Line) → l.reply ≡ reply_by (entries_of ls) l.operation
+    → last_serial l.place ls < l.serial → IsHeard ls l.operation → IsLawful ls → IsLawful (ls ++ l ∷ [])
+lawful_more legal_more rise_more heeds_more ls l reply above heard h = record {
+  legal = legal_more ls l h.legal reply;
+  rise = rise_more ls l h.rise (below l.place l.serial ls above);
+  heeds = heeds_more ls l h.heeds heard;
+}
 
 -- the last serials with one more line
 serials_more : SerialOfOneMore → (ls : List Line) (l : Line) (last : List ℕ) → l.place < PLACES → last_serial l.place ls < l.serial
@@ -47,35 +52,40 @@ serials_more one_more ls l last within above h = (length-set last l.place l.seri
         get_or-set_other last l.place place l.serial 0 other ∙ h.1 place small ∙ grind (arith, nat_tests, one_more place ls l, e)
 
 -- what a replay keeps, with one more line, where each part is known by an equation
-pub replayed_more : SerialOfOneMore → StaysLegal → StillRises → (room room' : ℕ) (ls ls' : List Line) (last last' : List ℕ) (l : Line)
-    → IsReplayed room ls last → l.place < PLACES → last_serial l.place ls < l.serial → l.reply ≡ reply_by (entries_of ls) l.operation
-    → room' ≡ room → ls' ≡ ls ++ l ∷ [] → last' ≡ set last l.place l.serial → IsReplayed room' ls' last'
-replayed_more one_more legal_more rise_more room room' ls ls' last last' l h within above reply e f g = record {
-  room_is = e ∙ h.room_is;
-  lawful = subst IsLawful (sym f) (lawful_more legal_more rise_more ls l reply above h.lawful);
+pub replayed_more : SerialOfOneMore → StaysLegal → StillRises → StillHeeds → (book after : Volume) (last last' : List ℕ) (l : Line)
+    → IsReplayed book last → l.place < PLACES → last_serial l.place book.journal < l.serial → l.reply ≡ reply_by (entries_of book.journal) l.operation
+    → IsHeard book.journal l.operation → KeepsTerms book after → after.allowed ≡ book.allowed → after.journal ≡ book.journal ++ l ∷ []
+    → last' ≡ set last l.place l.serial → IsReplayed after last'
+replayed_more one_more legal_more rise_more heeds_more book after last last' l h within above reply heard terms allowed f g = record {
+  room_is = terms.0 ∙ h.room_is;
+  plain = (terms.1 ∙ h.plain.0 ∙ ap (λ n. n + 1) (sym terms.0), allowed ∙ h.plain.1 ∙ sym terms.0);
+  lawful = subst IsLawful (sym f) (lawful_more legal_more rise_more heeds_more book.journal l reply above heard h.lawful);
   serials =
-      subst (λ x. AreLastSerials x ls') (sym g)
-      (subst (λ x. AreLastSerials (set last l.place l.serial) x) (sym f) (serials_more one_more ls l last within above h.serials));
+      subst (λ x. AreLastSerials x after.journal) (sym g)
+      (subst (λ x. AreLastSerials (set last l.place l.serial) x) (sym f) (serials_more one_more book.journal l last within above h.serials));
 }
 
 none_yet : (n : ℕ) → n ≡ PLACES → AreLastSerials (replicate n 0) []
 none_yet n e = (length-replicate n 0 ∙ e, λ place within. get_or-replicate n place 0 0 (subst (λ m. place < m) (sym e) within))
 
 -- what a replay of no lines keeps
-pub replayed_none : (n room : ℕ) (journal : List Line) (last : List ℕ) → n ≡ PLACES → room ≡ GREATEST_NUMBER → journal ≡ []
-    → last ≡ replicate n 0 → IsReplayed room journal last
-replayed_none n room journal last few e f g = record {
+pub replayed_none : (n : ℕ) (book : Volume) (last : List ℕ) → n ≡ PLACES → book.room ≡ GREATEST_NUMBER → book.journal ≡ [] → IsPlain book
+    → last ≡ replicate n 0 → IsReplayed book last
+replayed_none n book last few e f plain g = record {
   room_is = e;
+  plain = plain;
   lawful = subst IsLawful (sym f) lawful_none;
-  serials = subst (λ x. AreLastSerials x journal) (sym g) (subst (λ x. AreLastSerials (replicate n 0) x) (sym f) (none_yet n few));
+  serials =
+      subst (λ x. AreLastSerials x book.journal) (sym g) (subst (λ x. AreLastSerials (replicate n 0) x) (sym f) (none_yet n few));
 }
 
 -- how a line breaks the law that comes next, and has another reply than the due one
-pub breaks_by : (journal : List Line) (number : ℕ) (l : Line) (due : Reply) (b : Breach) → number ≡ length journal + 1
+pub breaks_by : (journal : List Line) (number : ℕ) (l : Line) (due : Reply) (b : Breach) → HasReplyOfItsKind l → number ≡ length journal + 1
     → last_serial l.place journal < l.serial → due ≡ reply_by (entries_of journal) l.operation → l.reply ≢ due
     → b ≡ breach_by l.operation l.reply due → Breaks journal number l b
-breaks_by journal number l due b next above is other breach = subst (Breaks journal number l) (sym breach) (by l.operation refl) where
-  by : (o : Operation) → l.operation ≡ o → Breaks journal number l (breach_by o l.reply due)
-  by (Asked q) e = (next, above, refl, (q, e, is ∙ ap (reply_by (entries_of journal)) e), other)
-  by (ByTicket (Remove ticket)) e = (next, above, e, refl, is, other)
-  by (ByTicket (Move ticket priority)) e = (next, above, e, refl, is, other)
+breaks_by journal number l due b kind next above is other breach = subst (Breaks journal number l) (sym breach) (by l.operation refl kind) where
+  by : (o : Operation) → l.operation ≡ o → MayReplyTo o l.reply → Breaks journal number l (breach_by o l.reply due)
+  by (Asked q) e may = (next, above, refl, (q, e, is ∙ ap (reply_by (entries_of journal)) e), other)
+  by (ByTicket (Remove ticket)) e may = (next, above, e, refl, is, other)
+  by (ByTicket (Move ticket priority)) e may = (next, above, e, refl, is, other)
+  by Shuts e may = absurd (other (may ∙ sym (is ∙ ap (reply_by (entries_of journal)) e)))

@@ -1,5 +1,5 @@
 -- What the reader of a journal line finds, step by step, is what the text spells.
-use Rattle.std.proofs.Common.{◌≡◌, ◌↔◌, ◌++◌, IsTrue, Bool, true, false, ℕ, List, get_or, codes, Option, Some, None, IfNone}
+use Rattle.std.proofs.Common.{◌≡◌, ◌↔◌, ◌⊎◌, inl, inr, ◌++◌, IsTrue, Bool, true, false, ℕ, List, [], get_or, codes, Option, Some, None, IfNone}
 use Rattle.std.proofs.Common.{Result, Ok, Err, refl, sym, ◌∙◌, ap, subst, arith}
 use Rattle.std.proofs.lemmas.List.{append_cancel_left}
 use Rattle.std.specs.Str.Parse.{IsNumeral, digits_value}
@@ -14,11 +14,12 @@ use Rattle.pq_types.specs.declared.control.Outcome.{Outcome}
 use Rattle.pq_types.specs.declared.control.Outcome.TheVariants as outcome
 use Rattle.pq_types.specs.Asked.{Line}
 use Rattle.pq_types.specs.Asked.{Operation}
-use Rattle.pq_types.specs.Operation.{Asked, ByTicket, Remove, Move, request_of}
+use Rattle.pq_types.specs.Operation.{Asked, ByTicket, Shuts, Remove, Move}
 use Rattle.queue_texts.specs.declared.line_reading.LineError.{LineError}
 use Rattle.queue_texts.specs.declared.line_reading.LineError.TheVariants.{UnknownWord, OutOfRange, NoSuchReply}
 use Rattle.queue_texts.specs.declared.line_reading.NumberedLine.{NumberedLine}
 use Rattle.queue_texts.specs.declared.line_reading.Parts.{Parts}
+use Rattle.queue_texts.specs.declared.line_reading.Named.{Named}
 use Rattle.queue_texts.specs.declared.line_reading.Named.TheVariants as named
 use Rattle.queue_texts.specs.declared.line_reading.Shape.{Shape}
 use Rattle.pq_types.specs.Item.{item, IsItemOf}
@@ -26,9 +27,9 @@ use Rattle.pq_types.specs.Queue.{IsProperRequestOf, IsProperReplyOf}
 use Rattle.queue_texts.specs.Command.{PushesText}
 use Rattle.pq_types.specs.History.{line_of}
 use Rattle.pq_types.specs.Control.{kind_of, outcome_of, request_with, reply_with}
-use Rattle.queue_texts.specs.LineText.{Leads, LeadsBoth, LeadsAll, SpellsBoth, SpellsReply, AsksFirst, SaysFirst, SpellsLine, IsInRange}
-use Rattle.queue_texts.specs.LineText.{MayReply, HasReplyOfItsKind, IsLineText, IsNoLineFor, numbered}
-use Rattle.queue_texts.specs.LineShape.{capped, TellsItem, TellsNone, AsksNone, AreParts, HasReply, HasRequest, HasOperation}
+use Rattle.queue_texts.specs.LineText.{Leads, LeadsBoth, LeadsAll, SpellsBoth, SpellsReply, SpellsReplyTo, AsksFirst, SaysFirst, SpellsLine, IsInRange}
+use Rattle.queue_texts.specs.LineText.{MayReply, MayReplyTo, HasReplyOfItsKind, IsLineText, IsNoLineFor, numbered}
+use Rattle.queue_texts.specs.LineShape.{capped, TellsItem, TellsNone, AsksNone, AreParts, AreNone, HasReply, HasRequest, HasOperation}
 use Rattle.queue_texts.specs.LineShape.{HasShape}
 use Rattle.queue_texts.proofs.Lines.{leads_once, leads_all_once, no_removal, no_move, no_both, says_once, line_once}
 
@@ -137,6 +138,7 @@ no_ticket text number e none (Asked q) rest asked = no_removal text number rest 
 no_ticket text number e none (ByTicket (Remove ticket)) rest (number', f, l) =
     none ticket rest (subst (λ t. Leads t ticket rest) (append_cancel_left (codes "remove ") number' number (sym f ∙ e)) l)
 no_ticket text number e none (ByTicket (Move ticket priority)) rest (numbers, f, l) = no_both text number numbers e f
+no_ticket text number e none Shuts rest (f, nothing) = omega (arith, first _ _ (sym e ∙ f))
 
 -- the text says that this ticket's item is moved to this priority
 pub move_said : (text numbers rest : List ℕ) (t p : ℕ) → text ≡ codes "move " ++ numbers
@@ -152,17 +154,23 @@ no_priority text numbers e none (ByTicket (Remove ticket)) rest (number, f, l) =
 no_priority text numbers e none (ByTicket (Move ticket priority)) rest (numbers', f, l) =
     none ticket priority rest
     (subst (λ t. LeadsBoth t ticket priority rest) (append_cancel_left (codes "move ") numbers' numbers (sym f ∙ e)) l)
+no_priority text numbers e none Shuts rest (f, nothing) = omega (arith, first _ _ (sym e ∙ f))
+
+-- the text says that the queue is shut
+pub shut_said : (text rest : List ℕ) → (text ≡ codes "shut") × (rest ≡ []) → (o : Operation) × SaysFirst text o rest × HasOperation named.Shut o
+shut_said text rest h = (Shuts, h, tt)
 
 pub request_said : (text rest : List ℕ) (k : Kind) (parts : Parts) → (q : Request) × AsksFirst text q rest × HasRequest k parts q
     → (o : Operation) × SaysFirst text o rest × HasOperation (named.Asked k parts) o
 request_said text rest k parts (q, asked, has) = (Asked q, asked, has)
 
 pub no_operation : (text : List ℕ) → ((number : List ℕ) → ¬ (text ≡ codes "remove " ++ number))
-    → ((numbers : List ℕ) → ¬ (text ≡ codes "move " ++ numbers)) → ((q : Request) (rest : List ℕ) → ¬ (AsksFirst text q rest))
-    → (o : Operation) (rest : List ℕ) → ¬ (SaysFirst text o rest)
-no_operation text unremoved unmoved none (Asked q) rest asked = none q rest asked
-no_operation text unremoved unmoved none (ByTicket (Remove ticket)) rest (number, e, l) = unremoved number e
-no_operation text unremoved unmoved none (ByTicket (Move ticket priority)) rest (numbers, e, l) = unmoved numbers e
+    → ((numbers : List ℕ) → ¬ (text ≡ codes "move " ++ numbers)) → ¬ (text ≡ codes "shut")
+    → ((q : Request) (rest : List ℕ) → ¬ (AsksFirst text q rest)) → (o : Operation) (rest : List ℕ) → ¬ (SaysFirst text o rest)
+no_operation text unremoved unmoved unshut none (Asked q) rest asked = none q rest asked
+no_operation text unremoved unmoved unshut none (ByTicket (Remove ticket)) rest (number, e, l) = unremoved number e
+no_operation text unremoved unmoved unshut none (ByTicket (Move ticket priority)) rest (numbers, e, l) = unmoved numbers e
+no_operation text unremoved unmoved unshut none Shuts rest (e, nothing) = unshut e
 
 -- a text whose first words are none of a line's spells none
 pub no_line_asked : (text a : List ℕ) → (n : ℕ) × (p : ℕ) × (s : ℕ) × LeadsAll text n p s a
@@ -171,23 +179,31 @@ no_line_asked text a (n, p, s, led) none m l h =
     let one = leads_all_once text h.from_operation a m l.place l.serial n p s h.head led in
     none l.operation h.from_reply (subst (λ t. SaysFirst t l.operation h.from_reply) one.3 h.operation_is)
 
-pub no_line_told : (text a b : List ℕ) → (n : ℕ) × (p : ℕ) × (s : ℕ) × LeadsAll text n p s a → (o : Operation) × SaysFirst a o b
-    → ((r : Reply) → ¬ (SpellsReply b r)) → (m : ℕ) (l : Line) → ¬ (SpellsLine text m l)
-no_line_told text a b (n, p, s, led) (o, said) none m l h =
-    let one = leads_all_once text h.from_operation a m l.place l.serial n p s h.head led in
+-- the one reply of a shut stands where nothing follows it
+pub shut_told : (o : Operation) → HasOperation named.Shut o → (text : List ℕ) (parts : Parts) → text ≡ [] → AreNone parts
+    → (r : Reply) × SpellsReplyTo o text r × HasReply outcome.Empty parts r
+shut_told (Asked q) has text parts e none = absurd has
+shut_told (ByTicket t) has text parts e none = absurd has
+shut_told Shuts has text parts e none = (Empty, (e, refl), (refl, none))
+
+pub no_line_told : (text a b : List ℕ) (s : Named) → (n : ℕ) × (p : ℕ) × (q : ℕ) × LeadsAll text n p q a → (o : Operation) × SaysFirst a o b × HasOperation s o
+    → ((o : Operation) → HasOperation s o → (r : Reply) → ¬ (SpellsReplyTo o b r)) → (m : ℕ) (l : Line) → ¬ (SpellsLine text m l)
+no_line_told text a b s (n, p, q, led) (o, said, has) none m l h =
+    let one = leads_all_once text h.from_operation a m l.place l.serial n p q h.head led in
     let two = says_once a h.from_reply b l.operation o (subst (λ t. SaysFirst t l.operation h.from_reply) one.3 h.operation_is) said in
-    none l.reply (subst (λ t. SpellsReply t l.reply) two.1 h.reply_is)
+    none o has l.reply (subst (λ x. SpellsReplyTo x b l.reply) two.0 (subst (λ t. SpellsReplyTo l.operation t l.reply) two.1 h.reply_is))
 
 pub line_spelled : (text a b : List ℕ) (s : Shape) (n p q : ℕ) → LeadsAll text n p q a → s.number ≡ capped n → s.place ≡ capped p
-    → s.serial ≡ capped q
-    → (x : Operation) × SaysFirst a x b × HasOperation s.named x → (r : Reply) × SpellsReply b r × HasReply s.outcome s.told r
+    → s.serial ≡ capped q → (x : Operation) × SaysFirst a x b × HasOperation s.named x
+    → ((x : Operation) → HasOperation s.named x → (r : Reply) × SpellsReplyTo x b r × HasReply s.outcome s.told r)
     → (m : ℕ) × (l : Line) × SpellsLine text m l × HasShape s m l
-line_spelled text a b s n p q led e f g (x, said, has) (r, told, tells) = (
-  n,
-  line_of p q x r,
-  record { from_operation = a; from_reply = b; head = led; operation_is = said; reply_is = told },
-  record { number_is = e; place_is = f; serial_is = g; operation_is = has; reply_is = tells },
-)
+line_spelled text a b s n p q led e f g (x, said, has) replies =
+    let reply = replies x has in (
+      n,
+      line_of p q x reply.0,
+      record { from_operation = a; from_reply = b; head = led; operation_is = said; reply_is = reply.1 },
+      record { number_is = e; place_is = f; serial_is = g; operation_is = has; reply_is = reply.2 },
+    )
 
 -- the request and the reply of a line in range
 pub request_is : (k : Kind) (parts : Parts) (x : Item) (q : Request) → HasRequest k parts q → ((y : Item) → AreParts parts y → x ≡ y)
@@ -268,30 +284,49 @@ every_line wide text r h n l g = read_once wide text r (Ok (numbered n l)) h g
 pub every_refusal : {P : Type 0} (wide : Bool) (text : List ℕ) (r : Result (NumberedLine P) LineError) → IsReadAs wide text r → (e : LineError) → IsNoLineFor wide text e → r ≡ Err e
 every_refusal wide text r h e g = read_once wide text r (Err e) h g
 
--- a shape in range whose reply no such request has
-pub no_such_reply : {P : Type 0} (wide : Bool) (text : List ℕ) (s : Shape) (found : NumberedLine P) (k : Kind) (b : Bool) → (n : ℕ) × (l : Line) × SpellsLine text n l × HasShape s n l
+-- a removal is replied to as a pop is
+removal_replied : (n : ℕ) (x : Outcome) (b : Bool) → ((q : Request) (r : Reply) → kind_of q ≡ kind.Pop → outcome_of r ≡ x → IsTrue b ↔ MayReply q r)
+    → (o : Operation) (r : Reply) → HasOperation (named.Remove n) o → outcome_of r ≡ x → IsTrue b ↔ MayReplyTo o r
+removal_replied n x b may (Asked q) r has e = absurd has
+removal_replied n x b may (ByTicket (Remove t)) r has e = may Pop r refl e
+removal_replied n x b may (ByTicket (Move t p)) r has e = absurd has
+removal_replied n x b may Shuts r has e = absurd has
+
+-- and so is a move
+move_replied : (n p : ℕ) (x : Outcome) (b : Bool) → ((q : Request) (r : Reply) → kind_of q ≡ kind.Pop → outcome_of r ≡ x → IsTrue b ↔ MayReply q r)
+    → (o : Operation) (r : Reply) → HasOperation (named.Move n p) o → outcome_of r ≡ x → IsTrue b ↔ MayReplyTo o r
+move_replied n p x b may (Asked q) r has e = absurd has
+move_replied n p x b may (ByTicket (Remove t)) r has e = absurd has
+move_replied n p x b may (ByTicket (Move t to)) r has e = may Pop r refl e
+move_replied n p x b may Shuts r has e = absurd has
+
+pub ticket_replied : (s : Named) (x : Outcome) (b : Bool) → ((n : ℕ) × (s ≡ named.Remove n)) ⊎ ((n : ℕ) × (p : ℕ) × (s ≡ named.Move n p))
+    → ((q : Request) (r : Reply) → kind_of q ≡ kind.Pop → outcome_of r ≡ x → IsTrue b ↔ MayReply q r)
+    → (o : Operation) (r : Reply) → HasOperation s o → outcome_of r ≡ x → IsTrue b ↔ MayReplyTo o r
+ticket_replied s x b (inl (n, is)) may o r has = removal_replied n x b may o r (subst (λ z. HasOperation z o) is has)
+ticket_replied s x b (inr (n, p, is)) may o r has = move_replied n p x b may o r (subst (λ z. HasOperation z o) is has)
+
+-- a shape in range whose reply no such operation has
+pub no_such_reply : {P : Type 0} (wide : Bool) (text : List ℕ) (s : Shape) (found : NumberedLine P) (b : Bool) → (n : ℕ) × (l : Line) × SpellsLine text n l × HasShape s n l
     → ((n : ℕ) (l : Line) → HasShape s n l → (found.number ≡ n) × (found.line ≡ l) × IsInRange wide n l)
-    → ((o : Operation) → HasOperation s.named o → kind_of (request_of o) ≡ k)
-    → ((q : Request) (r : Reply) → kind_of q ≡ k → outcome_of r ≡ s.outcome → IsTrue b ↔ MayReply q r) → b ≡ false → IsNoLineFor wide text NoSuchReply
-no_such_reply wide text s found k b (n, l, spells, has) range kinds may e = (
+    → ((o : Operation) (r : Reply) → HasOperation s.named o → outcome_of r ≡ s.outcome → IsTrue b ↔ MayReplyTo o r) → b ≡ false
+    → IsNoLineFor wide text NoSuchReply
+no_such_reply wide text s found b (n, l, spells, has) range may e = (
   n,
   l,
   spells,
   (range n l has).2,
-  λ it. let yes : b ≡ true = (may (request_of l.operation) l.reply (kinds l.operation has.operation_is)
-      (outcome_is s.outcome s.told l.reply has.reply_is)).1 it in absurd (cc),
+  λ it. let yes : b ≡ true = (may l.operation l.reply has.operation_is (outcome_is s.outcome s.told l.reply has.reply_is)).1 it in absurd (cc),
 )
 
 -- the line that is found
-pub the_line : {P : Type 0} (wide : Bool) (text : List ℕ) (s : Shape) (found : NumberedLine P) (k : Kind) (b : Bool) → (n : ℕ) × (l : Line) × SpellsLine text n l × HasShape s n l
+pub the_line : {P : Type 0} (wide : Bool) (text : List ℕ) (s : Shape) (found : NumberedLine P) (b : Bool) → (n : ℕ) × (l : Line) × SpellsLine text n l × HasShape s n l
     → ((n : ℕ) (l : Line) → HasShape s n l → (found.number ≡ n) × (found.line ≡ l) × IsInRange wide n l)
-    → ((o : Operation) → HasOperation s.named o → kind_of (request_of o) ≡ k)
-    → ((q : Request) (r : Reply) → kind_of q ≡ k → outcome_of r ≡ s.outcome → IsTrue b ↔ MayReply q r) → b ≡ true
+    → ((o : Operation) (r : Reply) → HasOperation s.named o → outcome_of r ≡ s.outcome → IsTrue b ↔ MayReplyTo o r) → b ≡ true
     → IsReadAs wide text (Ok found)
-the_line wide text s found k b (n, l, spells, has) range kinds may e =
+the_line wide text s found b (n, l, spells, has) range may e =
     let is = range n l has in
-    let told : HasReplyOfItsKind
-    l = (may (request_of l.operation) l.reply (kinds l.operation has.operation_is) (outcome_is s.outcome s.told l.reply has.reply_is)).0 e in
+    let told : HasReplyOfItsKind l = (may l.operation l.reply has.operation_is (outcome_is s.outcome s.told l.reply has.reply_is)).0 e in
     subst (λ k. IsLineText wide text found.number k) (sym is.1) (subst (λ m. IsLineText wide text m l) (sym is.0) (spells, is.2, told))
 
 -- a line's text is read as that line alone

@@ -2,7 +2,7 @@
 use Rattle.std.proofs.Common.{◌≡◌, ℕ, ◌+◌, ◌<◌, ◌≤◌, ◌⊎◌, Bool, inl, inr, List, [], ◌∷◌, ◌++◌, length, length-append, append_assoc, append-nil, Option, Ok}
 use Rattle.std.proofs.Common.{Err, refl, sym, ◌∙◌, ap, subst, arith}
 use Rattle.pq_types.specs.Asked.{Line}
-use Rattle.pq_types.specs.Laws.{StaysLegal, StillRises}
+use Rattle.pq_types.specs.Laws.{StaysLegal, StillRises, StillHeeds}
 use Rattle.line_script.specs.declared.error.RunError.{RunError}
 use Rattle.line_script.specs.declared.error.RunError.TheVariants.{Refused, TooLong, NoMemory, Input, Output}
 use Rattle.line_script.specs.Lines.{lines_of, without_return}
@@ -13,7 +13,7 @@ use Rattle.queue_texts.specs.declared.refusal.AuditRefusal.{AuditRefusal}
 use Rattle.queue_texts.specs.Audit.{SpellsFrom, IsLawful, IsFirst, IsRefused, Audits, PlaysEntry, RefusesEntry}
 use Rattle.queue_texts.proofs.Replays.{lawful_none, lawful_more}
 
-module _ {S : Type 0} (wide : Bool) (journal : S → List Line) (legal_more : StaysLegal) (rise_more : StillRises) where
+module _ {S : Type 0} (wide : Bool) (journal : S → List Line) (legal_more : StaysLegal) (rise_more : StillRises) (heeds_more : StillHeeds) where
   abbrev over_journal : Kind S AuditRefusal
   over_journal = record {
     longest = LONGEST_ENTRY;
@@ -43,8 +43,8 @@ module _ {S : Type 0} (wide : Bool) (journal : S → List Line) (legal_more : St
   step s mid t text out others texts rec short (inl (none, same)) rest law =
       let there = rec s (subst (λ m. script.PlaysAll over_journal m texts others t) same rest) law in
       record { new = there.new; gained = there.gained; spelled = (short, inl (none, there.spelled)); lawful = there.lawful }
-  step s mid t text out others texts rec short (inr (filled, (l, is, reply, above, none, after))) rest law =
-      let there = rec mid rest (subst IsLawful (sym after) (lawful_more legal_more rise_more (journal s) l reply above law)) in
+  step s mid t text out others texts rec short (inr (filled, (l, is, reply, above, none, after, heard))) rest law =
+      let there = rec mid rest (subst IsLawful (sym after) (lawful_more legal_more rise_more heeds_more (journal s) l reply above heard law)) in
       let longer : length (journal mid) + 1 ≡ length (journal s) + 1 + 1 =
       omega (arith, ap length after, length-append {A = Line} (journal s) (l ∷ [])) in
       record {

@@ -4,7 +4,7 @@ use Rattle.std.specs.Prelude.{◌==◌, if◌then◌else◌, map}
 use Rattle.pq_types.specs.Item.{Item, item}
 use Rattle.pq_types.specs.Asked.{Reply, Line, Operation}
 use Rattle.pq_types.specs.declared.request.Request.TheVariants.{Push, Pop, Least}
-use Rattle.pq_types.specs.Operation.{Asked, ByTicket, Remove, Move}
+use Rattle.pq_types.specs.Operation.{Asked, ByTicket, Shuts, Remove, Move}
 use Rattle.pq_types.specs.Entry.{Entry, entry, item_of, item_at, without, with_entry, with_moved, entry_not_above, taken, entries_after, reply_by}
 use Rattle.pq_types.specs.History.{entries_from, IsLegalFrom}
 use Rattle.queue_texts.specs.Sums.{sum_over, pushes, gots, priority_in, priority_out, sum_priorities}
@@ -86,6 +86,7 @@ by_operation [] n (Asked Least) = record { count = refl; sum = refl }
 by_operation (e ∷ es) n (Asked Least) = record { count = omega arith; sum = omega arith }
 by_operation es n (ByTicket (Remove i)) = by_removal es n i (item_at i es) refl
 by_operation es n (ByTicket (Move i priority)) = by_move es n i priority (item_at i es) refl
+by_operation es n Shuts = record { count = omega arith; sum = omega arith }
 
 -- the same of all lines of a legal history, from these entries on
 record AllBalance (es : List Entry) (n : ℕ) (ls : List Line) : Type 0 where

@@ -3,7 +3,7 @@ use Rattle.std.proofs.Common.{ℕ, ◌+◌, true, false, inl, inr, List, [], ◌
 use Rattle.pq_types.specs.Item.{Item, IsItemOf}
 use Rattle.pq_types.specs.Asked.{Request, Reply, Line}
 use Rattle.pq_types.specs.Asked.{Operation}
-use Rattle.pq_types.specs.Operation.{Asked, ByTicket, Remove, Move}
+use Rattle.pq_types.specs.Operation.{Asked, ByTicket, Shuts, Remove, Move}
 use Rattle.pq_types.specs.declared.request.Request.TheVariants.{Push, Pop, Least}
 use Rattle.pq_types.specs.declared.answer.Reply.TheVariants.{Pushed, Got, Empty, Least as LeastIs}
 use Rattle.pq_types.specs.Queue.{IsProperRequestOf, IsProperReplyOf}
@@ -23,6 +23,7 @@ operation_too : (o : Operation) → IsOperationInRange false o → IsOperationIn
 operation_too (Asked q) h = request_too q h
 operation_too (ByTicket (Remove ticket)) h = h
 operation_too (ByTicket (Move ticket priority)) (t, p) = (t, omega (arith, p))
+operation_too Shuts h = tt
 
 reply_too : (r : Reply) → IsProperReplyOf false r → IsProperReplyOf true r
 reply_too Pushed h = tt

@@ -11,14 +11,14 @@ use Rattle.pq_types.specs.Item.{Item, IsItemOf}
 use Rattle.pq_types.specs.Asked.{Reply, Line, Operation}
 use Rattle.pq_types.specs.declared.request.Request.TheVariants.{Push, Pop, Least}
 use Rattle.pq_types.specs.declared.answer.Reply.TheVariants.{Pushed, Got, Empty, Least as LeastIs}
-use Rattle.pq_types.specs.Operation.{Asked, ByTicket, Remove, Move}
+use Rattle.pq_types.specs.Operation.{Asked, ByTicket, Shuts, Remove, Move}
 use Rattle.pq_types.specs.Queue.{IsProperReplyOf}
 use Rattle.line_script.specs.Lines.{Cut, with_byte, cut, lines_of, without_return}
 use Rattle.line_script.proofs.CutLines.{lines_of-feed}
 use Rattle.queue_texts.specs.declared.line_text.TheConstants.{LONGEST_ENTRY}
 use Rattle.queue_texts.specs.ItemText.{item_text}
 use Rattle.queue_texts.specs.Text.{reply_text}
-use Rattle.queue_texts.specs.LineText.{operation_text, line_text, journal_text, IsOperationInRange, IsInRange, IsLineText}
+use Rattle.queue_texts.specs.LineText.{operation_text, told_text, line_text, journal_text, IsOperationInRange, IsInRange, IsLineText}
 use Rattle.queue_texts.specs.Audit.{SpellsFrom}
 use Rattle.queue_texts.specs.Laws.{WrittenIsSpelled}
 use Rattle.queue_texts.proofs.Items.{below_bound}
@@ -111,6 +111,12 @@ fits_operation wide (ByTicket (Remove ticket)) h =
 fits_operation wide (ByTicket (Move ticket priority)) (t, p) =
     let word = fits_both _ _ _ _ (fits_word (codes "move ") 5 (omega arith) refl) (fits_number ticket t) in
     fits_both _ _ _ _ (fits_both _ _ _ _ word space_word) (fits_number priority (below_bound wide priority p))
+fits_operation wide Shuts h = fits_word (codes "shut") 46 (omega arith) refl
+
+fits_told : (wide : Bool) (o : Operation) (r : Reply) → IsProperReplyOf wide r → Fits (told_text o r) 48
+fits_told wide (Asked q) r h = fits_both (codes " ") (reply_text r) 1 47 space_word (fits_reply wide r h)
+fits_told wide (ByTicket t) r h = fits_both (codes " ") (reply_text r) 1 47 space_word (fits_reply wide r h)
+fits_told wide Shuts r h = fits_word [] 48 (omega arith) refl
 
 -- the text of a line in range
 fits_line : (wide : Bool) (number : ℕ) (l : Line) → IsInRange wide number l → Fits (line_text number l) LONGEST_ENTRY
@@ -119,12 +125,12 @@ fits_line wide number l h =
     (fits_number l.place (omega (arith, h.place_range))) in
     let serial = fits_both _ _ _ _ (fits_both _ _ _ _ place space_word) (fits_number l.serial (omega (arith, h.serial_range.1))) in
     let operation = fits_both _ _ _ _ (fits_both _ _ _ _ serial space_word) (fits_operation wide l.operation h.operation_range) in
-    let reply = fits_both _ _ _ _ (fits_both _ _ _ _ operation space_word) (fits_reply wide l.reply h.reply_range) in
-    fits_less (line_text number l) 157 LONGEST_ENTRY (omega arith) reply
+    let told = fits_both _ _ _ _ operation (fits_told wide l.operation l.reply h.reply_range) in
+    fits_less (line_text number l) 157 LONGEST_ENTRY (omega arith) told
 
 filled : (number : ℕ) (l : Line) → number < 2 ^ 64 → 0 < length (line_text number l)
 filled number l small =
-    let behind = 32 ∷ (decimal l.place ++ 32 ∷ (decimal l.serial ++ 32 ∷ (operation_text l.operation ++ 32 ∷ reply_text l.reply))) in
+    let behind = 32 ∷ (decimal l.place ++ 32 ∷ (decimal l.serial ++ 32 ∷ (operation_text l.operation ++ told_text l.operation l.reply))) in
     let split : length (decimal number ++ behind) ≡ length (decimal number) + length behind = length-append {A = ℕ} (decimal number) behind in
     omega (arith, decimal_nonempty number small, split, ap length (regroup number l))
 
@@ -145,7 +151,7 @@ written_is_spelled wide n (l ∷ ls) (range, may, rest) =
         ls,
         subst (λ t. 0 < length t) (sym kept) (filled n l (omega (arith, range.number_range.1))),
         refl,
-        subst (λ t. IsLineText wide t n l) (sym kept) (line_written wide n l range, range, may),
+        subst (λ t. IsLineText wide t n l) (sym kept) (line_written wide n l range may, range, may),
         written_is_spelled wide (n + 1) ls rest,
       ),
     )

@@ -5,7 +5,8 @@ use Rattle.pq_types.specs.Asked.{Line}
 use Rattle.pq_types.specs.Queue.{reply_to}
 use Rattle.pq_types.specs.Entry.{reply_by}
 use Rattle.pq_types.specs.History.{left, entries_of, IsLegal, SerialsRise, last_serial}
-use Rattle.pq_types.specs.Operation.{Asked, ByTicket, Remove, Move}
+use Rattle.pq_types.specs.History.{shuts, is_shut, EndsAtShut, IsHeard, HeedsShut}
+use Rattle.pq_types.specs.Operation.{Asked, ByTicket, Shuts, Remove, Move}
 use Rattle.pq_types.specs.Asked.{Request, Reply, Operation}
 use Rattle.queue_texts.specs.LineText.{IsLineText, IsNoLineFor}
 use Rattle.queue_texts.specs.declared.line_text.TheConstants.{LONGEST_ENTRY}
@@ -13,7 +14,7 @@ use Rattle.line_script.specs.declared.error.RunError.{RunError}
 use Rattle.line_script.specs.declared.error.RunError.TheVariants.{Refused, TooLong, NoMemory, Input, Output}
 use Rattle.line_script.specs.Lines.{lines_of, without_return, count_of}
 use Rattle.queue_texts.specs.declared.refusal.Breach.{Breach}
-use Rattle.queue_texts.specs.declared.refusal.Breach.TheVariants.{WrongNumber, SerialFalls, WrongReply, WrongRemoval, WrongMove}
+use Rattle.queue_texts.specs.declared.refusal.Breach.TheVariants.{WrongNumber, SerialFalls, BehindShut, WrongReply, WrongRemoval, WrongMove}
 use Rattle.queue_texts.specs.declared.refusal.Unlawful.{Unlawful}
 use Rattle.queue_texts.specs.declared.refusal.Unlawful.TheVariants.{NoLine, Broken}
 use Rattle.queue_texts.specs.declared.refusal.AuditRefusal.{AuditRefusal}
@@ -29,19 +30,24 @@ SpellsFrom wide n (text ∷ texts) journal = (length text ≤ LONGEST_ENTRY)
     ⊎ ((l : Line) × (rest : List Line) × (0 < length (without_return text)) × (journal ≡ l ∷ rest)
     × IsLineText wide (without_return text) n l × SpellsFrom wide (n + 1) texts rest))
 
--- a lawful journal: a legal history of the queue of one thread, with serials that rise at each place
+-- a lawful journal: a legal history of the queue of one thread, with serials that rise at each place; after a
+-- shut line stands no push, and no other shut
 pub record IsLawful (journal : List Line) : Type 0 where
   pub legal : IsLegal journal
   pub rise : SerialsRise journal
+  pub heeds : HeedsShut journal
 
 -- How the line with this number breaks the law behind this journal: its number isn't due; or its
--- serial isn't above the last of its place; or its reply, to a request, a removal or a move, isn't
--- the one-thread queue's.
+-- serial isn't above the last of its place; or it is a push, or another shut, and the queue is shut; or its reply, to a
+-- request, a removal or a move, isn't the one-thread queue's.
 abbrev pub Breaks : List Line → ℕ → Line → Breach → Type 0
 Breaks journal number l (WrongNumber told due) = (told ≡ number) × (due ≡ length journal + 1) × (told ≢ due)
 Breaks journal number l (SerialFalls place serial last) =
     (number ≡ length journal + 1) × (place ≡ l.place) × (serial ≡ l.serial) × (last ≡ last_serial l.place journal)
     × (serial ≤ last)
+Breaks journal number l (BehindShut again) =
+    (number ≡ length journal + 1) × (last_serial l.place journal < l.serial) × EndsAtShut l.operation × (is_shut journal ≡ true)
+    × (again ≡ shuts l.operation)
 Breaks journal number l (WrongReply told due) =
     (number ≡ length journal + 1) × (last_serial l.place journal < l.serial)
     × (told ≡ l.reply) × ((q : Request) × (l.operation ≡ Asked q) × (due ≡ reply_to (left journal) q)) × (told ≢ due)
@@ -52,11 +58,12 @@ Breaks journal number l (WrongMove ticket priority told due) =
     (number ≡ length journal + 1) × (last_serial l.place journal < l.serial) × (l.operation ≡ ByTicket (Move ticket priority))
     × (told ≡ l.reply) × (due ≡ reply_by (entries_of journal) l.operation) × (told ≢ due)
 
--- how a line with this operation and this reply breaks the law, where another reply is due
+-- how a line with this operation and this reply breaks the law, where another reply is due; a shut that is read has the due one
 abbrev pub breach_by : Operation → Reply → Reply → Breach
 breach_by (Asked q) told due = WrongReply told due
 breach_by (ByTicket (Remove ticket)) told due = WrongRemoval ticket told due
 breach_by (ByTicket (Move ticket priority)) told due = WrongMove ticket priority told due
+breach_by Shuts told due = WrongReply told due
 
 -- why this text is no lawful line behind this journal
 abbrev pub IsUnlawful : Bool → List Line → List ℕ → Unlawful → Type 0
@@ -119,7 +126,7 @@ NarrowIsWide = (n : ℕ) (texts : List (List ℕ)) (journal : List Line) → Spe
 abbrev pub PlaysEntry : Bool → List Line → List ℕ → List ℕ → List Line → Type 0
 PlaysEntry wide journal line text after =
     (l : Line) × IsLineText wide line (length journal + 1) l × (l.reply ≡ reply_by (entries_of journal) l.operation)
-    × (last_serial l.place journal < l.serial) × (text ≡ []) × (after ≡ journal ++ l ∷ [])
+    × (last_serial l.place journal < l.serial) × (text ≡ []) × (after ≡ journal ++ l ∷ []) × IsHeard journal l.operation
 
 -- line n may not follow this journal
 abbrev pub RefusesEntry : Bool → List Line → ℕ → List ℕ → AuditRefusal → Type 0

@@ -7,7 +7,7 @@ use Rattle.pq_types.specs.Asked.{Reply}
 use Rattle.pq_types.specs.declared.answer.Reply.TheVariants as reply
 use Rattle.pq_types.specs.Asked.{Line}
 use Rattle.pq_types.specs.Asked.{Operation}
-use Rattle.pq_types.specs.Operation.{Asked, ByTicket, Remove, Move}
+use Rattle.pq_types.specs.Operation.{Asked, ByTicket, Shuts, Remove, Move}
 use Rattle.pq_types.specs.declared.control.Kind.{Kind}
 use Rattle.pq_types.specs.declared.control.Kind.TheVariants as kind
 use Rattle.pq_types.specs.declared.control.Outcome.{Outcome}
@@ -67,12 +67,18 @@ HasRequest k parts request.Least = (k ≡ kind.Least) × AreNone parts
 abbrev pub HasOperation : Named → Operation → Type 0
 HasOperation (named.Asked k parts) (Asked q) = HasRequest k parts q
 HasOperation (named.Asked k parts) (ByTicket t) = ⊥
+HasOperation (named.Asked k parts) Shuts = ⊥
 HasOperation (named.Remove number) (Asked q) = ⊥
 HasOperation (named.Remove number) (ByTicket (Remove ticket)) = number ≡ capped ticket
 HasOperation (named.Remove number) (ByTicket (Move ticket priority)) = ⊥
+HasOperation (named.Remove number) Shuts = ⊥
 HasOperation (named.Move number to) (Asked q) = ⊥
 HasOperation (named.Move number to) (ByTicket (Remove ticket)) = ⊥
 HasOperation (named.Move number to) (ByTicket (Move ticket priority)) = (number ≡ capped ticket) × (to ≡ capped priority)
+HasOperation (named.Move number to) Shuts = ⊥
+HasOperation named.Shut (Asked q) = ⊥
+HasOperation named.Shut (ByTicket t) = ⊥
+HasOperation named.Shut Shuts = Unit {0}
 
 -- what is found of this line under this number
 pub record HasShape (s : Shape) (number : ℕ) (l : Line) : Type 0 where

@@ -7,7 +7,7 @@ use Rattle.pq_types.specs.Asked.{Reply}
 use Rattle.pq_types.specs.declared.answer.Reply.TheVariants.{Pushed, Got, Empty, Least as LeastIs}
 use Rattle.pq_types.specs.Asked.{Line}
 use Rattle.pq_types.specs.Asked.{Operation}
-use Rattle.pq_types.specs.Operation.{Asked, ByTicket, Remove, Move, request_of}
+use Rattle.pq_types.specs.Operation.{Asked, ByTicket, Shuts, Remove, Move}
 use Rattle.queue_texts.specs.declared.line_reading.LineError.{LineError}
 use Rattle.queue_texts.specs.declared.line_reading.LineError.TheVariants.{UnknownWord, OutOfRange, NoSuchReply}
 use Rattle.queue_texts.specs.declared.line_reading.NumberedLine.{NumberedLine}
@@ -23,18 +23,26 @@ request_text (Push item) = codes "push " ++ item_text item
 request_text Pop = codes "pop"
 request_text Least = codes "least"
 
--- what an operation says: its request, or which ticket's item it removes, or moves and to which priority
+-- what an operation says: its request; or which ticket's item it removes, or moves and to which priority; or that it shuts
+-- the queue
 abbrev pub operation_text : Operation → List ℕ
 operation_text (Asked request) = request_text request
 operation_text (ByTicket (Remove ticket)) = codes "remove " ++ decimal ticket
 operation_text (ByTicket (Move ticket priority)) = codes "move " ++ decimal ticket ++ codes " " ++ decimal priority
+operation_text Shuts = codes "shut"
+
+-- the reply, as it stands behind the operation: a space before it; after a shut stands none
+abbrev pub told_text : Operation → Reply → List ℕ
+told_text (Asked request) reply = codes " " ++ reply_text reply
+told_text (ByTicket ticketed) reply = codes " " ++ reply_text reply
+told_text Shuts reply = []
 
 -- the text of a journal line, without a line feed: its number, place, serial, operation and reply,
--- with one space between
+-- with one space between; a shut has no reply
 abbrev pub line_text : ℕ → Line → List ℕ
 line_text number l =
     decimal number ++ codes " " ++ decimal l.place ++ codes " " ++ decimal l.serial
-    ++ codes " " ++ operation_text l.operation ++ codes " " ++ reply_text l.reply
+    ++ codes " " ++ operation_text l.operation ++ told_text l.operation l.reply
 
 -- the text of lines, of which the first has this number; a line feed ends each
 abbrev pub journal_text : ℕ → List Line → List ℕ
@@ -75,11 +83,18 @@ abbrev pub MovesFirst : List ℕ → ℕ → ℕ → List ℕ → Type 0
 MovesFirst text ticket priority rest =
     (numbers : List ℕ) × (text ≡ codes "move " ++ numbers) × LeadsBoth numbers ticket priority rest
 
--- the text says this operation, and these bytes follow a space
+-- the text says this operation, and these bytes follow a space; a shut is all of it, and none follow
 abbrev pub SaysFirst : List ℕ → Operation → List ℕ → Type 0
 SaysFirst text (Asked request) rest = AsksFirst text request rest
 SaysFirst text (ByTicket (Remove ticket)) rest = RemovesFirst text ticket rest
 SaysFirst text (ByTicket (Move ticket priority)) rest = MovesFirst text ticket priority rest
+SaysFirst text Shuts rest = (text ≡ codes "shut") × (rest ≡ [])
+
+-- the text says this reply to the operation; that to a shut is Empty, and needs no text
+abbrev pub SpellsReplyTo : Operation → List ℕ → Reply → Type 0
+SpellsReplyTo (Asked request) text reply = SpellsReply text reply
+SpellsReplyTo (ByTicket ticketed) text reply = SpellsReply text reply
+SpellsReplyTo Shuts text reply = (text ≡ []) × (reply ≡ Empty)
 
 -- the text begins with a number, a place and a serial, a space behind each
 pub record LeadsAll (text : List ℕ) (number place serial : ℕ) (rest : List ℕ) : Type 0 where
@@ -96,13 +111,14 @@ pub record SpellsLine (text : List ℕ) (number : ℕ) (l : Line) : Type 0 where
   pub from_reply : List ℕ
   pub head : LeadsAll text number l.place l.serial from_operation
   pub operation_is : SaysFirst from_operation l.operation from_reply
-  pub reply_is : SpellsReply from_reply l.reply
+  pub reply_is : SpellsReplyTo l.operation from_reply l.reply
 
 -- an operation whose item, or whose new priority, is in its range, and whose ticket has 64 bits
 abbrev pub IsOperationInRange : Bool → Operation → Type 0
 IsOperationInRange wide (Asked request) = IsProperRequestOf wide request
 IsOperationInRange wide (ByTicket (Remove ticket)) = ticket < 2 ^ 64
 IsOperationInRange wide (ByTicket (Move ticket priority)) = (ticket < 2 ^ 64) × (priority < bound_of wide)
+IsOperationInRange wide Shuts = Unit {0}
 
 -- a line number and a line whose place, serial, ticket and items, wide or narrow, are in their ranges
 pub record IsInRange (wide : Bool) (number : ℕ) (l : Line) : Type 0 where
@@ -131,9 +147,15 @@ MayReply Least Empty = Unit {0}
 abbrev pub numbered : {P : Type 0} → ℕ → Line → NumberedLine P
 numbered number l = record { number = number; line = l }
 
--- The line's operation may have its reply: a removal and a move are replied to as a pop is.
+-- such an operation may have such a reply: a removal and a move are replied to as a pop is, and a shut takes nothing out
+abbrev pub MayReplyTo : Operation → Reply → Type 0
+MayReplyTo (Asked request) reply = MayReply request reply
+MayReplyTo (ByTicket ticketed) reply = MayReply Pop reply
+MayReplyTo Shuts reply = reply ≡ Empty
+
+-- the line's operation may have its reply
 abbrev pub HasReplyOfItsKind : Line → Type 0
-HasReplyOfItsKind l = MayReply (request_of l.operation) l.reply
+HasReplyOfItsKind l = MayReplyTo l.operation l.reply
 
 -- the text is that of a journal line: in range, with a reply that such an operation may have
 abbrev pub IsLineText : Bool → List ℕ → ℕ → Line → Type 0

@@ -1,10 +1,10 @@
 -- What a replay makes of a text that is read as a journal's next line, and what the lines so far leave.
 use Rattle.std.specs.Prelude.{◌≡◌, ℕ, ◌+◌, ◌-◌, ◌<◌, Bool, List, [], ◌∷◌, ◌++◌, length, map, drop, get_or}
-use Rattle.pq_types.specs.Asked.{Line, Answer}
-use Rattle.pq_types.specs.declared.answer.Answer.TheVariants as answer
+use Rattle.pq_types.specs.Asked.{Line}
 use Rattle.pq_types.specs.declared.journal.TheConstants.{GREATEST_NUMBER}
 use Rattle.pq_types.specs.Entry.{Entry, item_of, reply_by}
-use Rattle.pq_types.specs.History.{left, line_of, entries_of, last_serial, PutsIn}
+use Rattle.pq_types.specs.History.{left, entries_of, last_serial, IsHeard, PutsIn}
+use Rattle.pq_book.specs.Book.{Volume, IsPlain}
 use Rattle.pq_book.specs.declared.limit.TheConstants.{LONG_PAGE}
 use Rattle.queue_texts.specs.declared.replay.TheConstants.{PLACES}
 use Rattle.queue_texts.specs.declared.replay.ReplayError.{ReplayError}
@@ -16,12 +16,13 @@ use Rattle.queue_texts.specs.Audit.{IsLawful, IsUnlawful}
 pub record Replayed : Type 0 where
   pub journal : List Line
 
--- The line with this number may stand behind this journal: its number is due, its serial is above the last of its place, and
--- its reply is the one-thread queue's.
+-- The line with this number may stand behind this journal: its number is due, its serial is above the last of its place, its
+-- reply is the one-thread queue's, and it is no push, and no other shut, where the queue is shut.
 pub record Follows (journal : List Line) (number : ℕ) (l : Line) : Type 0 where
   pub number_is : number ≡ length journal + 1
   pub serial : last_serial l.place journal < l.serial
   pub reply : l.reply ≡ reply_by (entries_of journal) l.operation
+  pub heard : IsHeard journal l.operation
 
 -- the text is that of this line, which may stand behind this journal
 abbrev pub MayFollow : Bool → List Line → List ℕ → Line → Type 0
@@ -40,14 +41,6 @@ abbrev pub RefusesText : Bool → List Line → List ℕ → ReplayError → Typ
 RefusesText wide journal text (Unlawful why) = IsUnlawful wide journal text why
 RefusesText wide journal text NoMemory = LacksMemory wide journal text
 
--- What a Book with this room and journal answers where it carries out what this line did, and its journal then: the line is
--- entered with the due reply; or the journal is full; or memory for the item of a push or a move is refused.
-abbrev pub IsCarriedOut : ℕ → List Line → Line → Answer → List Line → Type 0
-IsCarriedOut room journal l (answer.Entered number reply) after =
-    (reply ≡ reply_by (entries_of journal) l.operation) × (after ≡ journal ++ line_of l.place l.serial l.operation reply ∷ [])
-IsCarriedOut room journal l answer.BookFull after = (length journal ≡ room) × (after ≡ journal)
-IsCarriedOut room journal l answer.NoMemory after = PutsIn l.operation × (after ≡ journal)
-
 -- What a lawful journal is read back as: the items that it leaves in the queue, how many lines came before those that are
 -- kept, and these, its last 65,536.
 pub record Leaves (journal : List Line) (content : List Entry) (before : ℕ) (lines : List Line) : Type 0 where
@@ -61,8 +54,9 @@ abbrev pub AreLastSerials : List ℕ → List Line → Type 0
 AreLastSerials last journal =
     (length last ≡ PLACES) × ((place : ℕ) → place < PLACES → get_or last place 0 ≡ last_serial place journal)
 
--- What a replay keeps: a lawful journal in a Book with the greatest room, and the last serial of each place.
-pub record IsReplayed (room : ℕ) (journal : List Line) (last : List ℕ) : Type 0 where
-  pub room_is : room ≡ GREATEST_NUMBER
-  pub lawful : IsLawful journal
-  pub serials : AreLastSerials last journal
+-- What a replay keeps: a lawful journal in a plain Book with the greatest room, and the last serial of each place.
+pub record IsReplayed (book : Volume) (last : List ℕ) : Type 0 where
+  pub room_is : book.room ≡ GREATEST_NUMBER
+  pub plain : IsPlain book
+  pub lawful : IsLawful book.journal
+  pub serials : AreLastSerials last book.journal

@@ -1,25 +1,33 @@
 -- The text of `flatpq seq`: its lines are commands, carried out on a queue of one thread with a
 -- journal. Its items are wide or narrow.
-use Rattle.std.specs.Prelude.{◌≡◌, ℕ, ◌+◌, Bool, List, [], length, Option, Some, Result, Ok, Err}
+use Rattle.std.specs.Prelude.{◌≡◌, ℕ, ◌+◌, ◌≤◌, Bool, false, List, [], length, Option, Some, Result, Ok, Err}
 use Rattle.pq_types.specs.Asked.{Request}
 use Rattle.pq_types.specs.Asked.{Answer}
 use Rattle.pq_types.specs.Asked.{Line}
 use Rattle.queue_texts.specs.declared.command.ScriptError.{ScriptError}
 use Rattle.queue_texts.specs.Command.{Spells, IsRefusedFor}
-use Rattle.pq_types.specs.History.{journal_after, MayAnswer}
+use Rattle.pq_types.specs.Operation.{Asked}
+use Rattle.pq_types.specs.History.{journal_after, last_serial, is_shut}
+use Rattle.pq_types.specs.Laws.{MayDoPlainly}
 use Rattle.queue_texts.specs.Text.{answer_text}
-use Rattle.pq_book.specs.Book.{Volume}
+use Rattle.pq_book.specs.Book.{Volume, IsPlain}
 use Rattle.line_script.specs.declared.lines.TheConstants.{LONGEST_LINE}
 use Rattle.line_script.specs.declared.error.RunError.{RunError}
 use Rattle.line_script.specs.Script.{Kind, FinishesAs, Writes}
 use Rattle.queue_texts.specs.declared.faults.Refusal.{Refusal}
 use Rattle.queue_texts.specs.declared.faults.Refusal.TheVariants.{Command}
 
+-- The Book of commands: a plain one, which is not shut; and its next line's number is a serial that place 0 doesn't have yet.
+pub record TakesCommands (book : Volume) : Type 0 where
+  pub plain : IsPlain book
+  pub unshut : is_shut book.journal ≡ false
+  pub numbered : last_serial 0 book.journal ≤ length book.journal
+
 -- A line that spells a request is answered by the rule of the journal, which has room for so many
--- lines. The poster's place is 0, and its serial the next line's number.
+-- lines, and is never shut. The poster's place is 0, and its serial the next line's number.
 abbrev pub PlaysCommand : Bool → ℕ → List Line → List ℕ → List ℕ → List Line → Type 0
 PlaysCommand wide room journal line text after =
-    (request : Request) × (answer : Answer) × Spells wide line request × MayAnswer room journal request answer
+    (request : Request) × (answer : Answer) × Spells wide line request × MayDoPlainly room journal (Asked request) answer
     × (text ≡ answer_text answer) × (after ≡ journal_after journal 0 (length journal + 1) request answer)
 
 -- a line that spells no request is refused for its reason

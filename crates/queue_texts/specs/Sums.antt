@@ -9,7 +9,7 @@ use Rattle.pq_types.specs.declared.answer.Reply.TheVariants.{Pushed, Got, Empty,
 use Rattle.pq_types.specs.Asked.{Line}
 use Rattle.pq_types.specs.declared.journal.TheConstants.{GREATEST_NUMBER}
 use Rattle.pq_types.specs.History.{last_serial}
-use Rattle.pq_types.specs.Operation.{Asked, ByTicket, Remove, Move}
+use Rattle.pq_types.specs.Operation.{Asked, ByTicket, Shuts, Remove, Move}
 use Rattle.queue_texts.specs.declared.sums.JournalSums.{JournalSums}
 
 -- what a line counts, added up over lines
@@ -23,6 +23,7 @@ pushes (Asked (Push x)) = 1
 pushes (Asked Pop) = 0
 pushes (Asked Least) = 0
 pushes (ByTicket t) = 0
+pushes Shuts = 0
 
 -- 1 where an item was found, and its priority
 abbrev pub found : Reply → ℕ
@@ -58,13 +59,15 @@ gots (Asked Pop) r = found r
 gots (Asked Least) r = 0
 gots (ByTicket (Remove i)) r = found r
 gots (ByTicket (Move i priority)) r = 0
+gots Shuts r = 0
 
--- 1 for a pop, a removal or a move that found no item
+-- 1 for a pop, a removal or a move that found no item; a shut looked for none
 abbrev pub empties : Operation → Reply → ℕ
 empties (Asked (Push x)) r = 0
 empties (Asked Pop) r = none_found r
 empties (Asked Least) r = 0
 empties (ByTicket t) r = none_found r
+empties Shuts r = 0
 
 -- the priority that is put in: of a push, or the new one of a move that found its item
 abbrev pub priority_in : Operation → Reply → ℕ
@@ -73,6 +76,7 @@ priority_in (Asked Pop) r = 0
 priority_in (Asked Least) r = 0
 priority_in (ByTicket (Remove i)) r = 0
 priority_in (ByTicket (Move i priority)) r = priority_moved priority r
+priority_in Shuts r = 0
 
 -- the priority that is taken out: of a pop or a removal, or the old one of a move that found its item
 abbrev pub priority_out : Operation → Reply → ℕ
@@ -80,6 +84,7 @@ priority_out (Asked (Push x)) r = 0
 priority_out (Asked Pop) r = priority_found r
 priority_out (Asked Least) r = 0
 priority_out (ByTicket t) r = priority_found r
+priority_out Shuts r = 0
 
 -- how many places have a line: each is counted at its last one
 abbrev pub places_of : List Line → ℕ

@@ -4,7 +4,8 @@ use Rattle.queue_texts.specs.ItemText.{item_text}
 use Rattle.pq_types.specs.Asked.{Reply}
 use Rattle.pq_types.specs.declared.answer.Reply.TheVariants.{Pushed, Got, Empty, Least}
 use Rattle.pq_types.specs.Asked.{Answer}
-use Rattle.pq_types.specs.declared.answer.Answer.TheVariants.{Entered, BookFull, NoMemory}
+use Rattle.pq_types.specs.declared.answer.Answer.TheVariants.{Entered, BookFull, NoMemory, Refused}
+use Rattle.pq_types.specs.declared.answer.Refusal.TheVariants.{Shut, Unarchived, Full}
 
 -- what a reply says
 abbrev pub reply_text : Reply → List ℕ
@@ -18,3 +19,6 @@ abbrev pub answer_text : Answer → List ℕ
 answer_text (Entered line reply) = decimal line ++ codes " " ++ reply_text reply ++ codes "\n"
 answer_text BookFull = codes "book full\n"
 answer_text NoMemory = codes "no memory\n"
+answer_text (Refused Shut) = codes "queue shut\n"
+answer_text (Refused Unarchived) = codes "unarchived\n"
+answer_text (Refused Full) = codes "queue full\n"

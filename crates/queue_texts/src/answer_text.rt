@@ -8,7 +8,7 @@ use crate::item_text::text_of_item;
 use arrayvec::ArrayVec;
 use byte_writer::write_bytes;
 use itoa::Buffer;
-use pq_types::{Answer, Item, Part, Reply};
+use pq_types::{Answer, Item, Part, Refusal, Reply};
 use std::io;
 use std::io::Write;
 
@@ -66,13 +66,18 @@ fn line_of<P: Part>(answer: &Answer<Item<P>>) -> ArrayVec<u8, LONGEST>
         }
         Answer::BookFull => append(&mut line, b"book full\n"),
         Answer::NoMemory => append(&mut line, b"no memory\n"),
+        Answer::Refused(refusal) => match refusal.why() {
+            Refusal::Shut => append(&mut line, b"queue shut\n"),
+            Refusal::Unarchived => append(&mut line, b"unarchived\n"),
+            Refusal::Full => append(&mut line, b"queue full\n"),
+        },
     }
     line
 }
 
 /// Writes the line of an answer, ended by a line feed: `L pushed`, `L got P V`, `L least P V`, `L
-/// empty`, `book full` or `no memory`, where L is the journal line, P the item's priority and V its
-/// value. After a fault the writer holds a beginning of that line.
+/// empty`, `book full`, `no memory`, `queue shut`, `unarchived` or `queue full`, where L is the journal line, P the item's
+/// priority and V its value. After a fault the writer holds a beginning of that line.
 pub fn write_answer<P: Part, W: Write>(answer: &Answer<Item<P>>, writer: &mut W) -> io::Result<()>
     ensures ok { OnOk result (Appends (W.contents writer.old) (W.contents writer.new) (answer_text answer.now)) }
     ensures err { OnErr result (AppendsPart (W.contents writer.old) (W.contents writer.new) (answer_text answer.now)) }

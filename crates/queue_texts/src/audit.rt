@@ -17,7 +17,7 @@ use leftist_heap::flat_places::FlatPlaces;
 use leftist_heap::ticket_heap::TicketHeap;
 use line_script::{Player, RunError, play_script};
 use pq_book::Entry;
-use pq_types::laws::law_one_more_line;
+use pq_types::laws::{law_one_more_line, law_shut};
 use pq_types::{MOST_LINES, Part};
 use std::alloc::{AllocError, Allocator};
 use std::io::Read;
@@ -147,6 +147,7 @@ pub fn run_audit<P: Part, A: Allocator + Clone, R: Read>(
     ensures { (input : List ℕ) → R.remaining reader.old ≡ Some input → Audits P.wide input result }
 {
     law_one_more_line();
+    law_shut();
     let Ok(audit) = opened::<A, P>(&alloc) else {
         return Err(RunError::NoMemory);
     };

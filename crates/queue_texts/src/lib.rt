@@ -6,7 +6,8 @@
 //! of what was read, and that a run that ends early says why, by a reason with a number, an exit
 //! status and one line of text; and of an audit, both ways, that it reports exactly where the text is
 //! a lawful journal: one whose lines are numbered 1, 2, 3 and so on, whose serials rise at each place,
-//! and whose replies are those of the queue of one thread. Nothing here knows of threads.
+//! whose replies are those of the queue of one thread, and which has no push and no other shut after
+//! a shut. Nothing here knows of threads.
 #![tactic(auto)]
 
 pub mod answer_text;

@@ -1,16 +1,15 @@
 // The text of a journal line, read back.
 ghost use Rattle.pq_types.specs.Item.{Item as ItemSeen};
 ghost use Rattle.pq_types.specs.Asked.{Line as LineSeen};
-ghost use Rattle.std.specs.Prelude.{◌≡◌, ◌<◌, ◌≤◌, ◌^◌, ◌↔◌, ◌++◌, codes, ℕ, List, IfOk, IfErr, IfSome, IfNone, IsTrue, Ok, Err};
+ghost use Rattle.std.specs.Prelude.{◌≡◌, ◌<◌, ◌≤◌, ◌^◌, ◌↔◌, ◌++◌, codes, ℕ, List, [], IfOk, IfErr, IfSome, IfNone, IsTrue, Ok, Err};
 ghost use Rattle.std.specs.Str.Parse.{IsNumeral, digits_value};
 ghost use Rattle.pq_types.specs.Asked.{Request};
 ghost use Rattle.pq_types.specs.Asked.{Reply};
 ghost use Rattle.pq_types.specs.Asked.{Operation as OperationSeen};
-ghost use Rattle.pq_types.specs.Operation.{request_of};
 ghost use Rattle.pq_types.specs.Item.{IsItemOf, bound_of};
 ghost use Rattle.pq_types.specs.Control.{kind_of, outcome_of};
-ghost use Rattle.queue_texts.specs.LineText.{Leads, LeadsAll, LeadsBoth, SpellsBoth, SpellsReply};
-ghost use Rattle.queue_texts.specs.LineText.{AsksFirst, SaysFirst, SpellsLine, IsInRange, IsOperationInRange, MayReply};
+ghost use Rattle.queue_texts.specs.LineText.{Leads, LeadsAll, LeadsBoth, SpellsBoth, SpellsReply, SpellsReplyTo};
+ghost use Rattle.queue_texts.specs.LineText.{AsksFirst, SaysFirst, SpellsLine, IsInRange, IsOperationInRange, MayReply, MayReplyTo};
 ghost use Rattle.queue_texts.specs.LineText.{IsLineText, IsNoLineFor, numbered, line_code};
 ghost use Rattle.queue_texts.specs.LineShape.{capped, TellsItem, TellsNone, AsksNone, AreParts};
 ghost use Rattle.queue_texts.specs.LineShape.{AreNone, HasOperation, HasReply, HasRequest, HasShape};
@@ -24,7 +23,7 @@ use thiserror::Error;
 /// Why a text is no journal line.
 #[derive(Clone, Copy, Debug, PartialEq, Eq, Error)]
 pub enum LineError {
-    /// It isn't three numbers, an operation and a reply, with one space between.
+    /// It isn't three numbers, an operation and, but for a shut, a reply, with one space between.
     #[error("no journal line")]
     UnknownWord,
     /// One of its numbers is out of its range: of the line's number and the serial 1 to
@@ -75,6 +74,8 @@ enum Named {
     Remove(u128),
     /// The move of the item that has this ticket to this priority.
     Move(u128, u128),
+    /// That the queue is shut.
+    Shut,
 }
 
 /// What a text spells, whether or not its numbers are in their ranges. Those from 2^64 on are told as
@@ -158,6 +159,24 @@ fn read_reply(text: &[u8]) -> Option<(Outcome, Parts)>
     Some((outcome, NO_PARTS))
 }
 
+// The reply to this operation that the text says.
+fn read_told(named: Named, text: &[u8]) -> Option<(Outcome, Parts)>
+    ensures some { IfSome result (λ found. (o : OperationSeen) → HasOperation named o
+        → (reply : Reply) × SpellsReplyTo o text.now reply × HasReply found.0 found.1 reply) }
+    ensures none { IfNone result ((o : OperationSeen) → HasOperation named o → (reply : Reply) → ¬ (SpellsReplyTo o text.now reply)) }
+{
+    match named {
+        Named::Shut => {
+            if text.is_empty() {
+                Some((Outcome::Empty, NO_PARTS))
+            } else {
+                None
+            }
+        }
+        _ => read_reply(text),
+    }
+}
+
 // What follows `pop ` or `least `, and which of these it is.
 fn plain_request(text: &[u8]) -> Option<(Kind, &[u8])>
     ensures some { IfSome result (λ found. AsksNone text.now found.0 found.1.now) }
@@ -227,7 +246,18 @@ fn moved_text(text: &[u8]) -> Option<&[u8]>
     }
 }
 
-// The operation that the text says first, and what follows a space.
+// What follows `shut`, where the text is that alone: nothing.
+fn shut_text(text: &[u8]) -> Option<&[u8]>
+    ensures some { IfSome result (λ rest. (text.now ≡ codes "shut") × (rest.now ≡ [])) }
+    ensures none { IfNone result (¬ (text.now ≡ codes "shut")) }
+{
+    match text {
+        b"shut" => Some(&text[4..]),
+        _ => None,
+    }
+}
+
+// The operation that the text says first, and what follows a space; after a shut follows nothing.
 fn read_operation(text: &[u8]) -> Option<(Named, &[u8])>
     ensures some { IfSome result (λ found.
         (o : OperationSeen) × SaysFirst text.now o found.1.now × HasOperation found.0 o) }
@@ -240,6 +270,9 @@ fn read_operation(text: &[u8]) -> Option<(Named, &[u8])>
     if let Some(numbers) = moved_text(text) {
         let (ticket, priority, rest) = lead_both(numbers)?;
         return Some((Named::Move(ticket, priority), rest));
+    }
+    if let Some(rest) = shut_text(text) {
+        return Some((Named::Shut, rest));
     }
     let (kind, parts, rest) = read_request(text)?;
     Some((Named::Asked(kind, parts), rest))
@@ -264,7 +297,7 @@ fn read_shape(text: &[u8]) -> Option<Shape>
 {
     let (number, place, serial, operation_on) = lead_all(text)?;
     let (named, reply_on) = read_operation(operation_on)?;
-    let (outcome, told) = read_reply(reply_on)?;
+    let (outcome, told) = read_told(named, reply_on)?;
     Some(Shape {
         number,
         place,
@@ -354,16 +387,20 @@ fn operation_of<P: Part>(named: Named) -> Option<Operation<P>>
             let priority = priority_of(to)?;
             Some(Operation::reschedule(ticket, priority))
         }
+        Named::Shut => Some(Operation::shut()),
     }
 }
 
-// The kind of the request to which the queue replies as to this operation: to a removal and to a move as to a pop.
-fn reply_kind(named: Named) -> Kind
-    ensures { (o : OperationSeen) → HasOperation named o → kind_of (request_of o) ≡ result }
+// Whether this operation may have a reply with this outcome: a removal and a move have those of a pop, and a shut takes
+// nothing out.
+fn may_reply_to(named: Named, outcome: Outcome) -> bool
+    ensures { (o : OperationSeen) (reply : Reply) → HasOperation named o → outcome_of reply ≡ outcome
+        → IsTrue result ↔ MayReplyTo o reply }
 {
     match named {
-        Named::Asked(kind, _) => kind,
-        Named::Remove(_) | Named::Move(_, _) => Kind::Pop,
+        Named::Asked(kind, _) => may_reply(kind, outcome),
+        Named::Remove(_) | Named::Move(_, _) => may_reply(Kind::Pop, outcome),
+        Named::Shut => outcome == Outcome::Empty,
     }
 }
 
@@ -397,7 +434,7 @@ pub struct NumberedLine<P: Part = u32> {
 }
 
 /// The journal line that a text without its line feed spells, with its number: number, place,
-/// serial, operation and reply, with one space between. Numbers are one or more decimal digits;
+/// serial, operation and reply, with one space between; a shut has no reply. Numbers are one or more decimal digits;
 /// leading zeros are read, a sign, a further space or a capital letter isn't. Those of items, and the new priority of a move, are
 /// in the range of their width; a ticket has 64 bits.
 pub fn read_line<P: Part>(text: &[u8]) -> Result<NumberedLine<P>, LineError>
@@ -413,7 +450,7 @@ pub fn read_line<P: Part>(text: &[u8]) -> Result<NumberedLine<P>, LineError>
     let Some(found) = line_in_range(&shape) else {
         return Err(LineError::OutOfRange);
     };
-    if !may_reply(reply_kind(shape.named), shape.outcome) {
+    if !may_reply_to(shape.named, shape.outcome) {
         return Err(LineError::NoSuchReply);
     }
     Ok(found)

@@ -22,6 +22,10 @@ pub enum Breach {
         serial: u64,
         last: u64,
     },
+    /// It is a push, and the queue is shut; or another shut.
+    BehindShut {
+        again: bool,
+    },
     /// Its reply to a request isn't the one that the queue of one thread gives there. Either is told as one of wide
     /// items, whatever the width of the journal's.
     WrongReply {
@@ -82,6 +86,8 @@ impl fmt::Display for Breach {
                 serial,
                 last,
             } => write!(f, "serial {serial} of place {place} behind {last}"),
+            Breach::BehindShut { again: false } => write!(f, "pushed where the queue was shut"),
+            Breach::BehindShut { again: true } => write!(f, "shut where the queue was shut"),
             Breach::WrongReply { told, due } => {
                 write_reply(*told, f)?;
                 match due {

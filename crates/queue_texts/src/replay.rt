@@ -1,17 +1,19 @@
 // A replay: each text is read as a journal line, and what it did is carried out on a Book.
-ghost use Rattle.std.specs.Prelude.{◌≡◌, ◌+◌, ◌<◌, ◌++◌, ◌∷◌, ◌==◌, [], length, IfOk, IfErr, IfSome, IfNone, OnOk, OnErr, IsSome};
+ghost use Rattle.std.specs.Prelude.{◌≡◌, ◌+◌, ◌<◌, ◌++◌, ◌∷◌, ◌==◌, [], length, true, IfOk, IfErr, IfSome, IfNone, OnOk, OnErr, IsSome, IsTrue, IsFalse};
 ghost use Rattle.pq_types.specs.Entry.{item_at, taken, reply_by};
-ghost use Rattle.pq_types.specs.History.{entries_of, last_serial, PutsIn};
+ghost use Rattle.pq_types.specs.History.{entries_of, last_serial, journal_by, is_shut, EndsAtShut, IsHeard, MayDo, PutsIn};
+ghost use Rattle.pq_book.specs.Book.{limits_of, KeepsTerms};
 ghost use Rattle.pq_types.specs.declared.journal.TheConstants.{GREATEST_NUMBER};
 ghost use Rattle.queue_texts.specs.Audit.{Breaks, IsLawful, breach_by};
-ghost use Rattle.queue_texts.specs.Replay.{AreLastSerials, Follows, IsCarriedOut, IsReplayed, Leaves, MayFollow, RefusesText, TakesText};
+ghost use Rattle.queue_texts.specs.LineText.{HasReplyOfItsKind};
+ghost use Rattle.queue_texts.specs.Replay.{AreLastSerials, Follows, IsReplayed, Leaves, MayFollow, RefusesText, TakesText};
 
 use crate::line_reading::{NumberedLine, read_line};
 use crate::owned::Owned;
 use crate::refusal::{Breach, Unlawful, widened};
 use leftist_heap::TicketStore;
 use pq_book::{Book, Entry};
-use pq_types::laws::law_one_more_line;
+use pq_types::laws::{law_one_more_line, law_shut};
 use pq_types::{
     Answer, Done, GREATEST_NUMBER, Item, Line, Operation, Part, Reply, Request, Ticketed,
 };
@@ -40,9 +42,9 @@ pub(crate) struct PlayedLine<P: Part> {
     pub is_new_place: bool,
 }
 
-/// A journal that is read back from its text: what the lines so far did was carried out on an empty queue, removals and moves too. A contract
-/// sees them all as a journal, which is a lawful one. Memory has the items that they leave, the last 65,536 lines, and one serial for
-/// each of 65,536 places.
+/// A journal that is read back from its text: what the lines so far did was carried out on an empty queue, removals, moves and
+/// a shut too. A contract sees them all as a journal, which is a lawful one. Memory has the items that they leave, the last
+/// 65,536 lines, and one serial for each of 65,536 places.
 #[derive(Drop)]
 pub struct Replay<S: TicketStore<Entry<P>>, A: Allocator, P: Part = u32> {
     book: Owned<Book<S, A, P>>,
@@ -56,7 +58,7 @@ impl<S: TicketStore<Entry<P>>, A: Allocator, P: Part> Model for Replay<S, A, P> 
 
     ghost view = { λ r. record { journal = r.book.value.journal } };
 
-    ghost invariant = { λ r. IsReplayed r.book.value.room r.book.value.journal r.last.items };
+    ghost invariant = { λ r. IsReplayed r.book.value r.last.items };
 }
 
 // The reply that the queue of one thread gives to the use of this ticket, behind the lines of the book.
@@ -85,6 +87,7 @@ fn due_reply<S: TicketStore<Entry<P>>, A: Allocator, P: Part>(
         (Done::Least, Some(first)) => Reply::Least(first),
         (Done::Pop | Done::Least, None) => Reply::Empty,
         (Done::Remove(ticket) | Done::Move(_, ticket), _) => due_by_ticket(book, *ticket),
+        (Done::Shut, _) => Reply::Empty,
     }
 }
 
@@ -106,13 +109,44 @@ fn wrong_reply<P: Part>(line: &Line<P>, due: Reply<Item<P>>) -> Breach
     }
 }
 
+// Whether a shut refuses the operation behind the lines of the book.
+fn is_barred<S: TicketStore<Entry<P>>, A: Allocator, P: Part>(
+    book: &Book<S, A, P>,
+    operation: &Operation<P>,
+) -> bool
+    ensures barred { IsTrue result → EndsAtShut operation.now × (is_shut book.now.journal ≡ true) }
+    ensures heard { IsFalse result → IsHeard book.now.journal operation.now }
+{
+    book.is_shut() && operation.ends_at_shut()
+}
+
+// How the line breaks the law by its reply, where nothing else about it does.
+fn reply_breach<S: TicketStore<Entry<P>>, A: Allocator, P: Part>(
+    book: &Book<S, A, P>,
+    found: &NumberedLine<P>,
+) -> Option<Breach>
+    requires kind { HasReplyOfItsKind found.now.line }
+    requires due { found.now.number ≡ length book.now.journal + 1 }
+    requires serial { last_serial found.now.line.place book.now.journal < found.now.line.serial }
+    ensures some { IfSome result (λ breach. Breaks book.now.journal found.now.number found.now.line breach) }
+    ensures none { IfNone result (found.now.line.reply ≡ reply_by (entries_of book.now.journal) found.now.line.operation) }
+{
+    let line = &found.line;
+    let reply = due_reply(book, &line.operation);
+    if line.reply != reply {
+        return Some(wrong_reply(line, reply));
+    }
+    None
+}
+
 // How the line breaks the law behind the lines of the book.
 fn breach_of<S: TicketStore<Entry<P>>, A: Allocator, P: Part>(
     book: &Book<S, A, P>,
     last: &[u64],
     found: &NumberedLine<P>,
 ) -> Option<Breach>
-    requires { AreLastSerials last.now book.now.journal }
+    requires serials { AreLastSerials last.now book.now.journal }
+    requires kind { HasReplyOfItsKind found.now.line }
     ensures some { IfSome result (λ breach. Breaks book.now.journal found.now.number found.now.line breach) }
     ensures none { IfNone result (Follows book.now.journal found.now.number found.now.line) }
 {
@@ -132,25 +166,28 @@ fn breach_of<S: TicketStore<Entry<P>>, A: Allocator, P: Part>(
             last: before,
         });
     }
-    let reply = due_reply(book, &line.operation);
-    if line.reply != reply {
-        return Some(wrong_reply(line, reply));
+    if is_barred(book, &line.operation) {
+        return Some(Breach::BehindShut {
+            again: matches!(&line.operation.done, Done::Shut),
+        });
     }
-    None
+    reply_breach(book, found)
 }
 
-// Carries out what the line did, for its place and under its serial.
+// Carries out what a line did, for its place and under its serial.
 fn carried_out<S: TicketStore<Entry<P>>, A: Allocator, P: Part>(
     book: &mut Book<S, A, P>,
-    line: &Line<P>,
+    place: u16,
+    serial: u64,
+    operation: &Operation<P>,
 ) -> Answer<Item<P>>
-    requires { last_serial line.now.place book.old.journal < line.now.serial }
-    ensures answer { IsCarriedOut book.old.room book.old.journal line.now result book.new.journal }
-    ensures room { book.new.room ≡ book.old.room }
+    requires { last_serial place book.old.journal < serial }
+    ensures answer { MayDo (limits_of book.old) book.old.journal operation.now result }
+    ensures journal { book.new.journal ≡ journal_by book.old.journal place serial operation.now result }
+    ensures terms { KeepsTerms book.old book.new }
+    ensures allowed { book.new.allowed ≡ book.old.allowed }
 {
-    let place = line.place;
-    let serial = line.serial;
-    match &line.operation.done {
+    match &operation.done {
         Done::Push(item) => book.apply(place, serial, Request::Push(*item)),
         Done::Pop => book.apply(place, serial, Request::Pop),
         Done::Least => book.apply(place, serial, Request::Least),
@@ -158,6 +195,7 @@ fn carried_out<S: TicketStore<Entry<P>>, A: Allocator, P: Part>(
         Done::Move(priority, ticket) => {
             book.apply_by_ticket(place, serial, Ticketed::reschedule(*ticket, *priority))
         }
+        Done::Shut => book.apply_shut(place, serial),
     }
 }
 
@@ -167,18 +205,19 @@ fn entered<S: TicketStore<Entry<P>>, A: Allocator, P: Part>(
     last: &mut Vec<u64, A>,
     line: &Line<P>,
 ) -> Result<(), AllocError>
-    requires kept { IsReplayed book.old.room book.old.journal last.old.items }
+    requires kept { IsReplayed book.old last.old.items }
     requires next { Follows book.old.journal (length book.old.journal + 1) line.now }
     requires room { length book.old.journal < GREATEST_NUMBER }
-    ensures kept { IsReplayed book.new.room book.new.journal last.new.items }
+    ensures kept { IsReplayed book.new last.new.items }
     ensures ok { OnOk result (book.new.journal ≡ book.old.journal ++ line.now ∷ []) }
     ensures err { OnErr result (book.new.journal ≡ book.old.journal) }
     ensures refused { OnErr result (PutsIn line.now.operation) }
 {
     law_one_more_line();
-    match carried_out(book, line) {
+    law_shut();
+    match carried_out(book, line.place, line.serial, &line.operation) {
         Answer::Entered(_, _) => {}
-        Answer::BookFull => unreachable!(),
+        Answer::BookFull | Answer::Refused(_) => unreachable!(),
         Answer::NoMemory => return Err(AllocError),
     }
     last[usize::from(line.place)] = line.serial;
@@ -191,8 +230,8 @@ fn played<S: TicketStore<Entry<P>>, A: Allocator, P: Part>(
     last: &mut Vec<u64, A>,
     text: &[u8],
 ) -> Result<PlayedLine<P>, ReplayError>
-    requires { IsReplayed book.old.room book.old.journal last.old.items }
-    ensures kept { IsReplayed book.new.room book.new.journal last.new.items }
+    requires { IsReplayed book.old last.old.items }
+    ensures kept { IsReplayed book.new last.new.items }
     ensures ok { IfOk result (λ played. MayFollow P.wide book.old.journal text.now played.line
         × (book.new.journal ≡ book.old.journal ++ played.line ∷ [])
         × (played.is_new_place ≡ (last_serial played.line.place book.old.journal == 0))) }
@@ -238,7 +277,7 @@ impl<S: TicketStore<Entry<P>>, A: Allocator, P: Part> Replay<S, A, P> {
     /// Reads a text without its line feed as the line that comes next, and carries out what it did. The journal gains that line,
     /// and stays a lawful one; where the text is refused, it is as it was. `Unlawful` says why the text is no line that may
     /// come next: no line; or one whose number isn't due, whose serial isn't above the last of its place, or whose reply isn't that of
-    /// the queue of one thread. `NoMemory` refuses one that may, a push or a move.
+    /// the queue of one thread; or a push, or another shut, where the queue is shut. `NoMemory` refuses one that may, a push or a move.
     pub fn play_line(&mut self, text: &[u8]) -> Result<(), ReplayError>
         ensures ok { OnOk result (TakesText P.wide self.old.journal text.now self.new.journal) }
         ensures err { IfErr result (λ error. RefusesText P.wide self.old.journal text.now error) }

@@ -1,9 +1,9 @@
 // `flatpq seq`: commands to a queue of one thread, answered with their journal lines.
-ghost use Rattle.std.specs.Prelude.{◌≡◌, ℕ, ◌≤◌, length, List, [], Some, Ok, IfOk};
+ghost use Rattle.std.specs.Prelude.{◌≡◌, ℕ, List, [], Some, Ok, IfOk};
+ghost use Rattle.std.proofs.Props.{props};
 ghost use Rattle.std.specs.Io.KnownBytes.{Appends};
-ghost use Rattle.pq_types.specs.History.{last_serial};
-ghost use Rattle.pq_book.specs.Book.{IsLongRoom};
-ghost use Rattle.queue_texts.specs.SeqText.{SeqWrites};
+ghost use Rattle.pq_book.specs.Book.{IsLongRoom, IsPlain};
+ghost use Rattle.queue_texts.specs.SeqText.{SeqWrites, TakesCommands};
 
 use crate::answer_text::write_answer;
 use crate::command::read_command;
@@ -13,7 +13,7 @@ use leftist_heap::{AnyStore, Store, StoreKind};
 use line_script::{LONGEST_LINE, Player, RunError, play_script};
 use pq_book::{Book, Entry};
 use pq_types::Part;
-use pq_types::laws::law_one_more_line;
+use pq_types::laws::{law_one_answer, law_one_more_line, law_shut};
 use std::alloc::{AllocError, Allocator};
 use std::io::{Read, Write};
 
@@ -24,8 +24,7 @@ const PLACE: u16 = 0;
 #[derive(Drop)]
 struct Commands<S: Store<Entry<P>>, A: Allocator, P: Part = u32> {
     book: Owned<Book<S, A, P>>,
-    // The next line's number is a serial that the journal doesn't have yet.
-    ghost numbered: { last_serial 0 book.value.journal ≤ length book.value.journal },
+    ghost ready: { TakesCommands book.value } by { Prim.hlevel props },
 }
 
 impl<S: Store<Entry<P>>, A: Allocator, P: Part> Player for Commands<S, A, P> {
@@ -54,6 +53,8 @@ impl<S: Store<Entry<P>>, A: Allocator, P: Part> Player for Commands<S, A, P> {
         out: &mut Vec<u8, B>,
     ) -> Result<(), RunError<Refusal>> {
         law_one_more_line();
+        law_shut();
+        law_one_answer();
         let request = match read_command::<P>(line) {
             Ok(request) => request,
             Err(error) => {
@@ -83,7 +84,8 @@ fn empty_book<A: Allocator + Clone, P: Part>(
     kind: StoreKind,
 ) -> Result<Book<AnyStore<Entry<P>, A>, A, P>, AllocError>
     requires { IsLongRoom lines }
-    ensures { IfOk result (λ book. (book.room ≡ lines) × (book.journal ≡ [])) }
+    ensures ok { IfOk result (λ book. (book.room ≡ lines) × (book.journal ≡ [])) }
+    ensures plain { IfOk result IsPlain }
 {
     let store = AnyStore::new(alloc.clone()?, kind);
     match Book::lasting(alloc.clone()?, store, lines) {

@@ -34,7 +34,7 @@ pub const NOTHING: JournalSums = JournalSums {
 
 impl JournalSums {
     /// Counts an operation and its reply, and its place, if it is a new one. A move that found its item is no push and no pop: it
-    /// takes a priority out and puts another in.
+    /// takes a priority out and puts another in. A shut is neither.
     pub(crate) fn count<P: Part>(
         &mut self,
         new_place: bool,

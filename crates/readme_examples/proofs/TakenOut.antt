@@ -11,7 +11,7 @@ use Rattle.desk_core.specs.declared.model.Call.{Call}
 use Rattle.flat_queue.specs.Members.{Joined}
 use Rattle.flat_queue.specs.Calling.{IsCalled, IsRefused, popped}
 use Rattle.flat_queue.specs.declared.error.CallError.{CallError}
-use Rattle.flat_queue.specs.declared.error.CallError.TheVariants.{NoMemory, BookFull, Spent, GaveUp}
+use Rattle.flat_queue.specs.declared.error.CallError.TheVariants.{NoMemory, BookFull, Refused, Spent, GaveUp}
 use Rattle.readme_examples.specs.Workers.{handed_over, taken_out}
 
 -- one call more adds what its reply hands over
@@ -41,5 +41,6 @@ pub after_refusal : (m m' : Joined) (request : Request) (error : CallError) → 
     → taken_out m'.pen.mine ≡ taken_out m.pen.mine
 after_refusal m m' request NoMemory h = ap taken_out h.1.mine
 after_refusal m m' request BookFull h = ap taken_out h.mine
+after_refusal m m' request (Refused why) h = ap taken_out h.1.mine
 after_refusal m m' request Spent h = ap (λ (j : Joined). taken_out j.pen.mine) h.1
 after_refusal m m' request GaveUp h = absurd h.0

@@ -3,13 +3,14 @@ use Rattle.std.specs.Prelude.{◌≡◌, ℕ, if◌then◌else◌, nat_le}
 use Rattle.pq_types.specs.Item.{Item}
 use Rattle.pq_types.specs.declared.answer.Reply.TheVariants.{Got}
 use Rattle.pq_types.specs.Asked.{Answer}
-use Rattle.pq_types.specs.declared.answer.Answer.TheVariants.{Entered, BookFull, NoMemory}
+use Rattle.pq_types.specs.declared.answer.Answer.TheVariants.{Entered, BookFull, NoMemory, Refused}
 
 -- the request has a line in the journal
 abbrev pub IsEntered : Answer → Type 0
 IsEntered (Entered number reply) = Unit {0}
 IsEntered BookFull = ⊥
 IsEntered NoMemory = ⊥
+IsEntered (Refused why) = ⊥
 
 -- the event of the two that comes first: the earlier one, and of two at the same time the one put
 -- in first

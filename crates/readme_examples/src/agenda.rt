@@ -1,14 +1,16 @@
 // A Book for one thread alone, of which contracts see what it holds.
 ghost use Rattle.std.specs.Prelude.{◌≡◌, ◌+◌, ◌<◌, ◌≤◌, ◌↔◌, [], length, IfOk, IfErr, OnErr, IsErrOf};
 ghost use Rattle.leftist_heap.specs.Store.{first_of, rest_of};
-ghost use Rattle.pq_types.specs.History.{left, last_serial, MayAnswer};
+ghost use Rattle.pq_types.specs.History.{left};
+ghost use Rattle.pq_types.specs.Laws.{MayDoPlainly};
+ghost use Rattle.pq_types.specs.Operation.{Asked};
 ghost use Rattle.pq_types.specs.Queue.{IsAscending, with_item};
 ghost use Rattle.pq_book.specs.Book.{IsRoom};
-ghost use Rattle.readme_examples.specs.Agenda.{Leaves};
+ghost use Rattle.readme_examples.specs.Agenda.{IsOpen, Leaves};
 
 use leftist_heap::Leftist;
 use pq_book::{Book, BookError, Entry};
-use pq_types::laws::law_one_more_line;
+use pq_types::laws::{law_one_answer, law_one_more_line, law_shut};
 use pq_types::{Answer, Item, Reply, Request};
 use std::alloc::{AllocFailed, Global};
 use std::marker::Model;
@@ -52,15 +54,15 @@ pub struct Agenda {
 }
 
 impl Model for Agenda {
-    ghost use Rattle.std.specs.Prelude.{◌≤◌, length};
-    ghost use Rattle.pq_types.specs.History.{left, last_serial};
-    ghost use Rattle.readme_examples.specs.Agenda.{Held};
+    ghost use Rattle.std.specs.Prelude.{length};
+    ghost use Rattle.pq_types.specs.History.{left};
+    ghost use Rattle.readme_examples.specs.Agenda.{Held, IsOpen};
 
     ghost Value = { Held };
 
     ghost view = { λ a. record { items = left a.book.journal; lines = length a.book.journal; room = a.book.room } };
 
-    ghost invariant = { λ a. last_serial 0 a.book.journal ≤ length a.book.journal };
+    ghost invariant = { λ a. IsOpen a.book };
 }
 
 impl Agenda {
@@ -90,6 +92,7 @@ impl Agenda {
             Answer::Entered(_, _) => Ok(()),
             Answer::BookFull => Err(Refused::BookFull),
             Answer::NoMemory => Err(Refused::NoMemory),
+            Answer::Refused(_) => unreachable!(),
         }
     }
 
@@ -103,9 +106,12 @@ impl Agenda {
     {
         law_one_more_line();
         match ask(&mut self.book, Request::Pop) {
-            Answer::Entered(_, Reply::Got(item)) => Ok(Some(item)),
-            Answer::Entered(_, _) => Ok(None),
-            Answer::BookFull | Answer::NoMemory => Err(Refused::BookFull),
+            Answer::Entered(_, reply) => match reply {
+                Reply::Got(item) => Ok(Some(item)),
+                _ => Ok(None),
+            },
+            Answer::BookFull => Err(Refused::BookFull),
+            Answer::NoMemory | Answer::Refused(_) => unreachable!(),
         }
     }
 
@@ -119,13 +125,15 @@ impl Agenda {
 
 // Has the Book carry a request out, under the number of the next line as its serial.
 fn ask(book: &mut Book<Heap, Global>, request: Request) -> Answer
-    requires { last_serial 0 book.old.journal ≤ length book.old.journal }
-    ensures answer { MayAnswer book.old.room book.old.journal request result }
+    requires { IsOpen book.old }
+    ensures answer { MayDoPlainly book.old.room book.old.journal (Asked request) result }
     ensures lines { Leaves book.old.journal request result book.new.journal }
     ensures room { book.new.room ≡ book.old.room }
-    ensures numbered { last_serial 0 book.new.journal ≤ length book.new.journal }
+    ensures open { IsOpen book.new }
 {
     law_one_more_line();
+    law_one_answer();
+    law_shut();
     let serial = book.len() + 1;
     book.apply(0, serial, request)
 }

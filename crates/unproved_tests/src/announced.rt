@@ -1,10 +1,9 @@
-// What is announced before it is looked for: a take itself before it looks once more, and a post of a push before it asks whether
-// the queue is shut. Two threads tell the one order from the other.
+// A take is announced before it looks once more: two threads tell that order from the other.
 use crate::common::{Heap, PATIENCE, wait_for};
-use flat_queue::{Awaited, Ending, EventCount, Handle, Newcomer, Queue};
+use flat_queue::{Awaited, Handle, Looked, Newcomer, Queue, Wanted};
 use leftist_heap::{Leftist, Store};
 use pq_book::Entry;
-use pq_types::{Item, Request};
+use pq_types::{Answer, Item};
 use std::alloc::Global;
 use std::process::Abort;
 use std::sync::Wait;
@@ -149,16 +148,13 @@ const EARLIEST: u32 = 40;
 #[derive(Clone, Copy, PartialEq)]
 enum Part {
     Shuts,
-    Posts,
     Waits,
 }
 
-// What two threads tell each other of many queues, one after another: to how many trials they have come, both together, and the
-// last in which a push was posted.
+// To how many trials two threads have come, both together, at many queues, one after another.
 #[derive(Drop)]
 struct Trials {
     came: AtomicU32,
-    posted: AtomicU32,
 }
 
 impl Trials {
@@ -178,55 +174,50 @@ impl Trials {
         }
     }
 
-    // Posts a push, as far as that is announced: whether it may.
-    fn posts(&self, trial: u32, later: u32, ending: &Ending) -> bool {
-        let push = Request::Push(ITEM);
-        self.come(trial, later);
-        if !ending.begin_post(&push) {
-            return false;
-        }
-        self.posted.store(trial, Ordering::SeqCst);
-        ending.end_post(&push);
-        true
-    }
-
-    // Shuts the queue, and waits until nobody is posting: whether a push was posted.
-    fn shuts(&self, trial: u32, waiters: &EventCount) -> bool {
+    // Shuts the queue: that it was open.
+    fn shuts(&self, trial: u32, queue: &Queue<Heap>, newcomer: Newcomer) -> bool {
+        let mut member = queue.join(newcomer);
         self.come(trial, EARLIEST + trial % 4);
-        waiters.shut();
         for _ in 0..PATIENCE {
-            if waiters.ending().is_quiet() {
-                break;
+            if let Some(answer) = queue.carry_out_shut(&mut member) {
+                return matches!(answer, Answer::Entered(_, _));
             }
         }
-        self.posted.load(Ordering::SeqCst) == trial
+        false
     }
 
-    // Begins a wait: whether it would sleep, as the queue was not shut, until an event is counted, which is the first.
-    fn waits(&self, trial: u32, later: u32, waiters: &EventCount) -> bool {
+    // Begins a wait, and looks: whether it would sleep, as the queue was open, until an event is counted, which is the first.
+    fn waits(&self, trial: u32, later: u32, queue: &Queue<Heap>, newcomer: Newcomer) -> bool {
+        let mut member = queue.join(newcomer);
         self.come(trial, later);
-        let seen = waiters.begin_wait();
-        !waiters.ending().is_shut() && seen == 0
+        let seen = queue.waiters().begin_wait();
+        for _ in 0..PATIENCE {
+            if let Some(looked) = queue.take_first(&mut member, Wanted::Anything) {
+                return looked == Looked::Nothing && seen == 0;
+            }
+        }
+        false
     }
 }
 
-// Plays its part at each queue: in which trials a push was posted, or it would sleep. Who was in time begins a little later in
-// the next trial, and who was not a little earlier, so that both are at it at once in most.
+// Plays its part at each queue: in which trials it shut the queue, or would sleep. Who was in time begins a little later in the
+// next trial, and who was not a little earlier, so that both are at it at once in most.
 fn played<R: Abort>(
     rt: &R,
     alloc: Global,
     queues: &[Queue<Heap>],
     trials: &Trials,
-    part: Part,
+    side: (Part, Vec<Newcomer>),
 ) -> Vec<bool> {
+    let (part, newcomers) = side;
     let mut told = Vec::new(alloc);
     let (mut trial, mut later) = (0, EARLIEST);
-    for queue in queues {
+    for newcomer in newcomers {
+        let queue = &queues[trial as usize];
         trial += 1;
         let is_so = match part {
-            Part::Shuts => trials.shuts(trial, queue.waiters()),
-            Part::Posts => trials.posts(trial, later, queue.waiters().ending()),
-            Part::Waits => trials.waits(trial, later, queue.waiters()),
+            Part::Shuts => trials.shuts(trial, queue, newcomer),
+            Part::Waits => trials.waits(trial, later, queue, newcomer),
         };
         later = if is_so {
             later + 1
@@ -238,61 +229,48 @@ fn played<R: Abort>(
     told
 }
 
-// No post, or no wait, is missed by one who shuts meanwhile.
-fn shut_beside<R: Abort + Threads + Sync>(rt: &R, alloc: Global, part: Part) {
+// No wait is missed by one who shuts meanwhile.
+fn shut_beside<R: Abort + Threads + Sync>(rt: &R, alloc: Global) {
     let mut queues = Vec::new(alloc);
+    let (mut shutting, mut waiting) = (Vec::new(alloc), Vec::new(alloc));
     for _ in 0..TRIALS {
-        let Ok((queue, newcomers)) = Queue::new(alloc, &[1], 1) else {
+        let Ok((queue, mut newcomers)) = Queue::new(alloc, &[1, 2], 1) else {
             panic!(rt; "there is such a queue")
         };
-        drop(newcomers);
+        for side in [&mut shutting, &mut waiting] {
+            let newcomer = newcomers.pop().expect(rt, "there is one");
+            side.push(newcomer).ok().expect(rt, "there is memory");
+        }
         queues.push(queue).ok().expect(rt, "there is memory");
     }
     let trials = Trials {
         came: AtomicU32::new(0),
-        posted: AtomicU32::new(0),
     };
     let mut sides = Vec::new(alloc);
-    for side in [Part::Shuts, part] {
+    for side in [(Part::Shuts, shutting), (Part::Waits, waiting)] {
         sides.push(side).ok().expect(rt, "there is memory");
     }
     let told = thread::map_vec(
         rt,
         sides,
-        &|side: Part| played(rt, alloc, queues.as_slice(), &trials, side),
+        &|side: (Part, Vec<Newcomer>)| played(rt, alloc, queues.as_slice(), &trials, side),
     );
     let Ok(told) = told else {
         panic!(rt; "there is memory")
     };
     for at in 0..queues.len() {
-        let is_found = if part == Part::Posts {
-            told[0][at]
-        } else {
-            queues[at].waiters().begin_wait() == 1
-        };
-        assert!(rt; is_found || !told[1][at]);
+        assert!(rt; told[0][at]);
+        assert!(rt; !told[1][at] || queues[at].waiters().begin_wait() == 1);
     }
     drop(told);
     drop(queues);
 }
 
-// Who has seen the queue shut, and then nobody posting, has all posts of pushes behind that. One that asked before it was
-// announced would be missed in some of many trials.
-#[test]
-fn a_post_is_announced_before_it_asks_whether_the_queue_is_shut(
-    rt: HostRuntime,
-) -> Result<(), Fail> {
-    for _ in 0..TIMES {
-        shut_beside(&rt, rt.alloc(), Part::Posts);
-    }
-    Ok(())
-}
-
-// Who is announced, and then sees the queue open, is counted by the shut that comes.
+// Who is announced, and then finds the queue open, is counted by the shut that comes.
 #[test]
 fn a_shut_counts_all_who_saw_the_queue_open(rt: HostRuntime) -> Result<(), Fail> {
     for _ in 0..TIMES {
-        shut_beside(&rt, rt.alloc(), Part::Waits);
+        shut_beside(&rt, rt.alloc());
     }
     Ok(())
 }

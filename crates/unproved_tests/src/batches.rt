@@ -3,8 +3,8 @@ use crate::common::{Heap, entered, item, opened, shared};
 use flat_queue::{Batch, CallError, Handle, Looked, MOST_BATCH, Member, Newcomer, Popped, Queue};
 use leftist_heap::{AnyStore, Store, StoreKind};
 use pq_book::Entry;
-use pq_types::{Item, Request};
-use queue_pool::{SharedHandle, TriedBatch, TriedPops};
+use pq_types::{Answer, Item, Refusal, Reply, Request};
+use queue_pool::{SharedHandle, Tried, TriedBatch, TriedPops};
 use std::alloc::Global;
 use std::process::Abort;
 use std::sync::{Arc, Wait};
@@ -17,6 +17,15 @@ fn whole(done: usize, first: u64) -> Batch {
         done,
         first,
         refused: None,
+    }
+}
+
+// Of a batch no push was entered, as the queue is shut; a line would have this number.
+fn shut_out(first: u64) -> Batch {
+    Batch {
+        done: 0,
+        first,
+        refused: Some(CallError::Refused(Refusal::Shut)),
     }
 }
 
@@ -183,14 +192,12 @@ fn tries<R: Abort + Wait>(
     assert!(rt; handle.try_pop_all_up_to(3, &mut slots) == popped(0, 3, Looked::Stays(item(4, 2))));
     assert!(rt; handle.try_pop_all_up_to(4, &mut slots) == popped(1, 3, Looked::Stays(item(5, 1))));
     assert!(rt; slots == [item(4, 2), item(0, 0)]);
-    queue.shut();
-    assert!(rt; handle.try_push_all(&two) == TriedBatch::Shut);
-    assert!(rt; handle.try_push_all(&[]) == TriedBatch::Done(whole(0, 4)));
-    assert!(rt; handle.try_pop_all_up_to(9, &mut slots) == popped(1, 4, Looked::Nothing));
-    assert!(rt; handle.try_pop_all_up_to(9, &mut slots) == popped(0, 5, Looked::Nothing));
-    assert!(rt; slots[0] == item(5, 1) && queue.waiters().ending().is_over());
-    // A handle's own batch doesn't heed the end, as its push doesn't.
-    assert!(rt; leader.push_all(rt, &two) == whole(2, 5));
+    assert!(rt; handle.try_shut() == Tried::Answered(Answer::Entered(4, Reply::Empty)));
+    assert!(rt; handle.try_push_all(&two) == TriedBatch::Done(shut_out(5)));
+    assert!(rt; handle.try_push_all(&[]) == TriedBatch::Done(whole(0, 5)));
+    assert!(rt; handle.try_pop_all_up_to(9, &mut slots) == popped(1, 5, Looked::Over));
+    assert!(rt; handle.try_pop_all_up_to(9, &mut slots) == popped(0, 6, Looked::Over));
+    assert!(rt; slots[0] == item(5, 1) && leader.push_all(rt, &two) == shut_out(6));
     drop(leader);
     assert!(rt; handle.post(Request::Pop).is_ok());
     assert!(rt; handle.try_push_all(&[]) == TriedBatch::Waits);

@@ -277,7 +277,7 @@ fn shuts_or_takes<R: Abort + Clock + Wait>(
     let mut handle = queue.enter(newcomer);
     if shuts {
         thread::sleep(rt, Duration::from_millis(ASLEEP));
-        queue.shut();
+        assert!(rt; handle.shut(rt).is_ok());
         return 0;
     }
     match handle.take_due_or_end(rt, times, None) {
@@ -292,7 +292,7 @@ fn who_waits_for_what_is_due_is_told_the_end(rt: HostRuntime) -> Result<(), Fail
     let (queue, mut newcomers) = opened(&rt, rt.alloc(), &[1, 2, 3, 4]);
     let mut handle = entered(&rt, &queue, &mut newcomers);
     let times = from_now(&rt);
-    assert!(&rt; handle.push_unless_shut(&rt, item(100, 1)) == Ok(1));
+    assert!(&rt; handle.push(&rt, item(100, 1)) == Ok(1));
     let went = thread::map_vec(
         &rt,
         newcomers,
@@ -301,17 +301,13 @@ fn who_waits_for_what_is_due_is_told_the_end(rt: HostRuntime) -> Result<(), Fail
     let Ok(went) = went else {
         panic!(&rt; "there is memory")
     };
-    assert!(&rt; went[0] + went[1] + went[2] == 11 && handle.settle() == Some(2));
+    assert!(&rt; went[0] + went[1] + went[2] == 11 && handle.settle() == Some(3));
     assert!(&rt; matches!(handle.take_due_or_end(&rt, times, None), Ok(None)));
-    // Where the deadline has come, this is told and not the end.
+    // The end is told too where the deadline has come before the look that finds it.
     let passed = Some(times.start);
-    assert!(&rt;
-        matches!(
-            handle.take_due_or_end(&rt, times, passed),
-            Ok(Some(Due::Nothing(_)))
-        )
-    );
-    assert!(&rt; handle.settle() == Some(2));
+    assert!(&rt; matches!(handle.take_due_or_end(&rt, times, passed), Ok(None)));
+    assert!(&rt; matches!(handle.take_due(&rt, times, passed), Ok(Due::Nothing(_))));
+    assert!(&rt; handle.settle() == Some(3));
     is_awaited_by_nobody(&rt, &queue);
     Ok(())
 }

@@ -1,9 +1,7 @@
-// The end of a queue for handles: pushes that heed it are refused, and takes that heed it are told once nothing is left.
+// The end of a queue: pushes are refused once it is shut, and takes that heed the end are told it once nothing is left.
 use crate::common::{Heap, PATIENCE, entered, item, opened};
-use flat_queue::{
-    Awaited, CallError, Due, Handle, Member, Newcomer, PushError, Queue, Shut, Times,
-};
-use pq_types::{Answer, Item, Request};
+use flat_queue::{Awaited, CallError, Due, Handle, Member, Newcomer, Queue, Times};
+use pq_types::{Answer, Item, Refusal, Reply, Request};
 use std::alloc::Global;
 use std::process::Abort;
 use std::sync::Wait;
@@ -26,64 +24,84 @@ fn is_awaited_by_nobody<R: Abort>(rt: &R, queue: &Queue<Heap>) {
 
 const FAR: u64 = 60_000;
 
+const SHUT: CallError = CallError::Refused(Refusal::Shut);
+
 #[test]
-fn a_push_that_heeds_the_end_is_refused_behind_it(rt: HostRuntime) -> Result<(), Fail> {
+fn a_push_is_refused_in_a_queue_that_is_shut(rt: HostRuntime) -> Result<(), Fail> {
     let (queue, mut newcomers) = opened(&rt, rt.alloc(), &[1]);
     let mut handle = entered(&rt, &queue, &mut newcomers);
-    assert!(&rt; handle.push_unless_shut(&rt, item(1, 1)) == Ok(1));
-    queue.shut();
-    let posts = handle.posts();
-    let Err(error) = handle.push_unless_shut(&rt, item(2, 2)) else {
+    assert!(&rt; handle.push(&rt, item(1, 1)) == Ok(1));
+    assert!(&rt; handle.shut(&rt) == Ok(2));
+    let Err(error) = handle.push(&rt, item(2, 2)) else {
         panic!(&rt; "the queue is shut")
     };
-    assert!(&rt; error == PushError::Shut(Shut) && error.code() == 51);
-    assert!(&rt; handle.posts() == posts && handle.settle() == Some(1));
-    // One that doesn't heed it pushes on.
-    assert!(&rt; handle.push(&rt, item(3, 3)) == Ok(2));
-    assert!(&rt; queue.waiters().ending().is_over());
+    assert!(&rt; error == SHUT && error.code() == 51);
+    assert!(&rt; handle.call(&rt, Request::Push(item(2, 2))) == Err(SHUT));
+    assert!(&rt; handle.shut(&rt) == Err(SHUT) && handle.settle() == Some(2));
+    assert!(&rt; handle.least(&rt) == Ok((3, Some(item(1, 1)))));
     Ok(())
 }
 
 #[test]
-fn a_push_that_heeds_the_end_is_refused_as_others(rt: HostRuntime) -> Result<(), Fail> {
+fn a_shut_is_refused_where_the_journal_is_full(rt: HostRuntime) -> Result<(), Fail> {
     let Ok((queue, mut newcomers)) = Queue::new(rt.alloc(), &[1], 1) else {
         panic!(&rt; "there is such a queue")
     };
     let mut handle = entered(&rt, &queue, &mut newcomers);
-    assert!(&rt; handle.push_unless_shut(&rt, item(1, 1)) == Ok(1));
-    let Err(error) = handle.push_unless_shut(&rt, item(2, 2)) else {
-        panic!(&rt; "the journal is full")
-    };
-    assert!(&rt; error == PushError::Call(CallError::BookFull) && error.code() == 10);
-    assert!(&rt; queue.waiters().ending().is_quiet());
-    queue.shut();
+    assert!(&rt; handle.push(&rt, item(1, 1)) == Ok(1));
+    assert!(&rt; handle.shut(&rt) == Err(CallError::BookFull));
     assert!(&rt; handle.take_or_end(&rt) == Err(CallError::BookFull));
     Ok(())
 }
 
-// The end is told behind one pop in vain, which has a line, and a look in vain, which has none.
+// It serves what was posted, and is carried out behind that. A push that is posted thereafter is refused. The end is told behind
+// one pop in vain, which has a line, and a look, which has none.
 #[test]
 fn a_take_gets_what_is_left_and_then_the_end(rt: HostRuntime) -> Result<(), Fail> {
     let (queue, mut newcomers) = opened(&rt, rt.alloc(), &[1, 2]);
     let mut handle = entered(&rt, &queue, &mut newcomers);
     let mut other = queue.join(newcomers.pop().expect(&rt, "there is one"));
-    assert!(&rt; handle.push_unless_shut(&rt, item(7, 1)) == Ok(1));
-    assert!(&rt; handle.push_unless_shut(&rt, item(5, 2)) == Ok(2));
-    // This stands in its record.
+    assert!(&rt; handle.push(&rt, item(7, 1)) == Ok(1) && handle.push(&rt, item(5, 2)) == Ok(2));
     queue.post(&mut other, Request::Push(item(9, 3)));
-    queue.shut();
-    assert!(&rt; handle.take_or_end(&rt) == Ok(Some((4, item(5, 2)))));
+    assert!(&rt; handle.shut(&rt) == Ok(4));
+    assert!(&rt; queue.look(&mut other) == Some(Answer::Entered(3, Reply::Pushed)));
+    queue.post(&mut other, Request::Push(item(1, 4)));
+    assert!(&rt; handle.take_or_end(&rt) == Ok(Some((5, item(5, 2)))));
+    assert!(&rt; queue.look(&mut other) == Some(Answer::Refused(Refusal::Shut.padded())));
     let taken = handle.take_until_or_end(&rt, from_now(&rt, FAR));
-    assert!(&rt; matches!(taken, Ok(Some(Awaited::Taken(5, found))) if found == item(7, 1)));
-    assert!(&rt; handle.take_or_end(&rt) == Ok(Some((6, item(9, 3)))));
-    assert!(&rt; handle.take_or_end(&rt) == Ok(None) && handle.settle() == Some(7));
+    assert!(&rt; matches!(taken, Ok(Some(Awaited::Taken(6, found))) if found == item(7, 1)));
+    assert!(&rt; handle.take_or_end(&rt) == Ok(Some((7, item(9, 3)))));
+    assert!(&rt; handle.take_or_end(&rt) == Ok(None) && handle.settle() == Some(8));
     assert!(&rt; matches!(handle.take_until_or_end(&rt, from_now(&rt, FAR)), Ok(None)));
-    assert!(&rt; handle.settle() == Some(8));
-    // Where the deadline has passed, that is told behind the pop.
+    assert!(&rt; handle.settle() == Some(9));
+    // Where the deadline came before the look, that is told behind the pop.
     let now = from_now(&rt, 0);
     assert!(&rt;
-        matches!(handle.take_until_or_end(&rt, now), Ok(Some(Awaited::Late(9, told))) if told >= now)
+        matches!(handle.take_until_or_end(&rt, now), Ok(Some(Awaited::Late(10, told))) if told >= now)
     );
+    is_awaited_by_nobody(&rt, &queue);
+    Ok(())
+}
+
+// A queue that is open has no end, and one that is shut is none to a call that heeds no end.
+#[test]
+fn a_take_that_heeds_no_end_waits_on(rt: HostRuntime) -> Result<(), Fail> {
+    let (queue, mut newcomers) = opened(&rt, rt.alloc(), &[1]);
+    let mut handle = entered(&rt, &queue, &mut newcomers);
+    let deadline = from_now(&rt, 30);
+    let late = handle.take_until_or_end(&rt, deadline);
+    assert!(&rt; matches!(late, Ok(Some(Awaited::Late(1, told))) if told >= deadline));
+    assert!(&rt; handle.shut(&rt) == Ok(2));
+    let deadline = from_now(&rt, 30);
+    let late = handle.take_until(&rt, deadline);
+    assert!(&rt; matches!(late, Ok(Awaited::Late(3, told)) if told >= deadline));
+    let deadline = from_now(&rt, 30);
+    let times = Times {
+        start: deadline,
+        unit: 0,
+    };
+    let late = handle.take_due(&rt, times, Some(deadline));
+    assert!(&rt; matches!(late, Ok(Due::Nothing(told)) if told >= deadline));
     is_awaited_by_nobody(&rt, &queue);
     Ok(())
 }
@@ -97,37 +115,14 @@ fn a_wide_queue_has_an_end(rt: HostRuntime) -> Result<(), Fail> {
     };
     let (queue, mut newcomers) = Queue::wide(rt.alloc(), &[4], 8)?;
     let mut handle = queue.enter(newcomers.pop().expect(&rt, "there is one"));
-    assert!(&rt; handle.push_unless_shut(&rt, WIDE) == Ok(1));
-    assert!(&rt; handle.push_unless_shut(&rt, WIDE) == Ok(2));
-    queue.shut();
-    assert!(&rt; handle.push_unless_shut(&rt, WIDE) == Err(PushError::Shut(Shut)));
-    assert!(&rt; handle.take_or_end(&rt) == Ok(Some((3, WIDE))));
+    assert!(&rt; handle.push(&rt, WIDE) == Ok(1) && handle.push(&rt, WIDE) == Ok(2));
+    assert!(&rt; handle.shut(&rt) == Ok(3) && handle.push(&rt, WIDE) == Err(SHUT));
+    assert!(&rt; handle.take_or_end(&rt) == Ok(Some((4, WIDE))));
     let taken = handle.take_until_or_end(&rt, from_now(&rt, FAR));
-    assert!(&rt; matches!(taken, Ok(Some(Awaited::Taken(4, found))) if found == WIDE));
-    assert!(&rt; handle.take_or_end(&rt) == Ok(None) && handle.settle() == Some(5));
+    assert!(&rt; matches!(taken, Ok(Some(Awaited::Taken(5, found))) if found == WIDE));
+    assert!(&rt; handle.take_or_end(&rt) == Ok(None) && handle.settle() == Some(6));
     drop(handle);
     drop(queue);
-    Ok(())
-}
-
-// While somebody is posting a push it isn't the end, and a take naps; its pop has a line, and its looks have none.
-#[test]
-fn a_take_waits_for_who_is_posting(rt: HostRuntime) -> Result<(), Fail> {
-    let (queue, mut newcomers) = opened(&rt, rt.alloc(), &[1]);
-    let mut handle = entered(&rt, &queue, &mut newcomers);
-    let push: Request = Request::Push(item(1, 1));
-    let ending = queue.waiters().ending();
-    assert!(&rt; ending.begin_post(&push));
-    queue.shut();
-    assert!(&rt; !ending.is_over());
-    let deadline = from_now(&rt, 30);
-    let taken = handle.take_until_or_end(&rt, deadline);
-    assert!(&rt; matches!(taken, Ok(Some(Awaited::Late(1, told))) if told >= deadline));
-    ending.end_post(&push);
-    assert!(&rt;
-        ending.is_over() && handle.take_or_end(&rt) == Ok(None) && handle.settle() == Some(2)
-    );
-    is_awaited_by_nobody(&rt, &queue);
     Ok(())
 }
 
@@ -145,8 +140,7 @@ fn shuts_or_takes<R: Abort + Clock + CpuClock + Wait>(
     let mut handle = queue.enter(newcomer);
     if id == 1 {
         thread::sleep(rt, Duration::from_millis(ASLEEP));
-        queue.shut();
-        return true;
+        return handle.shut(rt).is_ok();
     }
     let deadline = from_now(rt, FAR);
     let before = rt.thread_cpu_time().expect(rt, "there is a clock");
@@ -218,10 +212,10 @@ fn pushes_and_shuts_or_takes<R: Abort + Clock + Wait>(
     }
     let mut member = queue.join(newcomer);
     thread::sleep(rt, Duration::from_millis(ASLEEP));
-    let told = queue.carry_out_unless_shut(&mut member, Request::Push(item(1, 1)));
-    queue.shut();
+    let pushed = queue.carry_out(&mut member, Request::Push(item(1, 1)));
+    let shut = queue.carry_out_shut(&mut member);
     queue.waiters().wake_owed();
-    matches!(told, Some(Ok(Answer::Entered(_, _))))
+    matches!(pushed, Some(Answer::Entered(_, _))) && matches!(shut, Some(Answer::Entered(_, _)))
 }
 
 #[test]
@@ -242,64 +236,14 @@ fn one_that_sleeps_gets_what_is_pushed_before_the_end(rt: HostRuntime) -> Result
     Ok(())
 }
 
-// The first ends its post a while later, which counts no event. The others nap meanwhile, and are told the end long before their
-// deadline.
-fn ends_its_post_or_takes<R: Abort + Clock + Wait>(
-    rt: &R,
-    queue: &Queue<Heap>,
-    newcomer: Newcomer,
-) -> bool {
-    let id = newcomer.id();
-    let mut handle = queue.enter(newcomer);
-    if id == 1 {
-        let push: Request = Request::Push(item(1, 1));
-        thread::sleep(rt, Duration::from_millis(ASLEEP));
-        queue.waiters().ending().end_post(&push);
-        return true;
-    }
-    let deadline = from_now(rt, FAR);
-    let start = from_now(rt, 0);
-    let is_told = if id == 2 {
-        matches!(handle.take_until_or_end(rt, deadline), Ok(None))
-    } else {
-        let times = Times { start, unit: 0 };
-        matches!(handle.take_due_or_end(rt, times, Some(deadline)), Ok(None))
-    };
-    is_told && Instant::now(rt).expect(rt, "there is a clock") < deadline
-}
-
-#[test]
-fn the_end_of_a_post_is_seen_before_a_far_deadline(rt: HostRuntime) -> Result<(), Fail> {
-    let (queue, newcomers) = opened(&rt, rt.alloc(), &[1, 2, 3]);
-    let push: Request = Request::Push(item(1, 1));
-    assert!(&rt; queue.waiters().ending().begin_post(&push));
-    queue.shut();
-    let told = thread::map_vec(
-        &rt,
-        newcomers,
-        &|newcomer: Newcomer| ends_its_post_or_takes(&rt, &queue, newcomer),
-    );
-    let Ok(told) = told else {
-        panic!(&rt; "there is memory")
-    };
-    assert!(&rt; told[0] && told[1] && told[2]);
-    is_awaited_by_nobody(&rt, &queue);
-    Ok(())
-}
-
 const TRIALS: u32 = 300;
 
-// Posts a push as a shared handle does, and waits until it is carried out: whether it was posted.
+// Posts a push, and waits for its answer: whether it was entered.
 fn posts<R: Abort>(rt: &R, queue: &Queue<Heap>, member: &mut Member<Heap>, push: Request) -> bool {
-    let ending = queue.waiters().ending();
-    if !ending.begin_post(&push) {
-        return false;
-    }
     queue.post(member, push);
-    ending.end_post(&push);
     for _ in 0..PATIENCE {
-        if queue.look(member).is_some() {
-            return true;
+        if let Some(answer) = queue.look(member) {
+            return matches!(answer, Answer::Entered(_, _));
         }
         if queue.try_trail_round(member).is_some() {
             queue.waiters().wake_owed();
@@ -307,15 +251,16 @@ fn posts<R: Abort>(rt: &R, queue: &Queue<Heap>, member: &mut Member<Heap>, push:
             thread::yield_now();
         }
     }
-    panic!(rt; "it is carried out")
+    panic!(rt; "it is answered")
 }
 
-// Carries a push out at once as a shared handle does, or else posts it: whether it was pushed.
+// Carries a push out at once, or else posts it: whether it was entered.
 fn steps<R: Abort>(rt: &R, queue: &Queue<Heap>, member: &mut Member<Heap>, push: Request) -> bool {
-    let told = queue.carry_out_unless_shut(member, push);
+    let asked = push;
+    let told = queue.carry_out(member, asked);
     queue.waiters().wake_owed();
     match told {
-        Some(told) => told.is_ok(),
+        Some(answer) => matches!(answer, Answer::Entered(_, _)),
         None => posts(rt, queue, member, push),
     }
 }
@@ -332,11 +277,11 @@ fn pushed<R: Abort + Wait>(
     let mut count = 0;
     for _ in rt.forever() {
         if is_first && count == shuts_behind {
-            queue.shut();
+            assert!(rt; queue.shut(rt, &mut member).is_ok());
         }
         let pushed = item(count % 3, count);
         let is_pushed = match (count + shuts_behind) % 3 {
-            0 => queue.push_unless_shut(rt, &mut member, pushed).is_ok(),
+            0 => queue.push(rt, &mut member, pushed).is_ok(),
             1 => steps(rt, queue, &mut member, Request::Push(pushed)),
             _ => posts(rt, queue, &mut member, Request::Push(pushed)),
         };
@@ -389,8 +334,7 @@ fn pushed_or_taken<R: Abort + Clock + Wait>(
     }
 }
 
-// Two push, in each way that heeds the end, and two take, while one of them shuts the queue: what was pushed is taken before the
-// end is told.
+// Two push, in each way, and two take, while one of them shuts the queue: what was pushed is taken before the end is told.
 fn pushed_and_taken<R: Abort + Clock + Threads + Wait + Sync>(
     rt: &R,
     alloc: Global,

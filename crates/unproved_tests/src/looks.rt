@@ -76,6 +76,27 @@ fn a_look_says_that_the_journal_is_full(rt: HostRuntime) -> Result<(), Fail> {
     Ok(())
 }
 
+// Of a queue that is shut it says so exactly where no item is left; and that the journal is full, where it is.
+#[test]
+fn a_look_says_that_the_queue_is_over(rt: HostRuntime) -> Result<(), Fail> {
+    let Ok((queue, mut newcomers)) = Queue::new(rt.alloc(), &[1], 4) else {
+        panic!(&rt; "there is such a queue")
+    };
+    let mut member = queue.join(newcomers.pop().expect(&rt, "there is one"));
+    assert!(&rt; queue.push(&rt, &mut member, item(5, 1)) == Ok(1));
+    assert!(&rt; queue.shut(&rt, &mut member) == Ok(2));
+    let left = queue.take_first(&mut member, Wanted::UpTo(4));
+    assert!(&rt; left == Some(Looked::Stays(item(5, 1))));
+    let taken = queue.take_first(&mut member, Wanted::Anything);
+    assert!(&rt; taken == Some(Looked::Taken(3, item(5, 1))));
+    for wanted in [Wanted::Nothing, Wanted::UpTo(4), Wanted::Anything] {
+        assert!(&rt; queue.take_first(&mut member, wanted) == Some(Looked::Over));
+    }
+    assert!(&rt; queue.pop(&rt, &mut member) == Ok((4, None)));
+    assert!(&rt; queue.take_first(&mut member, Wanted::Anything) == Some(Looked::BookFull));
+    Ok(())
+}
+
 // It serves who has posted, and counts whom that may wake; and where the lock is held it does nothing.
 #[test]
 fn a_look_serves_who_has_posted(rt: HostRuntime) -> Result<(), Fail> {

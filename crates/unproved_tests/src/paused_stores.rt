@@ -1,9 +1,9 @@
-// A queue that is shut while a push is under way, which pauses in its store: what was begun is carried out before the end.
+// A queue that is shut while a push is under way, which pauses in its store: what has the lock is carried out before the shut.
 use crate::common::{item, wait_for};
-use flat_queue::{Newcomer, PushError, Queue, Shut};
+use flat_queue::{CallError, Newcomer, Queue};
 use leftist_heap::{Leftist, Store};
 use pq_book::Entry;
-use pq_types::{Answer, Request};
+use pq_types::{Answer, Refusal, Request};
 use std::alloc::Global;
 use std::process::Abort;
 use std::sync::Wait;
@@ -89,8 +89,8 @@ fn paused<'a, R: Abort>(
     opened
 }
 
-// The first pushes. The second shuts the queue once that has begun, and then takes: it gets the item, and is told the end behind
-// it.
+// The first pushes. The second finds the lock held once that has begun, shuts the queue behind it, and then takes: it gets the
+// item, and is told the end behind that.
 fn pushes_or_shuts<R: Abort + Wait>(
     rt: &R,
     queue: &Queue<PausedStore<'_>>,
@@ -100,21 +100,22 @@ fn pushes_or_shuts<R: Abort + Wait>(
     let is_first = newcomer.id() == 1;
     let mut handle = queue.enter(newcomer);
     if is_first {
-        return handle.push_unless_shut(rt, item(5, 1)) == Ok(1);
+        return handle.push(rt, item(5, 1)) == Ok(1);
     }
+    let mut member = handle.into_member();
     wait_for(&told.has_begun);
-    queue.shut();
-    let ending = queue.waiters().ending();
-    let is_announced = ending.is_shut() && !ending.is_over();
+    let is_held = queue.carry_out_shut(&mut member).is_none();
     told.may_end.store(true, Ordering::SeqCst);
-    is_announced
+    let mut handle = queue.seat(member);
+    is_held
+        && handle.shut(rt) == Ok(2)
         && matches!(handle.take_or_end(rt), Ok(Some((_, taken))) if taken == item(5, 1))
         && handle.take_or_end(rt) == Ok(None)
-        && handle.push_unless_shut(rt, item(6, 2)) == Err(PushError::Shut(Shut))
+        && handle.push(rt, item(6, 2)) == Err(CallError::Refused(Refusal::Shut))
 }
 
 #[test]
-fn a_push_that_was_begun_before_the_end_is_carried_out(rt: HostRuntime) -> Result<(), Fail> {
+fn a_shut_waits_for_a_push_that_has_the_lock(rt: HostRuntime) -> Result<(), Fail> {
     let told = Told::new(true);
     let (queue, newcomers) = paused(&rt, rt.alloc(), &told, &[1, 2]);
     let went = thread::map_vec(
@@ -149,24 +150,23 @@ fn meets<R: Clock + Wait>(
 ) -> bool {
     let mut member = queue.join(newcomer);
     if let Side::Pushes = side {
-        let answer = queue.carry_out_unless_shut(&mut member, Request::Push(item(5, 1)));
-        return matches!(answer, Some(Ok(Answer::Entered(_, _))));
+        let answer = queue.carry_out(&mut member, Request::Push(item(5, 1)));
+        return matches!(answer, Some(Answer::Entered(2, _)));
     }
     wait_for(&told.has_begun);
     if let Side::Shuts = side {
-        queue.shut();
+        let shut = queue.shut(rt, &mut member);
         let taken = queue.take_or_end(rt, &mut member);
-        return matches!(taken, Ok(Some((_, found))) if found == item(5, 1));
+        return shut == Ok(3) && taken == Ok(Some((4, item(5, 1))));
     }
     thread::sleep(rt, Duration::from_millis(50));
     told.may_end.store(true, Ordering::SeqCst);
     true
 }
 
-// One that had the lock before the queue was shut carries its push out behind the others' requests, and so behind a pop that was
-// begun at the shut queue: this is in vain, and yet not the end.
+// One that has the lock carries its push out behind the others' requests, and before the shut that waits for the lock.
 #[test]
-fn who_had_the_lock_pushes_before_the_end_is_told(rt: HostRuntime) -> Result<(), Fail> {
+fn who_has_the_lock_pushes_before_the_queue_is_shut(rt: HostRuntime) -> Result<(), Fail> {
     let told = Told::new(false);
     let (queue, mut newcomers) = paused(&rt, rt.alloc(), &told, &[1, 2, 3, 4]);
     let mut member = queue.join(newcomers.pop().expect(&rt, "there is one"));

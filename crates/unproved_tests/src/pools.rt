@@ -1,9 +1,9 @@
 // How the queue of a pool is closed: no clause says that it ever is.
-use flat_queue::{Queue, Shut};
+use flat_queue::Queue;
 use leftist_heap::Leftist;
 use pq_book::{Book, Entry};
-use pq_types::{Answer, Item, Reply, Request};
-use queue_pool::{CallStep, NotPosted, Pool, Seen, SharedHandle, StillOpen};
+use pq_types::{Answer, Item, Refusal, Reply, Request};
+use queue_pool::{CallStep, Pool, Seen, SharedHandle, StillOpen, Tried};
 use std::alloc::Global;
 use std::process::Abort;
 use std::sync::Arc;
@@ -146,7 +146,8 @@ fn a_pool_is_not_closed_while_another_shares_its_queue(rt: HostRuntime) -> Resul
     Ok(())
 }
 
-// Each push of a shared handle is refused, posted and at once, and nothing else is; what was posted before is carried out.
+// Each push of a shared handle is refused, posted and at once, and nothing else is; what was posted before the shut is carried out
+// before that.
 #[test]
 fn a_shut_queue_refuses_pushes_alone(rt: HostRuntime) {
     let mut pool = pool_of(&rt, rt.alloc(), &[1, 2]);
@@ -156,17 +157,17 @@ fn a_shut_queue_refuses_pushes_alone(rt: HostRuntime) {
         value: 1,
     });
     let entered = |number, reply| CallStep::Answered(Answer::Entered(number, reply));
-    assert!(&rt; other.post(push).is_ok() && pool.waiters().ending().is_quiet());
-    assert!(&rt; !pool.waiters().ending().is_shut());
-    pool.waiters().shut();
-    assert!(&rt; pool.waiters().ending().is_shut() && pool.waiters().owed_wakes() == 0);
-    assert!(&rt; member.step_call(push, false) == CallStep::Shut);
-    assert!(&rt; member.step_call(push, true) == CallStep::Shut);
-    assert!(&rt; member.post(push) == Err(NotPosted::Shut) && pool.waiters().ending().is_quiet());
+    let refused = Answer::Refused(Refusal::Shut.padded());
+    assert!(&rt; other.post(push).is_ok());
+    assert!(&rt; member.try_shut() == Tried::Answered(Answer::Entered(2, Reply::Empty)));
+    assert!(&rt; member.step_call(push, false) == CallStep::Answered(refused));
+    assert!(&rt; member.step_call(push, true) == CallStep::Answered(refused));
+    assert!(&rt; member.post(push).is_ok() && member.try_trail_round().is_some());
+    assert!(&rt; member.look() == Seen::Answered(refused));
     assert!(&rt;
         member.step_call(Request::Least, true)
             == entered(
-                2,
+                3,
                 Reply::Least(Item {
                     priority: 5,
                     value: 1
@@ -178,12 +179,11 @@ fn a_shut_queue_refuses_pushes_alone(rt: HostRuntime) {
     assert!(&rt;
         member.look()
             == Seen::Answered(Answer::Entered(
-                3,
+                4,
                 Reply::Got(Item {
                     priority: 5,
                     value: 1
                 })
             ))
     );
-    assert!(&rt; Shut.code() == 51);
 }

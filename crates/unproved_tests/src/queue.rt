@@ -5,6 +5,7 @@ mod closing;
 mod gates;
 mod lasting;
 mod leads;
+mod limits;
 mod openings;
 mod rooms;
 mod threads;

@@ -1,7 +1,8 @@
 // The texts of the refusals that no run of the program tells, and of those of a queue and a load.
 use announce_board::{DeskError, LockHeld};
-use flat_queue::{CallError, PushError, QueueError, Shut};
+use flat_queue::{CallError, QueueError};
 use pq_book::BookError;
+use pq_types::Refusal;
 use queue_load::{LoadError, WorkerError};
 use split_core::ids::IdError;
 use split_grid::GridError;
@@ -52,20 +53,26 @@ fn refusals_of_a_queue_have_their_texts(rt: HostRuntime) {
     for (error, text) in &OF_QUEUES {
         assert!(rt; has_text(error, rt.alloc(), text));
     }
-    const OF_CALLS: [(CallError, &str); 4] = [
+    const OF_CALLS: [(CallError, &str); 5] = [
         (CallError::NoMemory, "no memory"),
         (CallError::BookFull, "book full"),
         (CallError::Spent, "posts spent"),
         (CallError::GaveUp, "gave up"),
+        (
+            CallError::Refused(Refusal::Shut),
+            "refused by the queue's rules",
+        ),
     ];
     for (error, text) in &OF_CALLS {
         assert!(rt; has_text(error, rt.alloc(), text));
-        let of_push = PushError::Call(*error);
-        assert!(rt; has_text(&of_push, rt.alloc(), text) && of_push.code() == error.code());
     }
-    assert!(rt; has_text(&Shut, rt.alloc(), "the queue is shut") && Shut.code() == 51);
-    let of_push = PushError::Shut(Shut);
-    assert!(rt; has_text(&of_push, rt.alloc(), "the queue is shut") && of_push.code() == 51);
+    for (refusal, code) in [
+        (Refusal::Shut, 51),
+        (Refusal::Unarchived, 52),
+        (Refusal::Full, 53),
+    ] {
+        assert!(rt; CallError::Refused(refusal).code() == code);
+    }
 }
 
 const OUT_OF_MEMORY: LoadError = LoadError::Worker {

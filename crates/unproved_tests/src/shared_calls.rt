@@ -1,8 +1,8 @@
 // Calls of a shared handle in steps: beside a lead that is kept, which answers what was posted, and where the queue is shut.
 use crate::common::{Heap, item, shared};
 use flat_queue::{Handle, Newcomer, Queue};
-use pq_types::{Answer, Reply, Request};
-use queue_pool::{AnswerStep, CallStep, SharedHandle};
+use pq_types::{Answer, Refusal, Reply, Request};
+use queue_pool::{AnswerStep, CallStep, SharedHandle, Tried};
 use std::alloc::Global;
 use std::process::Abort;
 use std::sync::Arc;
@@ -46,39 +46,44 @@ fn steps_by_itself<R: Abort>(
     assert!(rt; handle.step_call(Request::Least, true) == CallStep::Answered(none));
 }
 
-// In a queue that is shut a push is refused beside a lead too, where it was to be posted; a pop is posted.
+// A push is refused in a queue that is shut, one that was posted too; a pop is not. Another shut is refused.
 fn steps_where_it_is_shut<R: Abort>(
     rt: &R,
     handle: &mut SharedHandle<Heap>,
     leader: &mut Handle<'_, Heap>,
 ) {
     let push = Request::Push(item(5, 1));
+    let refused = Answer::Refused(Refusal::Shut.padded());
     let lead = leader.lead().expect(rt, "the lock is free");
+    assert!(rt; handle.try_shut() == Tried::LockHeld);
     assert!(rt; handle.step_call(push, false) == CallStep::LockHeld);
-    assert!(rt; handle.step_call(push, true) == CallStep::Shut && handle.is_idle());
-    assert!(rt; handle.waiters().ending().is_quiet());
-    assert!(rt; handle.step_call(Request::Pop, true) == CallStep::Posted);
+    assert!(rt; handle.step_call(push, true) == CallStep::Posted);
+    assert!(rt; handle.try_shut() == Tried::Waits);
     leader.release(lead);
     assert!(rt; handle.step_answer() == AnswerStep::Led);
-    let none = Answer::Entered(4, Reply::Empty);
-    assert!(rt; handle.step_answer() == AnswerStep::Answered(none));
-    assert!(rt; handle.step_call(push, true) == CallStep::Shut && handle.is_idle());
+    assert!(rt; handle.step_answer() == AnswerStep::Answered(refused));
+    assert!(rt; handle.try_shut() == Tried::Answered(refused));
+    assert!(rt; handle.step_call(push, true) == CallStep::Answered(refused) && handle.is_idle());
+    let none = Answer::Entered(5, Reply::Empty);
+    assert!(rt; handle.step_call(Request::Pop, true) == CallStep::Answered(none));
 }
 
-// What the steps come to in a queue with room for four lines, whose members are this handle and the other that joins.
+// What the steps come to in a queue with room for five lines, whose members are this handle and the other that joins.
 fn steps<R: Abort>(rt: &R, queue: &Queue<Heap>, handle: &mut SharedHandle<Heap>, other: Newcomer) {
     let mut leader = queue.enter(other);
     steps_beside_a_lead(rt, handle, &mut leader);
     steps_by_itself(rt, handle, &mut leader);
-    queue.shut();
+    let shut = Answer::Entered(4, Reply::Empty);
+    assert!(rt; handle.try_shut() == Tried::Answered(shut));
     steps_where_it_is_shut(rt, handle, &mut leader);
     assert!(rt; handle.step_call(Request::Pop, false) == CallStep::Answered(Answer::BookFull));
+    assert!(rt; handle.try_shut() == Tried::Answered(Answer::BookFull));
     drop(leader);
 }
 
 #[test]
 fn a_shared_handle_makes_its_calls_in_steps(rt: HostRuntime) -> Result<(), Fail> {
-    let Ok((queue, mut newcomers)) = Queue::new(rt.alloc(), &[1, 2], 4) else {
+    let Ok((queue, mut newcomers)) = Queue::new(rt.alloc(), &[1, 2], 5) else {
         panic!(rt; "there is such a queue")
     };
     let Ok(queue) = Arc::new(rt.alloc(), queue) else {

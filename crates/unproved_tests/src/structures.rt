@@ -8,6 +8,7 @@ mod openings;
 mod regions;
 mod removals;
 mod rooms;
+mod shuts;
 mod splitters;
 mod texts;
 mod wide;

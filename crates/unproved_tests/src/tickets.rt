@@ -58,10 +58,10 @@ fn tries<R: Abort>(rt: &R, queue: &Queue<Heap>, handle: &mut SharedHandle<Heap>,
     assert!(rt; handle.try_remove(1) == Tried::LockHeld);
     leader.release(lead);
     drop(leader);
-    queue.shut();
-    assert!(rt; handle.try_reschedule(1, 3) == got(2, item(5, 1)));
-    assert!(rt; handle.try_remove(2) == got(3, item(3, 1)));
-    assert!(rt; handle.try_remove(2) == Tried::Answered(Answer::Entered(4, Reply::Empty)));
+    assert!(rt; handle.try_shut() == Tried::Answered(Answer::Entered(2, Reply::Empty)));
+    assert!(rt; handle.try_reschedule(1, 3) == got(3, item(5, 1)));
+    assert!(rt; handle.try_remove(3) == got(4, item(3, 1)));
+    assert!(rt; handle.try_remove(3) == Tried::Answered(Answer::Entered(5, Reply::Empty)));
     assert!(rt; handle.post(Request::Pop).is_ok());
     assert!(rt; handle.try_remove(2) == Tried::Waits);
     assert!(rt; handle.try_reschedule(2, 3) == Tried::Waits);

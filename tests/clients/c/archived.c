@@ -11,11 +11,12 @@
 
 enum { FEWEST = 64, MOST = 16777216, WORKERS = 4, PLACES = 2080 };
 
-/* Makes so many requests that find no item. */
+/* Makes so many requests, which leave the items that are there. */
 static void makes(pq_member *member, uint32_t calls) {
     pq_item item;
     for (uint32_t i = 0; i < calls; i++) {
-        CHECK(pq_pop(member, &item, PQ_FOREVER, NULL) == PQ_EMPTY);
+        const pq_code code = pq_peek(member, &item, PQ_FOREVER, NULL);
+        CHECK(code == PQ_OK || code == PQ_EMPTY);
     }
 }
 
@@ -51,14 +52,24 @@ static void is_refused(pq_member *member) {
     refuses_listening(member, PQ_UNARCHIVED);
 }
 
-/* As many as are kept are let through beyond those that are archived, one more never. */
+/* An archive can't have more than there is, and then counts for nothing. */
+static void is_too_much(pq_queue *queue, pq_member *member, uint64_t archived) {
+    pq_journal *journal = (pq_journal *)queue;
+    CHECK(pq_archive(member, archived, PQ_FOREVER, &journal) == PQ_BAD_OPTION && journal == NULL);
+    CHECK(pq_wait_archived(queue, archived, PQ_NOW) == PQ_TIMED_OUT);
+}
+
+/* As many as are kept are let through beyond those that are archived, one more never. What finds no item has no entry, and is let through. */
 static void refuses_what_would_be_forgotten(uint32_t kept) {
     pq_queue *queue = opened_as(2, PQ_REFUSES, kept);
     pq_member *member = joined(queue), *other = joined(queue);
     pq_item item = item_of(7, 8);
     uint64_t number = 9;
-    makes(member, kept - 1);
-    CHECK(pq_peek(other, &item, PQ_FOREVER, &number) == PQ_EMPTY && number == kept);
+    makes(member, kept - 2);
+    is_too_much(queue, member, kept - 1);
+    CHECK(pq_push(other, item_of(1, 2), PQ_FOREVER, &number) == PQ_OK && number == kept - 1);
+    CHECK(pq_peek(other, &item, PQ_FOREVER, &number) == PQ_OK && number == kept && is_item(item, 1, 2));
+    is_too_much(queue, member, (uint64_t)kept + 1);
     is_refused(member);
     is_refused(other);
     CHECK(archives(member, 0) == kept);
@@ -68,8 +79,8 @@ static void refuses_what_would_be_forgotten(uint32_t kept) {
     CHECK(archives(other, 3) == kept - 3);
     makes(member, 7);
     is_refused(other);
-    /* More than there are is all that there are. */
-    CHECK(archives(member, UINT64_MAX) == 0);
+    is_too_much(queue, member, UINT64_MAX);
+    CHECK(archives(member, 7 + (uint64_t)kept) == 0);
     makes(other, kept);
     is_refused(member);
     CHECK(archives(other, 7 + (uint64_t)kept) == kept);
@@ -137,7 +148,7 @@ static void calls_that_time_out_count_for_nothing(uint64_t most_items) {
     have_entries(queue, member, own.pushed);
 }
 
-/* Neither has a push that finds the queue full, or shut. */
+/* Neither has a push that finds the queue full, or shut; the shut has one. */
 static void refused_pushes_count_for_nothing(uint64_t most_items) {
     const pq_item items[2] = { { 1, 2 }, { 3, 4 } };
     const pq_code code = most_items == 0 ? PQ_SHUT : PQ_FULL;
@@ -146,7 +157,7 @@ static void refused_pushes_count_for_nothing(uint64_t most_items) {
     size_t done = 9;
     CHECK(pq_push(member, items[0], PQ_NOW, NULL) == PQ_OK && (code == PQ_FULL || pq_shut(queue) == PQ_OK));
     CHECK(pq_push(member, items[0], PQ_NOW, NULL) == code && pq_push_many(member, items, 2, PQ_NOW, &done, NULL) == code && done == 0);
-    have_entries(queue, member, 1);
+    have_entries(queue, member, 1 + (code == PQ_SHUT));
 }
 
 /* A batch of pops counts for as many items as it takes out. */
@@ -204,7 +215,7 @@ typedef struct archiver {
     int is_written;
 } archiver;
 
-/* Archives what is new, and all of it: how many entries. Each entry of a place follows the one before. */
+/* Archives what is new, and all of it: how many entries. Those of a place are in their order; refused requests count there too. */
 static size_t goes_on(archiver *own) {
     pq_journal *journal = NULL;
     pq_entry entry;
@@ -213,7 +224,8 @@ static size_t goes_on(archiver *own) {
     size_t count = pq_count(journal, &before);
     for (size_t i = 0; i < count; i++) {
         CHECK(pq_read(journal, i, &entry) == PQ_OK && entry.number == own->archived + i + 1);
-        CHECK(entry.place < PLACES && entry.serial == ++own->serials[entry.place]);
+        CHECK(entry.place < PLACES && entry.serial > own->serials[entry.place]);
+        own->serials[entry.place] = entry.serial;
         counts(&own->has, entry.request, entry.reply, entry.item);
     }
     CHECK(before == own->archived && (!own->is_written || pq_write(journal, STDOUT_FILENO) == PQ_OK));

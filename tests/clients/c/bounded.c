@@ -29,7 +29,7 @@ static void is_refused_at_its_deadline(void) {
     CHECK(pq_push(member, item, PQ_FOREVER, NULL) == PQ_SHUT && pq_push_many(member, many, 2, PQ_NOW, &done, NULL) == PQ_SHUT && done == 0);
     pq_give_back(member);
     pq_journal *journal = closed(queue);
-    CHECK(pq_count(journal, NULL) == 8);
+    CHECK(pq_count(journal, NULL) == 9);
     pq_journal_free(journal);
 }
 
@@ -69,6 +69,12 @@ static void bounds_may_be_any(void) {
     pq_options options = { 0, 3, 0, 0, 0, 0, 1 };
     pq_queue *queue;
     CHECK(pq_open(&options, &queue) == PQ_BAD_OPTION && queue == NULL);
+    queue = opened_within(0, 10);
+    CHECK(pq_push(pq_own(queue), item_of(1, 2), PQ_NOW, NULL) == PQ_OK && pq_push(pq_own(queue), item_of(1, 2), PQ_NOW, NULL) == PQ_OK);
+    close_and_free(queue);
+    queue = opened_within(1, 10);
+    CHECK(pq_push(pq_own(queue), item_of(1, 2), PQ_NOW, NULL) == PQ_OK && pq_push(pq_own(queue), item_of(1, 2), PQ_NOW, NULL) == PQ_FULL);
+    close_and_free(queue);
     queue = opened_within(UINT64_MAX, 10);
     CHECK(pq_push(pq_own(queue), item_of(1, 2), PQ_NOW, NULL) == PQ_OK && pq_push(pq_own(queue), item_of(1, 2), PQ_NOW, NULL) == PQ_OK);
     close_and_free(queue);
@@ -85,7 +91,40 @@ static void bounds_may_be_any(void) {
     close_and_free(queue);
 }
 
+enum { PUSHERS = 8 };
+static uint32_t each;
+
+static void *pushes_each(void *queue) {
+    for (uint32_t i = 0; i < each; i++) {
+        CHECK(pq_push(pq_own((pq_queue *)queue), item_of(1, 1), PQ_FOREVER, NULL) == PQ_OK);
+    }
+    return NULL;
+}
+
+/* More threads push than there is room, and find the lock held by each other. */
+static void pushes_are_posted(void) {
+    const pq_options options = { PUSHERS + 1, PQ_FORGETS, 0, 0, 0, 0, 2 };
+    pthread_t threads[PUSHERS];
+    pq_queue *queue;
+    pq_item item;
+    uint64_t peak = 0, size = 0;
+    CHECK(pq_open(&options, &queue) == PQ_OK);
+    each = requests(2000);
+    for (int i = 0; i < PUSHERS; i++) {
+        threads[i] = started(pushes_each, queue);
+    }
+    for (uint64_t taken = 0; taken < (uint64_t)PUSHERS * each; taken++) {
+        CHECK(pq_take(pq_own(queue), &item, PQ_FOREVER, NULL) == PQ_OK && is_item(item, 1, 1));
+    }
+    for (int i = 0; i < PUSHERS; i++) {
+        ended(threads[i]);
+    }
+    CHECK(pq_size(pq_own(queue), PQ_NOW, &size, &peak) == PQ_OK && size == 0 && 0 < peak && peak <= 2);
+    close_and_free(queue);
+}
+
 int main(void) {
+    pushes_are_posted();
     is_refused_at_its_deadline();
     a_member_listens_for_room();
     bounds_may_be_any();

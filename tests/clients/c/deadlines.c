@@ -73,14 +73,14 @@ static void calls_return_where_a_thread_stops(void) {
     thread = started(peeks, waiting);
     by_all_deadlines(member);
     by_all_deadlines(pq_own(queue));
-    CHECK(pq_shut(queue) == PQ_OK && pq_push(member, item, PQ_FOREVER, NULL) == PQ_SHUT);
+    CHECK(pq_shut(queue) == PQ_OK && pq_push(member, item, in_ms(1), NULL) == PQ_TIMED_OUT);
     let_go(&own);
     ended(thread);
-    CHECK(own.pushed == 1 && pq_take(member, &item, PQ_FOREVER, NULL) == PQ_OK && pq_take(member, &item, PQ_FOREVER, NULL) == PQ_SHUT);
+    CHECK(own.pushed == 1 && pq_push(member, item, PQ_FOREVER, NULL) == PQ_SHUT && pq_take(member, &item, PQ_FOREVER, NULL) == PQ_OK && pq_take(member, &item, PQ_FOREVER, NULL) == PQ_SHUT);
     pq_give_back(member);
     pq_give_back(waiting);
     journal = closed(queue);
-    CHECK(pq_count(journal, NULL) == 3 && pq_read(journal, 2, &entry) == PQ_OK && entry.request == PQ_POP && is_item(entry.item, 1, 100));
+    CHECK(pq_count(journal, NULL) == 4 && pq_read(journal, 3, &entry) == PQ_OK && entry.request == PQ_POP && is_item(entry.item, 1, 100));
     pq_journal_free(journal);
 }
 

@@ -27,7 +27,7 @@ static int first_before(int end) {
     int first = NONE;
     for (int i = 0; i < end; i++) {
         const entry *it = &run.entries[i];
-        if (it->is_push && !it->is_taken && (first == NONE || it->item.priority < run.entries[first].item.priority)) {
+        if (it->is_there && it->kind == KIND_PUSHED && !it->is_taken && (first == NONE || it->item.priority < run.entries[first].item.priority)) {
             first = i;
         }
     }
@@ -77,11 +77,14 @@ static void check_owed(uint32_t count) {
 /* Nothing moves: what is wrong. */
 static void judge(void) {
     uint32_t asleep = 0;
-    int is_left;
+    int is_left, has_shut = 0;
     for (int i = 0; i < run.told && i < run.size; i++) {
-        blame(!run.entries[i].is_there, "a gap in the numbers of entries");
-        if (run.entries[i].is_there && !run.entries[i].is_push) {
-            check_first(i, run.entries[i].item);
+        const entry *it = &run.entries[i];
+        blame(!it->is_there, "a gap in the numbers of entries");
+        blame(has_shut && it->is_there && it->kind == KIND_PUSHED, "a push after a shut");
+        has_shut |= it->is_there && it->kind == KIND_SHUT;
+        if (it->is_there && it->kind == KIND_POPPED) {
+            check_first(i, it->item);
         }
     }
     for (int i = 0; i < run.size; i++) {
@@ -102,7 +105,7 @@ static int schedule(const char *kinds) {
     memset(&run, 0, sizeof run);
     depth = 0;
     run.size = (int)strlen(kinds);
-    CHECK(pq_core_open((uint32_t)(run.size + SPARE), PQ_FILLS, 4 * MOST, 0, &run.queue) == PQ_OK);
+    CHECK(pq_core_open((uint32_t)(run.size + SPARE), PQ_FILLS, 4 * MOST, 0, 0, &run.queue) == PQ_OK);
     for (int i = 0; i < run.size + SPARE; i++) {
         const pq_item item = { i < run.size ? (uint64_t)(run.size - i) / 2 : UINT64_MAX, (uint64_t)i };
         actor *it = &run.all[i];

@@ -1,8 +1,9 @@
-/* A journal with each request and each reply, and numbers up to 2^64 - 1, is read, and written as text; a write that fails says so; and
-   items that are left come out in their order, while the entries stay. */
+/* A journal with each request and each reply, and numbers up to 2^64 - 1, is read, and written as text; a write that fails says so;
+   items that are left come out in their order, while the entries stay; and a text with a shut is read back. */
 #include "../check.h"
 
 #include <fcntl.h>
+#include <stdio.h>
 #include <string.h>
 #include <unistd.h>
 
@@ -71,6 +72,8 @@ static void has_text(void) {
     is_text(&entry, "7 3 2 remove 4 got 5 1 63ab3b6f\n");
     entry.request = PQ_RESCHEDULE;
     is_text(&entry, "7 3 2 move 4 6 got 5 1 bda4aecb\n");
+    entry.request = PQ_SHUTS;
+    is_text(&entry, "7 3 2 shut b6f0d719\n");
     entry.request = PQ_POP;
     is_text(&entry, "7 3 2 pop got 5 1 d637d109\n");
     entry.request = PQ_PEEK;
@@ -85,6 +88,36 @@ static void is_not_written(const pq_journal *journal) {
     int full = open("/dev/full", O_WRONLY);
     CHECK(full >= 0 && pq_write(journal, full) == PQ_NOT_WRITTEN && close(full) == 0);
     CHECK(pq_write(journal, full) == PQ_NOT_WRITTEN && pq_write(journal, -1) == PQ_NOT_WRITTEN);
+}
+
+static pq_code read_text(const char *text, pq_journal **journal) {
+    FILE *made = tmpfile();
+    pq_code code;
+    CHECK(made != NULL && fputs(text, made) >= 0 && fseek(made, 0, SEEK_SET) == 0);
+    code = pq_journal_read(fileno(made), journal, NULL, NULL);
+    CHECK(fclose(made) == 0);
+    return code;
+}
+
+/* After a shut the journal has no push. */
+static void shut_is_read_back(void) {
+    static const char *const lines[] = { "1 0 1 push 5 7 pushed fd6f9793\n", "2 0 2 shut 858f5e52\n", "3 0 3 pop got 5 7 12a80e0a\n" };
+    const pq_item none = { 0, 0 };
+    pq_journal *journal;
+    char text[sizeof lines / sizeof *lines * PQ_TEXT_ROOM] = "";
+    pq_entry entry;
+    for (size_t i = 0; i < sizeof lines / sizeof *lines; i++) {
+        strcat(text, lines[i]);
+    }
+    CHECK(read_text(text, &journal) == PQ_OK && pq_count(journal, NULL) == 3);
+    reads(journal, 1, PQ_SHUTS, PQ_EMPTY, none);
+    for (size_t i = 0; i < sizeof lines / sizeof *lines; i++) {
+        CHECK(pq_read(journal, i, &entry) == PQ_OK && entry.ticket == 0 && entry.priority == 0);
+        is_text(&entry, lines[i]);
+    }
+    pq_journal_free(journal);
+    CHECK(read_text("1 0 1 shut\n2 0 2 push 5 7 pushed\n", &journal) == PQ_NOT_LAWFUL && journal == NULL);
+    CHECK(read_text("1 0 1 shut\n2 0 2 shut\n", &journal) == PQ_NOT_LAWFUL && read_text("1 0 1 shut empty\n", &journal) == PQ_NOT_LAWFUL);
 }
 
 /* What is left is counted by nobody: taking it changes no entry. */
@@ -111,6 +144,7 @@ int main(void) {
     has_text();
     is_not_written(journal);
     items_are_left();
+    shut_is_read_back();
     CHECK(pq_take_left(journal, &item) == PQ_EMPTY && is_item(item, 7, 8));
     CHECK(pq_write(journal, STDOUT_FILENO) == PQ_OK);
     pq_journal_free(journal);

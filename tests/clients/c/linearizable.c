@@ -3,7 +3,7 @@
    these calls in which a sorted list, used by one thread, returns what they returned. The numbers of journal entries are among that. So a
    set of calls leaves one list, whatever order they took, and the search tries each set once (Lowe 2017).
 
-   A batch is one call. Batches that the header excepts are left out. A push that begins before a shut has returned may succeed, also later.
+   A batch is one call. Batches that the header excepts are left out. The first shut is a call as others are, with an entry.
 
    usage: linearizable [HISTORIES [SEED]] */
 #include "../check.h"
@@ -49,8 +49,7 @@ typedef struct list {
     pq_entry left[MOST]; /* items and their tickets */
     size_t count, peak;
     uint64_t entries;
-    int is_shut, is_over; /* it is over once a take has returned the end: no push is accepted after that */
-    uint64_t after_shut;  /* when the first shut ended: nor is one that began later */
+    int is_shut;
 } list;
 
 static void put(list *it, pq_item item, uint64_t ticket) {
@@ -77,14 +76,14 @@ static int is_same(pq_item one, pq_item other) {
 
 /* Whether each of these calls returned what the list returns. */
 static int fits_push(list *it, const call *made) {
-    if (made->code == PQ_SHUT || made->code == PQ_FULL) {
-        return made->done == 0 && (made->code == PQ_SHUT ? it->is_shut : most_items != 0 && it->count >= most_items);
+    const int is_full = most_items != 0 && it->count >= most_items;
+    if (it->is_shut || is_full) {
+        return made->done == 0 && made->code == (it->is_shut ? PQ_SHUT : PQ_FULL);
     }
     for (size_t i = 0; i < made->count; i++) {
         put(it, made->items[i], ++it->entries);
     }
-    return made->code == PQ_OK && made->done == made->count && made->number == it->entries + 1 - made->count && !it->is_over &&
-           (!it->is_shut || made->begun < it->after_shut) && (most_items == 0 || it->count <= most_items);
+    return made->code == PQ_OK && made->done == made->count && made->number == it->entries + 1 - made->count;
 }
 
 static int fits_pop(list *it, const call *made) {
@@ -98,7 +97,6 @@ static int fits_take(list *it, const call *made) {
     size_t due = 0;
     int are_same = 1;
     if (made->code == PQ_SHUT) {
-        it->is_over = 1;
         return made->kind >= TAKE && it->is_shut && it->count == 0 && made->done == 0;
     }
     for (; due < made->count && it->count > 0 && it->left[0].item.priority <= made->key; due++) {
@@ -148,7 +146,7 @@ static int fits(list *it, const call *made) {
     case RESCHEDULE:
         return fits_ticket(it, made);
     case SHUT:
-        it->after_shut = !it->is_shut || made->ended < it->after_shut ? made->ended : it->after_shut;
+        it->entries += !it->is_shut;
         it->is_shut = 1;
         return made->code == PQ_OK;
     default:

@@ -23,21 +23,21 @@ typedef struct actor {
     core member;
     pq_item item;  /* that it pushes */
     uint32_t owed; /* wakes that it is to make */
-    int is_woken, naps, gives_up;
+    int is_woken, gives_up;
 } actor;
 
 /* An entry that was told. */
 typedef struct entry {
-    int is_there, is_push, is_taken;
+    int is_there, kind, is_taken; /* KIND_PUSHED, KIND_POPPED or KIND_SHUT */
     pq_item item;
 } entry;
 
-/* A schedule: its actors; those that wait, in order; whether the queue is being shut, is shut, or its end was told; and what is wrong first. */
+/* A schedule: its actors; those that wait, in order; whether the queue is being shut, or its end was told; and what is wrong first. */
 static struct run {
     core queue;
     actor all[MOST + SPARE];
     entry entries[MOST + SPARE];
-    int size, told, list[MOST], listed, is_shut, says_shut, is_over;
+    int size, told, list[MOST], listed, is_shut, is_over;
     const char *wrong;
 } run;
 
@@ -80,7 +80,6 @@ static void take_out(int who) {
 }
 
 static void wake(actor *it) {
-    run.says_shut |= it->kind == 's';
     it->at = it->then;
     for (; it->owed > 0 && run.listed > 0 && driver != SILENT; it->owed--) {
         actor *first = &run.all[run.list[0]];
@@ -90,8 +89,8 @@ static void wake(actor *it) {
     }
 }
 
-static void tell(uint64_t number, int is_push, pq_item item) {
-    const entry told = { 1, is_push, 0, item };
+static void tell(uint64_t number, int kind, pq_item item) {
+    const entry told = { 1, kind, 0, item };
     run.told++;
     if (number == 0 || number > (uint64_t)(run.size + SPARE) || run.entries[number - 1].is_there) {
         blame(1, "the number of an entry");
@@ -112,15 +111,14 @@ static void take(actor *it, int who) {
     take_out(who);
     run.list[run.listed++] = who;
     it->is_woken = 0;
-    it->naps = run.says_shut;
     code = pq_core_step_take(&it->member, UINT64_MAX, &answer);
-    if (code == PQ_SHUT) {
+    if (code == PQ_OK && answer.kind == KIND_SHUT) {
         blame(!run.is_shut, "the end of a queue that is not shut");
         run.is_over = 1;
         it->at = LEAVES;
     } else if (code == PQ_OK && answer.kind == KIND_POPPED) {
         blame(was_over, "an item comes after the end");
-        tell(answer.number, 0, answer.item);
+        tell(answer.number, KIND_POPPED, answer.item);
         go_on(it, answer.owes_wake != 0, LEAVES);
     } else if (code == PQ_OK && answer.kind == KIND_EMPTY) {
         go_on(it, answer.owes_wake != 0, SLEEPS);
@@ -145,12 +143,14 @@ static void leave(actor *it, int who) {
 /* A push came to this code. */
 static void pushed(actor *it, pq_code code, const core_answer *answer, enum place otherwise) {
     if (code == PQ_OK) {
-        blame(answer->kind != KIND_PUSHED, "the answer to a push");
-        tell(answer->number, 1, it->item);
+        blame(answer->kind != KIND_PUSHED && (answer->kind != KIND_SHUT || !run.is_shut), "the answer to a push");
+        if (answer->kind == KIND_PUSHED) {
+            tell(answer->number, KIND_PUSHED, it->item);
+        }
         go_on(it, answer->owes_wake != 0, DONE);
     } else {
-        blame(!(code == PQ_SHUT && run.is_shut) && !((code == LOCK_HELD || code == HAS_POSTED) && is_inside), "the code of a push");
-        it->at = code == PQ_SHUT ? DONE : otherwise;
+        blame((code != LOCK_HELD && code != HAS_POSTED) || !is_inside, "the code of a push");
+        it->at = otherwise;
     }
 }
 
@@ -158,9 +158,8 @@ static void pushed(actor *it, pq_code code, const core_answer *answer, enum plac
 pq_code pq_core_post(core *member, uint32_t request, uint64_t priority, uint64_t value);
 
 static void post(actor *it) {
-    const pq_code code = pq_core_post(&it->member, PQ_PUSH, it->item.priority, it->item.value);
-    blame(code != PQ_OK && !(code == PQ_SHUT && run.is_shut), "the code of a post");
-    it->at = code == PQ_OK ? LOOKS : DONE;
+    blame(pq_core_post(&it->member, PQ_PUSH, it->item.priority, it->item.value) != PQ_OK, "the code of a post");
+    it->at = LOOKS;
 }
 
 static void claim(actor *it) {
@@ -168,17 +167,22 @@ static void claim(actor *it) {
     it->at = it->owed > 0 ? WAKES : it->then;
 }
 
-static void shut(actor *it) {
+static void shut(actor *it, core_answer *answer) {
+    pq_code code;
     run.is_shut = 1;
-    blame(pq_core_shut(&run.queue) != PQ_OK, "the code of a shut");
-    it->owed = MOST;
-    it->then = DONE;
-    it->at = WAKES;
+    code = pq_core_try_shut(&it->member, answer);
+    if (code == PQ_OK) {
+        blame(answer->kind != KIND_EMPTY, "the answer to a shut");
+        tell(answer->number, KIND_SHUT, answer->item);
+        go_on(it, answer->owes_wake != 0, DONE);
+    } else {
+        blame(code != LOCK_HELD || !is_inside, "the code of a shut");
+    }
 }
 
 static void step(actor *it, int who, core_answer *answer) {
     if (it->kind == 's') {
-        shut(it);
+        shut(it, answer);
     } else if (it->kind == 'p') {
         pushed(it, step_call(&it->member, it->item, answer), answer, LOOKS);
     } else {
@@ -211,7 +215,7 @@ static void move(int which) {
     }
     switch (it->at) {
     case STEPS: step(it, who, &answer); break;
-    case SLEEPS: it->at = it->naps || (it->is_woken && driver != BLIND) ? STEPS : ASLEEP; break;
+    case SLEEPS: it->at = it->is_woken && driver != BLIND ? STEPS : ASLEEP; break;
     case LEAVES:
     case ENDS: leave(it, who); break;
     case CLAIMS: claim(it); break;

@@ -70,7 +70,7 @@ static void has_constants(void) {
     CHECK(entry.place == 3 && entry.request == 4);
     CHECK(entry.reply == 5 && entry.unused == 0 && sizeof entry.item == 16 && is_item(entry.item, UINT64_MAX - 2, UINT64_MAX - 3));
     CHECK(PQ_FORGETS == 0 && PQ_REFUSES == 1 && PQ_FILLS == 2 && PQ_PUSH == 0 && PQ_POP == 1 && PQ_PEEK == 2 && PQ_REMOVE == 3);
-    CHECK(PQ_RESCHEDULE == 4 && PQ_NOW == 0 && PQ_FOREVER == UINT64_MAX && PQ_TEXT_ROOM == 160);
+    CHECK(PQ_RESCHEDULE == 4 && PQ_SHUTS == 5 && PQ_NOW == 0 && PQ_FOREVER == UINT64_MAX && PQ_TEXT_ROOM == 160);
     CHECK(PQ_VERSION == 10000 * PQ_VERSION_MAJOR + 100 * PQ_VERSION_MINOR + PQ_VERSION_PATCH && pq_version() == PQ_VERSION);
 }
 

@@ -30,19 +30,11 @@ static void returns_in_time(void) {
     close_and_free(queue);
 }
 
-/* An archive counts as many as it is passed, also where there are fewer entries yet. */
-static void counts_what_it_is_passed(void) {
-    pq_queue *queue = opened(1);
-    archives(queue, 2);
-    pushes(queue, 3);
-    CHECK(pq_wait_archived(queue, 2, PQ_NOW) == PQ_OK && pq_wait_archived(queue, 3, PQ_NOW) == PQ_TIMED_OUT);
-    close_and_free(queue);
-}
-
 /* A refused archive counts nothing. */
 static void counts_no_refused_archive(void) {
     pq_queue *queue = opened_as(1, PQ_FORGETS, 0);
     pq_journal *journal = NULL;
+    CHECK(pq_archive(pq_own(queue), 1, PQ_FOREVER, &journal) == PQ_BAD_OPTION && pq_wait_archived(queue, 1, PQ_NOW) == PQ_TIMED_OUT);
     pushes(queue, 1024 + 10);
     CHECK(pq_archive(pq_own(queue), 5, PQ_FOREVER, &journal) == PQ_FORGOTTEN && pq_wait_archived(queue, 5, PQ_NOW) == PQ_TIMED_OUT);
     close_and_free(queue);
@@ -94,7 +86,6 @@ static void are_woken(void) {
 
 int main(void) {
     returns_in_time();
-    counts_what_it_is_passed();
     counts_no_refused_archive();
     are_woken();
     return 0;

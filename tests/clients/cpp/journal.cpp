@@ -119,6 +119,26 @@ static void memory_refuses_or_forgets() {
     }
 }
 
+static void shut_has_an_entry() {
+    flatpq::queue<> queue;
+    CHECK(queue.push(5u, 7).value() == 1 && queue.shut() == code::ok && queue.shut() == code::ok);
+    CHECK(queue.archive(3).error() == code::bad_option);
+    const auto journal = queue.archive(0).value();
+    CHECK(journal.size() == 2 && journal.read(1)->request == request::shut && journal.read(1)->reply == code::empty && !journal.read(1)->item);
+}
+
+static void shut_is_read_back() {
+    std::FILE *made = std::tmpfile();
+    CHECK(made != nullptr && std::fputs("1 0 1 push 5 7 pushed\n2 0 2 shut\n", made) >= 0);
+    std::rewind(made);
+    auto back = flatpq::journal<>::read_from(fileno(made));
+    CHECK(std::fclose(made) == 0 && back && back->size() == 2);
+    const auto entry = *back->read(1);
+    std::ostringstream text;
+    CHECK(entry.request == request::shut && entry.reply == code::empty && !entry.item && entry.ticket == 0 && !entry.priority);
+    CHECK(back->write(text) == code::ok && text.str() == "1 0 1 push 5 7 pushed fd6f9793\n2 0 2 shut 858f5e52\n");
+}
+
 static void is_read_back() {
     const char text[] = "1 0 1 push 5 7 pushed\n2 0 2 push 6 8 pushed\n3 0 3 pop got 5 7\n4 0 4 po";
     const auto file_of = [&](std::size_t length) {
@@ -159,6 +179,8 @@ static void waits_until_archived() {
 
 int main() {
     is_read_back();
+    shut_has_an_entry();
+    shut_is_read_back();
     waits_until_archived();
     entries_are_read_and_written();
     payloads_show_their_keys();

@@ -1,7 +1,7 @@
 // A payload asks for memory once, at its push, and its pop frees that; one that lies in the value asks for none. Where memory is refused the
 // payload is where it was.
 #include "../check.h"
-#include "flatpq_tasks.hpp"
+#include "flatpq_tbb.hpp"
 
 #include <array>
 #include <memory>
@@ -38,6 +38,8 @@ static void *given(std::size_t size) noexcept {
 
 using large = std::array<std::uint64_t, 2>;
 
+static int number_in(const std::unique_ptr<int> &it) { return *it; }
+
 int main() {
     auto queue = *flatpq::task_queue<large>::open();
     const std::size_t before = blocks;
@@ -64,5 +66,16 @@ int main() {
     left_to_give = 0;
     CHECK(numbers.push(1u, 0.5) && numbers.pop()->payload == 0.5);
     left_to_give = SIZE_MAX;
+    // As oneTBB's, the adapter throws.
+    flatpq::concurrent_priority_queue<std::unique_ptr<int>, flatpq::by<&number_in>> thrown;
+    bool threw = false;
+    left_to_give = 0;
+    try {
+        thrown.push(std::move(payload));
+    } catch (const std::bad_alloc &) {
+        threw = true;
+    }
+    left_to_give = SIZE_MAX;
+    CHECK(threw && *payload == 7 && thrown.empty());
     return 0;
 }

@@ -95,13 +95,14 @@ template <class To> static void is_refused(To &to, code why, flatpq::deadline un
 }
 
 static void a_refused_one_is_where_it_was() {
-    auto queue = *tasks::open({1, keeping::fills, 3});
+    auto queue = *tasks::open({1, keeping::fills, 5});
     auto member = *queue.join();
     is_refused(queue, code::timed_out, 5ms);
     push_keys(member, 0, 3);
-    is_refused(member, code::journal_full);
     CHECK(queue.shut() == code::ok);
     is_refused(member, code::shut);
+    CHECK(member.peek().error() == code::ok);
+    is_refused(member, code::journal_full);
     auto moved = std::move(member);
     is_refused(member, code::no_member);
     moved.give_back();

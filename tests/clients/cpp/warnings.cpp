@@ -1,5 +1,5 @@
 // All parts of the headers, for warnings that no other client is compiled with.
-#include "flatpq_tasks.hpp"
+#include "flatpq_tbb.hpp"
 
 #include <chrono>
 #include <iostream>
@@ -12,6 +12,8 @@ template class flatpq::basic_listener<values>;
 template class flatpq::basic_due_listener<values>;
 template class flatpq::basic_journal<values>;
 template class flatpq::detail::payloads<std::string, double>;
+template class flatpq::concurrent_priority_queue<double, std::greater<>>;
+template class flatpq::concurrent_priority_queue<std::pair<float, std::string>, flatpq::by<&std::pair<float, std::string>::first>>;
 
 int main() {
     flatpq::task_queue<std::string, double> queue(flatpq::options().with_members(8));

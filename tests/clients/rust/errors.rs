@@ -233,7 +233,7 @@ fn all_that_is_public_has_a_text() {
     let back = member.push(1, Silent).unwrap_err();
     begins(&back, "NotPushed { error: Shut");
     drop(member);
-    begins(&refused.queue.close().unwrap(), "TaskJournal { entries: 1");
+    begins(&refused.queue.close().unwrap(), "TaskJournal { entries: 2");
     begins(&Options::new(), "Options");
 }
 

@@ -42,7 +42,7 @@ fn what_is_there_is_ready_and_what_comes_wakes() {
     assert_eq!(polled(&mut take, &other), Poll::Ready(Err(Error::Shut)));
     drop(take);
     let entries = queue.archive(0).unwrap().len();
-    assert_eq!(entries, 8);
+    assert_eq!(entries, 9);
 }
 
 #[test]

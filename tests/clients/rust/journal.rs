@@ -164,6 +164,30 @@ fn a_journal_is_read_back() {
 }
 
 #[test]
+fn a_shut_is_read_back() {
+    let text = "1 0 1 push 5 7 pushed fd6f9793\n2 0 2 shut 858f5e52\n";
+    let read = read_back("shut", text).unwrap();
+    let entry = read.journal.get(1).unwrap();
+    assert_eq!((entry.request, entry.item), (Request::Shut, None));
+    assert_eq!(entry.to_string(), "2 0 2 shut");
+    let mut written = Vec::new();
+    read.journal.write_to(&mut written).unwrap();
+    assert_eq!(String::from_utf8(written).unwrap(), text);
+}
+
+#[test]
+fn a_shut_has_an_entry_and_an_archive_no_more_than_there_are() {
+    let queue = Queue::new().unwrap();
+    queue.push(5_u64, 7_u64).unwrap();
+    queue.shut().unwrap();
+    queue.shut().unwrap();
+    assert_eq!(queue.archive(3).err(), Some(Error::BadOption));
+    let journal = queue.archive(0).unwrap();
+    let texts: Vec<String> = journal.iter().map(|entry| entry.to_string()).collect();
+    assert_eq!(texts, ["1 0 1 push 5 7 pushed", "2 0 2 shut"]);
+}
+
+#[test]
 fn a_wait_ends_once_the_entry_is_archived() {
     let queue = Queue::new().unwrap();
     let number = queue.push(5_u64, 7_u64).unwrap();

@@ -6,6 +6,7 @@ use std::alloc::{GlobalAlloc, Layout, System};
 use std::fs;
 use std::ptr;
 use std::sync::atomic::{AtomicUsize, Ordering::Relaxed};
+use std::sync::mpsc::{self, Sender};
 use std::sync::Arc;
 use std::task::{Context, Poll, Wake};
 
@@ -103,23 +104,28 @@ fn a_batch_comes_back() {
     assert_eq!(queue.len(), Ok(0));
 }
 
-struct Nobody;
+struct Says(Sender<()>);
 
-impl Wake for Nobody {
-    fn wake(self: Arc<Nobody>) {}
+impl Wake for Says {
+    fn wake(self: Arc<Says>) {
+        self.0.send(()).unwrap();
+    }
 }
 
-/// The stack of a thread is greater than what there is.
+/// The stack of a thread is greater than what there is. The thread runs before anything is limited again.
 fn a_future_without_a_thread_is_refused() {
     let queue: TaskQueue<u64, u64> = TaskQueue::new().unwrap();
     let mut member = queue.join().unwrap();
-    let waker = Arc::new(Nobody).into();
+    let (says, hears) = mpsc::channel();
+    let waker = Arc::new(Says(says)).into();
     let mut context = Context::from_waker(&waker);
     let before = limit_to(ADDRESS_SPACE, in_use() + MORE / 16);
     let polled = member.poll_take(&mut context);
     limit_to(ADDRESS_SPACE, before);
     assert_eq!(polled, Poll::Ready(Err(Error::NoMemory)));
     assert!(member.poll_take(&mut context).is_pending());
+    queue.push(1, 1).unwrap();
+    hears.recv().unwrap();
 }
 
 /// And gives its member back.

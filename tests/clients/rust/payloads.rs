@@ -102,16 +102,22 @@ fn each_refusal_gives_back() {
     let soon = full.until(Duration::from_millis(1));
     gives_back(2, Error::TimedOut, soon.push(0, drops.payload(2)));
     member.shut().unwrap();
-    gives_back(3, Error::Shut, member.push(0, drops.payload(3)));
+    gives_back(3, Error::JournalFull, member.push(0, drops.payload(3)));
     drop(member);
     let pair = |it| (0, drops.payload(it));
     let back = full.push_many([pair(4), pair(5)]).unwrap_err();
-    assert!(back.error == Error::Shut && drops.are(1..4));
+    assert!(back.error == Error::JournalFull && drops.are(1..4));
     assert_eq!(back.payloads.len(), 2);
     drop(back);
     assert!(drops.are(1..6));
     drop(full);
     assert!(drops.are(0..6));
+    let (shut, drops) = (TaskQueue::new().unwrap(), Drops::of(3));
+    shut.shut().unwrap();
+    gives_back(0, Error::Shut, shut.push(0, drops.payload(0)));
+    let back = shut.push_many([(0, drops.payload(1)), (0, drops.payload(2))]);
+    assert!(matches!(back, Err(it) if it.error == Error::Shut && it.payloads.len() == 2));
+    assert!(drops.are(0..3));
 }
 
 /// An iterator that panics costs its own payloads, and no other thread gets one.

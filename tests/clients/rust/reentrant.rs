@@ -131,6 +131,23 @@ fn a_waker_runs_its_task() {
     });
 }
 
+/// A take makes room, for which a push waits. It does not wait itself, and so runs that waker before it returns.
+#[test]
+fn a_take_that_never_waits_runs_the_waker() {
+    in_time(|| {
+        let queue: Queue = Options::new().most_items(1).open().unwrap();
+        assert_eq!(queue.push(1, 2), Ok(1));
+        let (wakes, woken) = mpsc::channel();
+        let wakes = Mutex::new(wakes);
+        let waker = waker(move || wakes.lock().unwrap().send(thread::current().id()).unwrap());
+        let mut push = queue.push_async(3, 4);
+        let polled = Pin::new(&mut push).poll(&mut Context::from_waker(&waker));
+        assert!(polled.is_pending());
+        assert_eq!(queue.try_take(), Ok(Some((1, 2))));
+        assert_eq!(woken.try_recv(), Ok(thread::current().id()));
+    });
+}
+
 #[test]
 fn a_waker_that_panics_loses_no_ticket() {
     let queue = Queue::new().unwrap();

@@ -5,6 +5,7 @@ ghost use Rattle.pq_types.specs.Mail.{IsProperAnswerOf};
 ghost use Rattle.pq_types.specs.Operation.{ByTicket, Remove, Move, ticket_of};
 ghost use Rattle.pq_types.specs.Entry.{entry, item_at, with_entry, without, entries_after, reply_by};
 ghost use Rattle.pq_types.specs.History.{entries_of, left, last_serial, journal_by, MayDo, PutsIn};
+ghost use Rattle.pq_book.specs.Book.{limits_of, KeepsTerms};
 ghost use Rattle.pq_book.specs.Book.{IsAnswerWithin, AllHaveRoom};
 ghost use Rattle.pq_book.specs.Runs.{MayRun, doing};
 
@@ -12,7 +13,7 @@ use crate::book::{Book, peak_with};
 use crate::entry::Entry;
 use leftist_heap::{MOST_ITEMS, TicketStore};
 use pq_types::laws::{
-    law_by_tickets, law_items_stay_in_range, law_one_more_line, law_ticketed_is_proper,
+    law_by_tickets, law_items_stay_in_range, law_one_more_line, law_shut, law_ticketed_is_proper,
 };
 use pq_types::{Answer, Deed, Item, Line, Operation, Part, Reply, Ticketed};
 use std::alloc::Allocator;
@@ -21,8 +22,9 @@ impl<S: TicketStore<Entry<P>>, A: Allocator, P: Part> Book<S, A, P> {
     /// Uses a ticket, the number of the line that put an item in, and enters that in the journal. A removal takes the item out,
     /// where it still waits. A move puts it behind all of another priority, and this line's number is its ticket from then on.
     /// The reply is the item as it was. Where it was popped, removed or moved before, or no such line put one in, the reply is
-    /// Empty, and the content stays as it was. It answers BookFull exactly where the journal is full, and NoMemory only to a
-    /// move of an item that waits: the store could not grow, or had 4,294,967,295 items. After these two nothing has changed.
+    /// Empty, and the content stays as it was. Journal and limits decide whether it is refused, as of `apply`; else it answers
+    /// NoMemory only to a move of an item that waits: the store could not grow, or had 4,294,967,295 items. After a refusal
+    /// nothing has changed.
     /// Where `apply` never answers NoMemory to a push, this never does. The serial is above each one that the place has in
     /// the journal.
     pub fn apply_by_ticket(
@@ -32,22 +34,25 @@ impl<S: TicketStore<Entry<P>>, A: Allocator, P: Part> Book<S, A, P> {
         ticketed: Ticketed<P>,
     ) -> Answer<Item<P>>
         requires { last_serial place self.old.journal < serial }
-        ensures answer { MayDo self.old.room self.old.journal (ByTicket ticketed) result }
+        ensures answer { MayDo (limits_of self.old) self.old.journal (ByTicket ticketed) result }
         ensures journal { self.new.journal ≡ journal_by self.old.journal place serial (ByTicket ticketed) result }
-        ensures room { self.new.room ≡ self.old.room }
+        ensures terms { KeepsTerms self.old self.new }
+        ensures allowed { self.new.allowed ≡ self.old.allowed }
         ensures proper { IsProperAnswerOf P.wide result }
         ensures within { IsAnswerWithin P.wide self.old.room result }
         ensures memory { AllHaveRoom S.room self.old.room → result ≢ Answer.NoMemory }
         ensures spare { AllHaveRoom S.room (length (left self.old.journal) + 1) → result ≢ Answer.NoMemory }
         ensures refused { result ≡ Answer.NoMemory → PutsIn (ByTicket ticketed) × IsSome (item_at (ticket_of ticketed) (entries_of self.old.journal)) }
         // A run of one, of those that `law_every_run_with_tickets` speaks of.
-        ensures run { MayRun self.old.room self.old.journal (doing place serial (ByTicket ticketed) result ∷ []) self.new.journal }
+        ensures run { MayRun self.old.room self.old.bound self.old.journal
+            (doing self.old.allowed place serial (ByTicket ticketed) result ∷ []) self.new.journal }
     {
         law_one_more_line();
+        law_shut();
         law_items_stay_in_range();
         law_ticketed_is_proper(&ticketed);
-        if self.journal.len() >= self.room {
-            return Answer::BookFull;
+        if let Some(refused) = self.bar(&Operation::by_ticket(ticketed)) {
+            return refused;
         }
         let number = self.journal.len() + 1;
         let used = ticketed;

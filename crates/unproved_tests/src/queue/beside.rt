@@ -1,66 +1,51 @@
-// What stands beside a queue: how far its archive is behind, and whether it is shut.
-use crate::queue::{Heap, opened, push};
-use flat_queue::{Ending, Queue};
-use pq_types::Request;
-use std::alloc::Global;
-use std::process::Abort;
+// What stands beside a queue: who waits for an item.
+use crate::queue::{Heap, next, opened};
+use flat_queue::{CallError, Queue};
+use pq_types::{Answer, Item, Refusal, Reply};
 use std::test::Fail;
 
-fn queue_of_one<R: Abort>(rt: &R, alloc: Global) -> Queue<Heap> {
-    let (queue, newcomers) = opened(alloc, &[1], 4).ok().expect(rt, "there is memory");
-    drop(newcomers);
-    queue
-}
-
-// As many requests are let through as memory keeps lines beyond those that are archived. One that is refused is not counted, and
-// one that has no line is counted back. An archive that is told of fewer lines than before has all that it had.
+// A shut is an event for all who are announced, and wakes them itself; by a step of its member it is owed to them. One that is
+// refused is none, but where the journal is full.
 #[test]
-fn a_request_without_a_line_is_counted_back(rt: HostRuntime) -> Result<(), Fail> {
-    let queue = queue_of_one(&rt, rt.alloc());
-    let backlog = queue.backlog();
-    assert!(&rt; backlog.lets_through());
-    backlog.limit_to(2);
-    assert!(&rt; backlog.lets_through() && backlog.lets_through());
-    assert!(&rt; !backlog.lets_through() && !backlog.lets_through());
-    backlog.count_back();
-    assert!(&rt; backlog.lets_through() && !backlog.lets_through());
-    backlog.archived(1);
-    assert!(&rt; backlog.lets_through() && !backlog.lets_through());
-    backlog.archived(0);
-    backlog.count_back();
-    assert!(&rt; backlog.lets_through() && !backlog.lets_through());
+fn a_shut_wakes_all_who_wait(rt: HostRuntime) -> Result<(), Fail> {
+    for steps in [false, true] {
+        let (queue, mut newcomers) = opened(rt.alloc(), &[1], 2)?;
+        let mut member = queue.join(next(&rt, &mut newcomers));
+        let waiters = queue.waiters();
+        let seen = waiters.begin_wait();
+        waiters.begin_wait();
+        if steps {
+            let shut = Some(Answer::Entered(1, Reply::Empty));
+            assert!(&rt; queue.carry_out_shut(&mut member) == shut && waiters.owed_wakes() == 2);
+        } else {
+            assert!(&rt; queue.shut(&rt, &mut member) == Ok(1) && waiters.owed_wakes() == 0);
+        }
+        assert!(&rt; waiters.begin_wait() == seen + 1);
+        let refused = Some(Answer::Refused(Refusal::Shut.padded()));
+        assert!(&rt; queue.carry_out_shut(&mut member) == refused && waiters.owed_wakes() == 0);
+        assert!(&rt; queue.pop(&rt, &mut member) == Ok((2, None)));
+        assert!(&rt; waiters.owed_wakes() == 0 && waiters.begin_wait() == seen + 2);
+        assert!(&rt; queue.carry_out_shut(&mut member) == Some(Answer::BookFull));
+        assert!(&rt; waiters.owed_wakes() == 4 && waiters.begin_wait() == seen + 3);
+        drop(member);
+        drop(queue);
+    }
     Ok(())
 }
 
-// Posts of pushes alone are counted while they are made, and none is begun once the queue is shut.
-fn counts_posts<R: Abort>(rt: &R, ending: &Ending, may_push: bool) {
-    assert!(rt; ending.begin_post(&push(1, 1)) == may_push && ending.is_quiet() != may_push);
-    if may_push {
-        ending.end_post(&push(1, 1));
-    }
-    let others: [Request; 2] = [Request::Pop, Request::Least];
-    for request in others {
-        assert!(rt; ending.is_quiet() && ending.begin_post(&request) && ending.is_quiet());
-        ending.end_post(&request);
-    }
-    assert!(rt; ending.is_quiet());
-}
-
-// A shut is an event for all who are announced, and wakes them itself.
+// Serials are spent by shuts too.
 #[test]
-fn a_shut_wakes_all_who_wait(rt: HostRuntime) -> Result<(), Fail> {
-    let queue = queue_of_one(&rt, rt.alloc());
-    let waiters = queue.waiters();
-    let seen = waiters.begin_wait();
-    waiters.begin_wait();
-    assert!(&rt; !waiters.ending().is_shut());
-    counts_posts(&rt, waiters.ending(), true);
-    queue.shut();
-    assert!(&rt; waiters.ending().is_shut() && waiters.owed_wakes() == 0);
-    assert!(&rt; waiters.begin_wait() == seen + 1);
-    counts_posts(&rt, waiters.ending(), false);
-    // Shut by other means, it is owed to as many as are announced.
-    waiters.shut();
-    assert!(&rt; waiters.owed_wakes() == 3);
+fn a_shut_uses_a_serial(rt: HostRuntime) -> Result<(), Fail> {
+    let (queue, mut newcomers) = opened(rt.alloc(), &[1], 4)?;
+    let mut member = queue.join(next(&rt, &mut newcomers));
+    let item = Item {
+        priority: 5,
+        value: 1,
+    };
+    assert!(&rt; queue.shut(&rt, &mut member) == Ok(1) && member.posts() == 1);
+    let refused = Err(CallError::Refused(Refusal::Shut));
+    assert!(&rt; queue.shut(&rt, &mut member) == refused && member.posts() == 2);
+    let refused = Err(CallError::Refused(Refusal::Shut));
+    assert!(&rt; queue.push(&rt, &mut member, item) == refused && member.posts() == 3);
     Ok(())
 }

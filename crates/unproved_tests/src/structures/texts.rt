@@ -99,6 +99,24 @@ fn a_move_is_written_and_read_back(rt: HostRuntime) {
     assert!(rt; read_line::<u32>(b"9 0 5 move 7  9 empty") == Err(LineError::UnknownWord));
 }
 
+#[test]
+fn a_shut_is_written_and_read_back(rt: HostRuntime) {
+    let line: Line = Line {
+        serial: 5,
+        operation: Operation::shut(),
+        reply: Reply::Empty,
+        place: 3,
+    };
+    let read = NumberedLine { number: 12, line };
+    let mut text = Vec::new(rt.alloc());
+    append_line(12, &line, &mut text).expect(&rt, "there is memory");
+    assert!(rt; text.as_slice() == b"12 3 5 shut\n".as_slice());
+    assert!(rt; read_line::<u32>(b"12 3 5 shut") == Ok(read));
+    assert!(rt; read_line::<u32>(b"12 3 5 shut empty") == Err(LineError::UnknownWord));
+    assert!(rt; read_line::<u32>(b"12 3 5 shut ") == Err(LineError::UnknownWord));
+    assert!(rt; read_line::<u32>(b"12 65536 5 shut") == Err(LineError::OutOfRange));
+}
+
 // The longest line that can be written has 134 bytes, and a line feed.
 #[test]
 fn the_longest_line_fits(rt: HostRuntime) {

@@ -9,7 +9,7 @@ load-requires g c =
     let waits = c.requires.waits in (
       c.requires.here,
       omega (arith, c.control_index.ensures, at.inside, ap control_at at.here),
-      c.law_steps_are_allowed.ensures.look _ _ _ _ _ at.is _ waits.0 (c.control_index.ensures ∙ ap control_at at.here) waits.1,
+      c.law_steps_are_allowed.ensures.look _ _ _ _ _ _ at.is _ waits.0 (c.control_index.ensures ∙ ap control_at at.here) waits.1,
     )
 
 pub returns-clause-loads : goal.returns-clause-loads

@@ -13,6 +13,6 @@ store-requires g c =
     let draft = c.requires.drafted in (
       c.requires.here,
       omega (arith, c.control_index.ensures, at.inside, ap control_at at.here),
-      c.law_steps_are_allowed.ensures.post _ _ _ _ _ at.is _ _ c.args.request draft.0 (c.control_index.ensures ∙ ap control_at at.here)
+      c.law_steps_are_allowed.ensures.post _ _ _ _ _ _ at.is _ _ c.args.request draft.0 (c.control_index.ensures ∙ ap control_at at.here)
           (c.word.ensures ∙ (ap (λ k. control_word (Posted c.args.serial k)) c.kind.ensures ∙ ap (λ n. control_word (posted n c.args.request)) c.requires.serial)) draft.1 (omega (arith, c.requires.serial, c.requires.few)) proper draft.2,
     )

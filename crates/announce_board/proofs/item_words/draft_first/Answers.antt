@@ -9,5 +9,5 @@ store-requires g c =
     let at = c.requires.pen in (
       c.requires.here,
       omega (arith, c.item_index.ensures, at.inside),
-      c.law_steps_are_allowed.ensures.draft _ _ _ _ _ at.is _ _ 0 (item c.args.priority c.args.value) (omega (arith, c.item_index.ensures, ap item_at at.here)) c.first_word.ensures (one_word g.P.Part.wide) c.requires.idle c.requires.fits,
+      c.law_steps_are_allowed.ensures.draft _ _ _ _ _ _ at.is _ _ 0 (item c.args.priority c.args.value) (omega (arith, c.item_index.ensures, ap item_at at.here)) c.first_word.ensures (one_word g.P.Part.wide) c.requires.idle c.requires.fits,
     )

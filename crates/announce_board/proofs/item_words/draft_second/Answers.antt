@@ -9,5 +9,5 @@ store-requires g c =
     let at = c.requires.pen in (
       c.requires.here,
       omega (arith, c.item_index.ensures, at.inside),
-      c.law_steps_are_allowed.ensures.draft _ _ _ _ _ at.is _ _ 1 (item c.args.priority c.args.value) (omega (arith, c.item_index.ensures, ap item_at at.here)) (second_is g.P.Part.wide (item c.args.priority c.args.value) c.requires.wide) (two_words g.P.Part.wide c.requires.wide) c.requires.idle c.requires.fits,
+      c.law_steps_are_allowed.ensures.draft _ _ _ _ _ _ at.is _ _ 1 (item c.args.priority c.args.value) (omega (arith, c.item_index.ensures, ap item_at at.here)) (second_is g.P.Part.wide (item c.args.priority c.args.value) c.requires.wide) (two_words g.P.Part.wide c.requires.wide) c.requires.idle c.requires.fits,
     )

@@ -10,5 +10,5 @@ store-requires g c =
     let due = c.requires.due in (
       c.requires.here,
       omega (arith, c.item_index.ensures, at.inside),
-      c.law_steps_are_allowed.ensures.lay_item _ _ _ _ _ at.is _ _ 0 due.0 (item c.args.priority c.args.value) (omega (arith, c.item_index.ensures, ap item_at due.2)) c.first_word.ensures (one_word g.P.Part.wide) (omega (arith, due.2, at.within)) due.1 due.3 c.requires.fits,
+      c.law_steps_are_allowed.ensures.lay_item _ _ _ _ _ _ at.is _ _ 0 due.0 (item c.args.priority c.args.value) (omega (arith, c.item_index.ensures, ap item_at due.2)) c.first_word.ensures (one_word g.P.Part.wide) (omega (arith, due.2, at.within)) due.1 due.3 c.requires.fits,
     )

@@ -9,5 +9,5 @@ load-requires g c =
     let due = c.requires.due in (
       c.requires.here,
       omega (arith, c.item_index.ensures, at.inside),
-      c.law_steps_are_allowed.ensures.read_item _ _ _ _ _ at.is _ 0 due.0 (omega (arith, c.item_index.ensures, ap item_at due.2)) (one_word g.P.Part.wide) (omega (arith, due.2, at.within)) due.1 due.3,
+      c.law_steps_are_allowed.ensures.read_item _ _ _ _ _ _ at.is _ 0 due.0 (omega (arith, c.item_index.ensures, ap item_at due.2)) (one_word g.P.Part.wide) (omega (arith, due.2, at.within)) due.1 due.3,
     )

@@ -9,5 +9,5 @@ load-requires g c =
     let due = c.requires.due in (
       c.requires.here,
       omega (arith, c.item_index.ensures, at.inside),
-      c.law_steps_are_allowed.ensures.read_item _ _ _ _ _ at.is _ 1 due.0 (omega (arith, c.item_index.ensures, ap item_at due.2)) (two_words g.P.Part.wide c.requires.wide) (omega (arith, due.2, at.within)) due.1 due.3,
+      c.law_steps_are_allowed.ensures.read_item _ _ _ _ _ _ at.is _ 1 due.0 (omega (arith, c.item_index.ensures, ap item_at due.2)) (two_words g.P.Part.wide c.requires.wide) (omega (arith, due.2, at.within)) due.1 due.3,
     )

@@ -9,5 +9,5 @@ load-requires g c =
     let waits = c.requires.waits in (
       c.requires.here,
       omega (arith, c.item_index.ensures, at.inside),
-      c.law_steps_are_allowed.ensures.take_item _ _ _ _ _ at.is _ 0 waits.0 c.args.notice (omega (arith, c.item_index.ensures, ap item_at at.here)) (one_word g.P.Part.wide) waits.1 c.requires.own c.requires.item,
+      c.law_steps_are_allowed.ensures.take_item _ _ _ _ _ _ at.is _ 0 waits.0 c.args.notice (omega (arith, c.item_index.ensures, ap item_at at.here)) (one_word g.P.Part.wide) waits.1 c.requires.own c.requires.item,
     )

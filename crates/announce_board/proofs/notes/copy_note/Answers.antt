@@ -7,6 +7,6 @@ pub split_seat-copy-requires : goal.split_seat-copy-requires
 split_seat-copy-requires g c = (
   c.into_seat-seat.ensures.0 ∙ (ap (λ (n : Noted). n.table) c.note.view_is ∙ c.requires.note),
   c.requires.lock,
-  c.law_notes_are_allowed.ensures.copying _ _ _ c.into_seat-seat.result.me.0
+  c.law_notes_are_allowed.ensures.copying _ _ _ _ c.into_seat-seat.result.me.0
       (note_at c.note.inside.badge.views c.into_seat-seat.result.me.0 c.note.invariant c.into_seat-seat.ensures.2),
 )

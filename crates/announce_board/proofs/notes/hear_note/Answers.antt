@@ -9,6 +9,6 @@ join_seat-requires g c = (
   c.into_seat.ensures.0 ∙ (ap (λ (n : Noted). n.table) c.note.view_is ∙ c.requires.note),
   c.into_seat.ensures.3,
   c.requires.lock,
-  c.law_notes_are_allowed.ensures.hearing _ _ 0 _ c.args.seat.now.me c.requires.is c.into_seat.result.id c.into_seat.result.me.0
+  c.law_notes_are_allowed.ensures.hearing _ _ _ 0 _ c.args.seat.now.me c.requires.is c.into_seat.result.id c.into_seat.result.me.0
       (note_at c.note.inside.badge.views c.into_seat.result.me.0 c.note.invariant c.into_seat.ensures.2),
 )

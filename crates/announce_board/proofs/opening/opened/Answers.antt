@@ -3,8 +3,8 @@ use Rattle.std.proofs.lemmas.Option.{slice_get-get_or}
 use Rattle.announce_board.specs.Tokens.{AtDesk}
 use Rattle.announce_board.proofs.opening.opened.Goals as goal
 
-pub returns : goal.returns
-returns g c =
+pub returns-clause-ok : goal.returns-clause-ok
+returns-clause-ok g c =
     record {
       places_are = refl;
       room_is = refl;

@@ -5,7 +5,7 @@ use Rattle.announce_board.specs.Rule.{desk_of}
 use Rattle.announce_board.proofs.running.law_running_desks_are_linearizable.Goals as goal
 
 pub returns-clause-linearized : goal.returns-clause-linearized
-returns-clause-linearized g c = λ room places s k.
+returns-clause-linearized g c = λ room terms places s k.
     let d : Desk = desk_of room places k.held k.control k.cells s.homes s.views in
     let small = k.meets.2.room_in_range in
     let t = c.law_looks_are_within.ensures.dealt places room k.reached.0 d small k.reached.1 in
@@ -24,10 +24,11 @@ returns-clause-linearized g c = λ room places s k.
       timed = c.law_times.ensures.timed places room k.reached.0 d k.reached.1;
       whole = c.law_times.ensures.whole places room k.reached.0 d small k.reached.1;
       follow = c.law_times.ensures.order places room k.reached.0 d small k.reached.1;
+      bounded = k.bounded;
     }
 
 pub returns-clause-forced : goal.returns-clause-forced
-returns-clause-forced g c = λ room places s s' seat p w k k' has same more.
+returns-clause-forced g c = λ room terms places s s' seat p w k k' has same more.
     let d : Desk = desk_of room places k.held k.control k.cells s.homes s.views in
     let d' : Desk = desk_of room places k'.held k'.control k'.cells s'.homes s'.views in
     c.law_positions_are_forced.ensures places room d d' seat p w k.meets.2.room_in_range k.reached k'.reached has same more

@@ -7,7 +7,7 @@ load-requires g c =
     let at = c.requires.pen in (
       c.requires.here,
       omega (arith, c.control_index.ensures, at.inside),
-      c.law_steps_are_allowed.ensures.read_mail _ _ _ _ _ at.is _ c.args.place c.control_index.ensures at.within at.leads,
+      c.law_steps_are_allowed.ensures.read_mail _ _ _ _ _ _ at.is _ c.args.place c.control_index.ensures at.within at.leads,
     )
 
 pub returns-clause-loads : goal.returns-clause-loads

@@ -15,7 +15,7 @@ store-requires g c =
     let is = c.requires.due.1 in (
       c.requires.here,
       omega (arith, c.control_index.ensures, at.inside),
-      c.law_steps_are_allowed.ensures.answer _ _ _ _ _ at.is _ _ due c.args.request c.args.answer (c.control_index.ensures ∙ ap control_at (sym is.here))
+      c.law_steps_are_allowed.ensures.answer _ _ _ _ _ _ at.is _ _ due c.args.request c.args.answer (c.control_index.ensures ∙ ap control_at (sym is.here))
           (c.word.ensures ∙ ap (λ n. control_word (Answered n)) c.notice.ensures) (omega (arith, is.here, at.within)) is.is_due is.kind is.known is.laid c.requires.may c.requires.memory,
     )
 

@@ -10,7 +10,7 @@ join_seat-requires g c = (
   c.into_seat.ensures.0 ∙ (ap (λ (t : Testified). t.table) c.licence.view_is ∙ c.requires.licence),
   c.into_seat.ensures.3,
   c.requires.lock,
-  c.law_sleep_is_allowed.ensures.wake _ _ _ c.into_seat-seat.result.me.0 c.into_seat.result.id c.into_seat.result.me.0 _
+  c.law_sleep_is_allowed.ensures.wake _ _ _ _ c.into_seat-seat.result.me.0 c.into_seat.result.id c.into_seat.result.me.0 _
       (sleeper_is c.sleeper.inside.badge.views c.into_seat-seat.result.me.0 c.sleeper.invariant.one c.into_seat-seat.ensures.2)
       (licence_is c.licence.inside.badge.views c.into_seat.result.me.0 c.licence.invariant c.into_seat.ensures.2 (ap (λ (t : Testified). t.pens) c.licence.view_is ∙ c.requires.no_pen))
       (subst (λ n. 0 < n) (sym (ap (λ (t : Testified). t.licences) c.licence.view_is)) c.requires.counts),

@@ -10,7 +10,7 @@ join_seat-requires g c = (
   c.into_seat.ensures.0 ∙ (ap (λ (n : Testified). n.table) c.other.view_is ∙ c.requires.other),
   c.into_seat.ensures.3,
   c.requires.lock,
-  c.law_testimonies_are_allowed.ensures.gather _ _ _ c.into_seat-seat.result.me.0 c.into_seat.result.id c.into_seat.result.me.0
+  c.law_testimonies_are_allowed.ensures.gather _ _ _ _ c.into_seat-seat.result.me.0 c.into_seat.result.id c.into_seat.result.me.0
       (is_testimony c.one.inside.badge.views c.into_seat-seat.result.me.0 c.one.invariant c.into_seat-seat.ensures.2)
       (is_testimony c.other.inside.badge.views c.into_seat.result.me.0 c.other.invariant c.into_seat.ensures.2),
 )
@@ -20,5 +20,5 @@ load-requires g c =
     let now : c.join_seat.new.seat.me.0 ≡ both_testify c.into_seat-seat.result.me.0 c.into_seat.result.me.0 = ap (λ (m : Seated). m.0) c.join_seat.ensures.2 in (
       c.join_seat.ensures.0 ∙ (c.into_seat-seat.ensures.0 ∙ (ap (λ (n : Testified). n.table) c.one.view_is ∙ c.requires.one)),
       c.requires.lock,
-      c.law_testimonies_are_allowed.ensures.compare _ _ _ _ c.join_seat.new.seat.me (now ∙ ap testimony_at (sym now)),
+      c.law_testimonies_are_allowed.ensures.compare _ _ _ _ _ c.join_seat.new.seat.me (now ∙ ap testimony_at (sym now)),
     )

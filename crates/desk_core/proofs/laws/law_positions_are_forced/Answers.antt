@@ -6,5 +6,5 @@ pub returns : goal.returns
 returns c =
     let line = c.law_one_more_line.ensures in
     let items = c.law_items_stay_in_range.ensures in
-    let laws : QueueLaws = record { enters = line.entries; legal = line.legal; rise = line.rise; entries = items.entries; reply = items.reply } in
+    let laws : QueueLaws = record { enters = line.entries; legal = line.legal; rise = line.rise; entries = items.entries; reply = items.reply; heeds = c.law_shut.ensures.heeds } in
     positions_are_forced laws

@@ -7,8 +7,9 @@ use Rattle.pq_types.specs.declared.request.Request.TheVariants.{Pop}
 use Rattle.pq_types.specs.declared.answer.Answer.TheVariants.{Entered}
 use Rattle.pq_types.specs.declared.answer.Reply.TheVariants.{Got}
 use Rattle.pq_types.specs.History.{left, MayAnswer}
-use Rattle.pq_book.specs.Book.{Volume}
+use Rattle.pq_book.specs.Book.{limits_of}
 use Rattle.leftist_heap.specs.Store.{first_of}
+use Rattle.desk_core.specs.Home.{Home}
 use Rattle.announce_board.specs.Tokens.{AtDesk, is_idle}
 use Rattle.flat_queue.proofs.Together.{popped_on, popped_due}
 use Rattle.flat_queue.proofs.batches.pop_each.Goals as goal
@@ -20,8 +21,10 @@ loop-done-preserved g c =
     let x = c.in-Got.item in
     let q = c.loop-done.pen.state in
     let is : c.apply-next.result.1 ≡ Entered c.in-Entered.field-0 (Got x) = c.in-Entered.is ∙ ap (Entered c.in-Entered.field-0) c.in-Got.is in
-    let may : MayAnswer q.room q.hand Pop (Entered c.in-Entered.field-0 (Got x)) = subst (MayAnswer q.room q.hand Pop) is e.may in
-    let first : c.first.result ≡ first_of (left q.hand) = c.first.ensures ∙ ap (λ (b : Volume). first_of (left b.journal)) i.lead.book in
+    let limits = limits_of c.args.lead.book in
+    let asked : MayAnswer limits q.hand Pop c.apply-next.result.1 = subst (λ l. MayAnswer l q.hand Pop c.apply-next.result.1) i.limits e.may in
+    let may : MayAnswer limits q.hand Pop (Entered c.in-Entered.field-0 (Got x)) = subst (MayAnswer limits q.hand Pop) is asked in
+    let first : c.first.result ≡ first_of (left q.hand) = c.first.ensures ∙ ap (λ (b : Home). first_of (left b.journal)) i.lead.book in
     let low : x.priority ≤ g.P.Part.number c.args.priority = popped_due (g.P.Part.number c.args.priority) c.first.result (left q.hand) x first (sym c.if-not-is_due.ensures) may.2 in
     let room : c.loop-done.done < length c.loop-done.into = omega (arith, i.slots, c.bounded-end.ensures.within, c.loop-done-test.true) in
     record {
@@ -30,8 +33,9 @@ loop-done-preserved g c =
       room = ap (λ (a : AtDesk). a.state.room) e.after.1 ∙ i.room;
       slots = length-set c.loop-done.into c.loop-done.done x ∙ i.slots;
       lead = e.lead;
+      limits = e.limits ∙ i.limits;
       idle = ap (λ (a : AtDesk). is_idle a.state.standing) e.after.1;
-      applies = popped_on c.args.pen.now.state q c.apply-next.new.pen.state c.loop-done.into c.loop-done.done x c.apply-next.result.1 c.in-Entered.field-0 e.after.0 room i.applies e.may
+      applies = popped_on limits c.args.pen.now.state q c.apply-next.new.pen.state c.loop-done.into c.loop-done.done x c.apply-next.result.1 c.in-Entered.field-0 e.after.0 room i.applies asked
           (ap (λ (a : AtDesk). a.state) e.after.1) is;
       due = subst (All (λ (y : Item). y.priority ≤ g.P.Part.number c.args.priority)) (sym (take_more_set c.loop-done.into c.loop-done.done x room))
           (All-push (λ (y : Item). y.priority ≤ g.P.Part.number c.args.priority) (take c.loop-done.done c.loop-done.into) x i.due low);

@@ -1,5 +1,6 @@
 use Rattle.std.proofs.Common.{◌≡◌, ◌-◌, ◌≤◌, true}
 use Rattle.std.specs.Prelude.{take}
+use Rattle.pq_book.specs.Book.{limits_of}
 use Rattle.announce_board.specs.Tokens.{IsLeadOf, is_idle}
 use Rattle.flat_queue.specs.Batches.{AppliesEach, pushes_of}
 use Rattle.flat_queue.proofs.batches.push_each.Given as goal
@@ -11,7 +12,8 @@ invariant-loop-done g l = record {
   room : l.pen.state.room ≡ l.fn.pen.state.room;
   lead : IsLeadOf l.pen l.lead;
   idle : is_idle l.pen.state.standing ≡ true;
-  applies : AppliesEach l.fn.pen.state (pushes_of (take l.done l.fn.items)) l.pen.state;
+  limits : limits_of l.lead.book ≡ limits_of l.fn.lead.book;
+  applies : AppliesEach (limits_of l.fn.lead.book) l.fn.pen.state (pushes_of (take l.done l.fn.items)) l.pen.state;
   few : l.done ≤ l.end;
 }
 

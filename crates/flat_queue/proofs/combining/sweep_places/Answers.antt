@@ -13,6 +13,7 @@ loop-place-preserved-then-serve g c =
       steps = omega (arith, i.steps, e.steps);
       table = c.serve.ensures.table ∙ i.table;
       lead = c.serve.ensures.lead;
+      limits = c.serve.ensures.limits ∙ i.limits;
       served = subst (λ l. IsServedBy (word_number g.P.Part.wide) l (c.loop-place.served + 1) c.args.pen.now.state c.serve.new.pen.state) (sym e.answer.found)
           (keeps_on _ c.loop-place.stopped.scan.found c.loop-place.served c.args.pen.now.state c.loop-place.pen.state c.serve.new.pen.state true c.in-Some.place c.serve.new.lead.book i.served c.if-serve.ensures.serves);
       few = omega (arith, i.few, e.answer.onward, e.answer.doors);
@@ -28,6 +29,7 @@ loop-place-preserved g c =
       steps = omega (arith, i.steps, e.steps);
       table = c.serve.ensures.table ∙ i.table;
       lead = c.serve.ensures.lead;
+      limits = c.serve.ensures.limits ∙ i.limits;
       served = subst (λ n. IsServedBy (word_number g.P.Part.wide) c.scan_next.new.stopped.scan.found n c.args.pen.now.state c.serve.new.pen.state) none (subst (λ l. IsServedBy (word_number g.P.Part.wide) l (c.loop-place.served + 0) c.args.pen.now.state c.serve.new.pen.state) (sym e.answer.found)
           (keeps_on _ c.loop-place.stopped.scan.found c.loop-place.served c.args.pen.now.state c.loop-place.pen.state c.serve.new.pen.state false c.in-Some.place c.serve.new.lead.book i.served c.if-serve.ensures.serves));
       few = omega (arith, i.few, e.answer.onward, e.answer.doors);

@@ -1,4 +1,4 @@
-use Rattle.std.proofs.Common.{◌≡◌, ℕ, zero, suc, List, [], ◌∷◌, length, map, replicate, refl, ◌∙◌, ap}
+use Rattle.std.proofs.Common.{◌∙◌}
 use Rattle.flat_queue.specs.Gathered.{licences_at}
 use Rattle.flat_queue.proofs.Pens.{are_asleep, same_for_each}
 use Rattle.flat_queue.proofs.opening.asleep.Goals as goal

@@ -1,5 +1,5 @@
 -- Each pen that sleeps is that of its place, at the desk that the tag names; and the licences are those of the pens.
-use Rattle.std.proofs.Common.{◌≡◌, ◌-◌, ◌<◌, ◌≤◌, ◌∙◌, ap, sym, subst, List, [], length, map, refl, rules, arith}
+use Rattle.std.proofs.Common.{◌≡◌, ◌-◌, ◌<◌, ◌≤◌, ◌∙◌, ap, sym, subst, List, [], length, map, refl}
 use Rattle.std.specs.List.{All}
 use Rattle.std.proofs.lemmas.List.{length-map}
 use Rattle.std.proofs.lemmas.Option.{slice_get_within}
@@ -62,6 +62,7 @@ invariant_of-queue g c =
       table = table;
       room = ap (λ (t : DeskTag). t.sample.value.state.room) made.tagged ∙ tag.room;
       places_are = ap (λ (t : DeskTag). t.places) made.tagged ∙ tag.places;
+      terms_are = ap (λ (t : DeskTag). t.terms) made.tagged ∙ tag.terms;
       counted = c.requires.places ∙ ap places_of (sym made.counted);
       some = subst (λ n. 0 < n) (sym made.counted) c.requires.ids.size.some;
       few = subst (λ n. n ≤ desk.places) (sym made.counted) (subst (λ n. length c.args.ids.now ≤ n) (sym c.requires.places) (place_for_each (length c.args.ids.now) c.requires.ids.size.some));

@@ -4,7 +4,6 @@ use Rattle.split_core.specs.Ids.{IsFault}
 use Rattle.split_core.specs.declared.places.TheConstants.{MAX_COMERS}
 use Rattle.queue_c.specs.Threads.{AreThreads}
 use Rattle.queue_c.specs.Calls.{Opening}
-use Rattle.queue_c.specs.Lengths.{room_of}
 use Rattle.queue_c.proofs.FineIds.{no_fault, first_ids}
 use Rattle.queue_c.proofs.opening.pool_for.Goals as goal
 
@@ -23,5 +22,5 @@ pub returns-in-Ok-clause-opened : goal.returns-in-Ok-clause-opened
 returns-in-Ok-clause-opened c =
     let n = c.args.threads in
     let few : n ≤ MAX_COMERS = omega (arith, c.if-count-gt-MAX_COMERS.false) in
-    subst (λ ids. Opening ids (room_of c.args.length) c.in-Ok.pool) (first_ids n c.all_ids-ids.result few c.all_ids-ids.ensures)
+    subst (λ ids. Opening ids c.args.length c.args.bound c.in-Ok.pool) (first_ids n c.all_ids-ids.result few c.all_ids-ids.ensures)
     (c.in-Ok.ensures.opens.0, c.in-Ok.ensures.ok)

@@ -22,24 +22,24 @@ returns-in_default-line_in_range-clause-every_line g c = every_line g.P.Part.wid
 pub returns-in_default-line_in_range-clause-every_refusal : goal.returns-in_default-line_in_range-clause-every_refusal
 returns-in_default-line_in_range-clause-every_refusal g c = every_refusal g.P.Part.wide _ (Err OutOfRange) (found g c)
 
-told : (g : _) (c : goal.Then-not-may_reply g) → IsNoLineFor g.P.Part.wide c.args.text.now NoSuchReply
+told : (g : _) (c : goal.Then-not-may_reply_to g) → IsNoLineFor g.P.Part.wide c.args.text.now NoSuchReply
 told g c =
-    no_such_reply g.P.Part.wide _ c.in-Some.shape c.in-Some-line_in_range.found _ _ c.in-Some.ensures.some c.in-Some-line_in_range.ensures.some c.reply_kind.ensures c.may_reply.ensures
-    c.if-not-may_reply.true
+    no_such_reply g.P.Part.wide _ c.in-Some.shape c.in-Some-line_in_range.found _ c.in-Some.ensures.some c.in-Some-line_in_range.ensures.some c.may_reply_to.ensures
+    c.if-not-may_reply_to.true
 
-pub returns-then-not-may_reply-clause-err : goal.returns-then-not-may_reply-clause-err
-returns-then-not-may_reply-clause-err g c = told g c
+pub returns-then-not-may_reply_to-clause-err : goal.returns-then-not-may_reply_to-clause-err
+returns-then-not-may_reply_to-clause-err g c = told g c
 
-pub returns-then-not-may_reply-clause-every_line : goal.returns-then-not-may_reply-clause-every_line
-returns-then-not-may_reply-clause-every_line g c = every_line g.P.Part.wide _ (Err NoSuchReply) (told g c)
+pub returns-then-not-may_reply_to-clause-every_line : goal.returns-then-not-may_reply_to-clause-every_line
+returns-then-not-may_reply_to-clause-every_line g c = every_line g.P.Part.wide _ (Err NoSuchReply) (told g c)
 
-pub returns-then-not-may_reply-clause-every_refusal : goal.returns-then-not-may_reply-clause-every_refusal
-returns-then-not-may_reply-clause-every_refusal g c = every_refusal g.P.Part.wide _ (Err NoSuchReply) (told g c)
+pub returns-then-not-may_reply_to-clause-every_refusal : goal.returns-then-not-may_reply_to-clause-every_refusal
+returns-then-not-may_reply_to-clause-every_refusal g c = every_refusal g.P.Part.wide _ (Err NoSuchReply) (told g c)
 
-read : (g : _) (c : goal.Else-not-may_reply g) → IsReadAs g.P.Part.wide c.args.text.now (Ok c.in-Some-line_in_range.found)
+read : (g : _) (c : goal.Else-not-may_reply_to g) → IsReadAs g.P.Part.wide c.args.text.now (Ok c.in-Some-line_in_range.found)
 read g c =
-    the_line g.P.Part.wide _ c.in-Some.shape c.in-Some-line_in_range.found _ _ c.in-Some.ensures.some c.in-Some-line_in_range.ensures.some c.reply_kind.ensures c.may_reply.ensures
-    c.if-not-may_reply.false
+    the_line g.P.Part.wide _ c.in-Some.shape c.in-Some-line_in_range.found _ c.in-Some.ensures.some c.in-Some-line_in_range.ensures.some c.may_reply_to.ensures
+    c.if-not-may_reply_to.false
 
 pub returns-clause-ok : goal.returns-clause-ok
 returns-clause-ok g c = read g c

@@ -13,9 +13,8 @@ returns-in_err-named-clause-none c =
 pub returns-in_err-outcome-clause-none : goal.returns-in_err-outcome-clause-none
 returns-in_err-outcome-clause-none c =
     let led = c.in_ok-number.ensures.some in
-    let asked = c.in_ok-named.ensures.some in
     if_none _ _ c.from_residual-in_err-outcome.ensures
-    (no_line_told _ _ _ (led.0, led.1, led.2, led.3) (asked.0, asked.1) c.in_err-outcome.ensures.none)
+    (no_line_told _ _ _ _ (led.0, led.1, led.2, led.3) c.in_ok-named.ensures.some c.in_err-outcome.ensures.none)
 
 pub returns-clause-some : goal.returns-clause-some
 returns-clause-some c =

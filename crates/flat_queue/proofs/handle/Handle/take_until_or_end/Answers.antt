@@ -1,6 +1,7 @@
 use Rattle.std.proofs.Common.{◌∙◌}
 use Rattle.desk_core.specs.Words.{word_number}
 use Rattle.flat_queue.specs.Taking.{TakesUntilBy}
+use Rattle.flat_queue.specs.declared.event_count.Wakes.TheVariants.{EventOrEnd}
 use Rattle.flat_queue.proofs.Takings.{until_idle, or_ends_idle}
 use Rattle.flat_queue.proofs.handle.Handle.take_until_or_end.Goals as goal
 
@@ -8,6 +9,6 @@ pub invariant_of-self : goal.invariant_of-self
 invariant_of-self g c =
     let before = c.self.inside.member in
     let after = c.take_until_or_end.new.member in
-    let h = or_ends_idle _ (TakesUntilBy (word_number g.P.Part.wide) (g.R.TimeSource.may_tell c.args.rt.now) c.args.deadline) before after c.take_until_or_end.result
-    (λ told. until_idle _ (g.R.TimeSource.may_tell c.args.rt.now) c.args.deadline before after told c.self.invariant.1) c.take_until_or_end.ensures.takes in
+    let h = or_ends_idle _ EventOrEnd (TakesUntilBy (word_number g.P.Part.wide) EventOrEnd (g.R.TimeSource.may_tell c.args.rt.now) c.args.deadline) before after c.take_until_or_end.result
+    (λ told. until_idle _ EventOrEnd (g.R.TimeSource.may_tell c.args.rt.now) c.args.deadline before after told c.self.invariant.1) c.take_until_or_end.ensures.takes in
     (h.0 ∙ c.self.invariant.0, h.1)

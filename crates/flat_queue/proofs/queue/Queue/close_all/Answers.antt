@@ -1,10 +1,10 @@
-use Rattle.std.proofs.Common.{◌≡◌, ℕ, ◌+◌, ◌-◌, ◌<◌, [], length, map, subst, sym, ◌∙◌, ap, arith}
+use Rattle.std.proofs.Common.{◌+◌, ◌-◌, [], length, map, subst, sym, ◌∙◌, ap, arith}
 use Rattle.std.proofs.lemmas.List.{length-map}
 use Rattle.announce_board.specs.Opening.{HasAll, IsHomeWithAll, AllKnow, LinesAreOfThese, HavePlaces}
 use Rattle.announce_board.specs.Testimonies.{Testified}
-use Rattle.flat_queue.specs.Closing.{ClosesAll, retired_pen}
+use Rattle.flat_queue.specs.Closing.{retired_pen}
 use Rattle.flat_queue.specs.Gathered.{Gathers}
-use Rattle.flat_queue.specs.Members.{QueueName, Joined}
+use Rattle.flat_queue.specs.Members.{QueueName}
 use Rattle.flat_queue.proofs.Closes.{has_all, is_some, is_told, closes_all}
 use Rattle.flat_queue.proofs.queue.Queue.close_all.Goals as goal
 

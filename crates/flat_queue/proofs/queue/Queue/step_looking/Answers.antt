@@ -7,8 +7,8 @@ use Rattle.flat_queue.proofs.queue.Queue.step_looking.Goals as goal
 
 pub returns-clause-steps : goal.returns-clause-steps
 returns-clause-steps g c =
-    subst (λ r. LooksOneTimeBy (word_number g.P.Part.wide) (c.args.left ≡ Nothing) c.args.line c.args.member.now r c.step_due.new.member) (sym c.looked_on.ensures)
-    (looks_as _ _ c.args.line c.args.member.now c.step_due.new.member c.step_due.result c.step_due.ensures.steps)
+    subst (λ r. LooksOneTimeBy (word_number g.P.Part.wide) c.args.wakes (c.args.left ≡ Nothing) c.args.line c.args.member.now r c.step_due.new.member) (sym c.looked_on.ensures)
+    (looks_as _ _ _ c.args.line c.args.member.now c.step_due.new.member c.step_due.result c.step_due.ensures.steps)
 
 pub returns-clause-heeds : goal.returns-clause-heeds
 returns-clause-heeds g c number e = c.step_due.ensures.heeds (over_as c.args.line number c.step_due.result (sym c.looked_on.ensures ∙ e))

@@ -1,7 +1,7 @@
 use Rattle.std.proofs.Common.{rules, ◌≡◌, ◌<◌, ap, subst, sym, length}
-use Rattle.pq_types.specs.History.{left}
+use Rattle.pq_types.specs.History.{left, is_shut}
 use Rattle.leftist_heap.specs.Store.{first_of}
-use Rattle.pq_book.specs.Book.{Volume}
+use Rattle.desk_core.specs.Home.{Home}
 use Rattle.flat_queue.specs.Members.{Joined}
 use Rattle.flat_queue.specs.Looking.{IsLeft}
 use Rattle.flat_queue.proofs.OwnRequests.{is_ready}
@@ -15,12 +15,12 @@ release_with-answer-requires-clause-due g c =
 
 pub returns-clause-looks : goal.returns-clause-looks
 returns-clause-looks g c =
-    let journal = ap (λ (b : Volume). b.journal) c.serve_others-served.ensures.lead.book in
+    let journal = ap (λ (b : Home). b.journal) c.serve_others-served.ensures.lead.book in
     let here : c.room.result ≡ c.args.member.now.queue.room = search rules in
     let spare = subst (λ n. length c.serve_others-served.new.member.pen.hand < n) here
     (subst (λ l. length l < c.room.result) journal c.in-Some.ensures.some.1) in
     let served = serves_others _ c.serve_others-served.result.read.posted c.args.member.now c.lead.new.member c.serve_others-served.new.member c.release.new.member
     c.in_ok-lead.lead.book c.in_ok-lead.ensures.stays c.in_ok-lead.ensures.wins c.serve_others-served.ensures.sweeps c.release.ensures spare in
     left_looks _ c.args.wanted c.args.member.now c.release.new.member c.in-Some.left served
-    (subst (λ (m : Joined). IsLeft c.args.wanted (first_of (left m.pen.known)) c.in-Some.left) (sym c.release.ensures)
-    (subst (λ l. IsLeft c.args.wanted (first_of (left l)) c.in-Some.left) journal c.in-Some.ensures.some.0))
+    (subst (λ (m : Joined). IsLeft c.args.wanted (first_of (left m.pen.known)) (is_shut m.pen.known) c.in-Some.left) (sym c.release.ensures)
+    (subst (λ l. IsLeft c.args.wanted (first_of (left l)) (is_shut l) c.in-Some.left) journal c.in-Some.ensures.some.0))

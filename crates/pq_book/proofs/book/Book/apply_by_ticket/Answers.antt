@@ -1,9 +1,11 @@
-use Rattle.std.proofs.Common.{arith, ap, ◌<◌, length, ◌∙◌, [], ◌∷◌, ◌++◌}
+use Rattle.std.proofs.Common.{arith, ap, refl, sym, subst, ◌<◌, length, ◌∙◌, ◌++◌, ◌∷◌, []}
+use Rattle.pq_types.specs.Asked.{Line}
 use Rattle.pq_types.specs.Operation.{ByTicket}
 use Rattle.pq_types.specs.Entry.{reply_by}
-use Rattle.pq_types.specs.History.{line_of, entries_of, left}
-use Rattle.pq_book.specs.Book.{Volume}
-use Rattle.pq_book.proofs.KeptLemmas.{next_is_later, few_entries, as_many_left, reply_in_range, kept_entered, paged_entered, with_line, no_room}
+use Rattle.pq_types.specs.History.{line_of, left, entries_of, IsAdmitted, MayDo, journal_by}
+use Rattle.pq_book.specs.Book.{Volume, limits_of}
+use Rattle.pq_book.proofs.KeptLemmas.{items_left, next_is_later, few_entries, as_many_left, reply_in_range, kept_entered, paged_entered, with_line, no_room}
+use Rattle.pq_book.proofs.KeptLemmas.{bar_enters_none, bar_is_proper, bar_is_within, bar_is_not_memory, shut_still}
 use Rattle.pq_book.proofs.Peak.{peak_entered}
 use Rattle.pq_book.proofs.book.Book.apply_by_ticket.Goals as goal
 
@@ -13,51 +15,49 @@ carried_out_by_ticket-requires g c = record { lines = next_is_later _ _ _ _ c.se
 pub invariant_of-self-2 : goal.invariant_of-self-2
 invariant_of-self-2 g c =
     let line = c.law_one_more_line.ensures in
-    let kept = kept_entered _ _ _ _ c.self.invariant.0 line.legal line.rise c.law_items_stay_in_range.ensures.entries _ _ _ _ _ (ByTicket c.args.ticketed) _ (rw (← c.self.view_is) at c.requires)
-    (omega (arith, c.len.ensures)) c.law_ticketed_is_proper.ensures (omega (arith, c.len-number.ensures)) c.in-Some.ensures.reply c.in-Some.ensures.entries (with_line _ _ _ _ _ _ _ c.by_ticket.ensures c.add.ensures.lines) in
-    let peaked = peak_entered _ _ _ _ _ _ c.self.invariant.2 c.peak_with-self-inside.ensures c.add.ensures.lines (omega (arith, c.len-2.ensures.len, as_many_left _ _ _ _ kept)) in
-    (kept, paged_entered c.self.inside.room c.self.inside.journal c.add.new.self _ c.self.invariant.1 c.add.ensures.page c.add.ensures.kept c.add.ensures.full c.add.ensures.lines c.add.ensures.most, peaked)
+    let open_to = subst (λ o. IsAdmitted (limits_of c.args.self.now) c.args.self.now.journal o) c.by_ticket.ensures c.in_default.ensures.admitted in
+    let admitted = subst (λ (b : Volume). IsAdmitted (limits_of b) b.journal (ByTicket c.args.ticketed)) (sym c.self.view_is) open_to in
+    let grown = with_line _ _ _ _ _ _ _ c.by_ticket-2.ensures c.add.ensures.lines in
+    let kept = kept_entered _ _ _ _ c.self.invariant.0 line.legal line.rise c.law_shut.ensures.heeds c.law_items_stay_in_range.ensures.entries _ _ _ _ _ (ByTicket c.args.ticketed) _ (rw (← c.self.view_is) at c.requires) admitted c.law_ticketed_is_proper.ensures
+    (omega (arith, c.len-number.ensures)) c.in-Some-carried_out_by_ticket.ensures.reply c.in-Some-carried_out_by_ticket.ensures.entries grown in
+    let peaked = peak_entered _ _ _ _ _ _ c.self.invariant.2 c.peak_with-self-inside.ensures c.add.ensures.lines (omega (arith, c.len.ensures.len, as_many_left _ _ _ _ kept)) in
+    let shut = shut_still c.law_shut.ensures.more _ _ _ _ c.self.invariant.3 refl grown in
+    (kept, paged_entered c.self.inside.room c.self.inside.journal c.add.new.self _ c.self.invariant.1 c.add.ensures.page c.add.ensures.kept c.add.ensures.full c.add.ensures.lines c.add.ensures.most, peaked, shut, c.self.invariant.4, c.self.invariant.5)
 
 pub returns-clause-answer : goal.returns-clause-answer
 returns-clause-answer g c =
     let journal = ap (λ (b : Volume). length b.journal) c.self.view_is in
-    let room = ap (λ (b : Volume). b.room) c.self.view_is in
-    let now = c.self.invariant.0.entries_are ∙ ap (λ (b : Volume). entries_of b.journal) c.self.view_is in (
-      omega (arith, journal, room, c.len.ensures),
-      omega (arith, journal, c.len-number.ensures),
-      c.in-Some.ensures.reply ∙ ap (λ es. reply_by es (ByTicket c.args.ticketed)) now,
-    )
+    let open_to = subst (λ o. IsAdmitted (limits_of c.args.self.now) c.args.self.now.journal o) c.by_ticket.ensures c.in_default.ensures.admitted in
+    let now = c.self.invariant.0.entries_are ∙ ap (λ (b : Volume). entries_of b.journal) c.self.view_is in
+    (open_to, omega (arith, journal, c.len-number.ensures), c.in-Some-carried_out_by_ticket.ensures.reply ∙ ap (λ es. reply_by es (ByTicket c.args.ticketed)) now)
 
 pub returns-clause-proper : goal.returns-clause-proper
 returns-clause-proper g c =
-    let few : c.len.result < c.self.inside.room = omega (arith, c.if-len-self.false) in (
-      (omega arith, omega (arith, c.len-number.ensures, c.len.ensures, few, c.self.invariant.0.room_in_range.1)),
-      reply_in_range _ _ _ _ c.self.invariant.0 c.law_items_stay_in_range.ensures.replies (ByTicket c.args.ticketed) _ c.in-Some.ensures.reply,
-    )
+    let few = c.in_default.ensures.admitted.space in
+    let journal = ap (λ (b : Volume). length b.journal) c.self.view_is in
+    let room = ap (λ (b : Volume). b.room) c.self.view_is in
+    ((omega arith, omega (arith, c.len-number.ensures, few, journal, room, c.self.invariant.0.room_in_range.1)), reply_in_range _ _ _ _ c.self.invariant.0 c.law_items_stay_in_range.ensures.replies (ByTicket c.args.ticketed) _ c.in-Some-carried_out_by_ticket.ensures.reply)
 
 pub returns-clause-within : goal.returns-clause-within
 returns-clause-within g c =
-    let room = ap (λ (b : Volume). b.room) c.self.view_is in (
-      omega arith,
-      omega (arith, c.len-number.ensures, c.len.ensures, c.if-len-self.false, room),
-      reply_in_range _ _ _ _ c.self.invariant.0 c.law_items_stay_in_range.ensures.replies (ByTicket c.args.ticketed) _ c.in-Some.ensures.reply,
-    )
+    let journal = ap (λ (b : Volume). length b.journal) c.self.view_is in
+    (omega arith, omega (arith, c.len-number.ensures, journal, c.in_default.ensures.admitted.space), reply_in_range _ _ _ _ c.self.invariant.0 c.law_items_stay_in_range.ensures.replies (ByTicket c.args.ticketed) _ c.in-Some-carried_out_by_ticket.ensures.reply)
 
 pub returns-clause-run : goal.returns-clause-run
 returns-clause-run g c =
     let journal = ap (λ (b : Volume). b.journal) c.self.view_is in
-    let grown = with_line _ _ _ _ _ _ _ c.by_ticket.ensures c.add.ensures.lines in
-    (c.requires, returns-clause-answer g c, grown ∙ ap (λ ls. ls ++ line_of c.args.place c.args.serial (ByTicket c.args.ticketed) c.in-Some.reply ∷ []) journal)
+    let grown = with_line _ _ _ _ _ _ _ c.by_ticket-2.ensures c.add.ensures.lines in
+    (c.requires, returns-clause-answer g c, grown ∙ ap (λ ls. ls ++ line_of c.args.place c.args.serial (ByTicket c.args.ticketed) c.in-Some-carried_out_by_ticket.reply ∷ []) journal)
 
 -- the store has fewer items than the journal has room for lines
-pub returns-in_default-clause-memory : goal.returns-in_default-clause-memory
-returns-in_default-clause-memory g c all is =
+pub returns-in_default-carried_out_by_ticket-clause-memory : goal.returns-in_default-carried_out_by_ticket-clause-memory
+returns-in_default-carried_out_by_ticket-clause-memory g c all is =
     let line = c.law_one_more_line.ensures in
-    let room = ap (λ (b : Volume). b.room) c.self.view_is in
-    no_room _ _ _ _ c.in_default.ensures.full (all.1 c.self.inside.store) all.0 (omega (arith, few_entries _ _ _ _ c.self.invariant.0 line.length, c.len.ensures, room))
+    let journal = ap (λ (b : Volume). length b.journal) c.self.view_is in
+    no_room _ _ _ _ c.in_default-carried_out_by_ticket.ensures.full (all.1 c.self.inside.store) all.0 (omega (arith, few_entries _ _ _ _ c.self.invariant.0 line.length, journal, c.in_default.ensures.admitted.space))
 
 -- and as many as the journal leaves
-pub returns-in_default-clause-spare : goal.returns-in_default-clause-spare
-returns-in_default-clause-spare g c all is =
+pub returns-in_default-carried_out_by_ticket-clause-spare : goal.returns-in_default-carried_out_by_ticket-clause-spare
+returns-in_default-carried_out_by_ticket-clause-spare g c all is =
     let now = ap (λ (b : Volume). length (left b.journal)) c.self.view_is in
-    no_room _ _ _ _ c.in_default.ensures.full (all.1 c.self.inside.store) all.0 (omega (arith, as_many_left _ _ _ _ c.self.invariant.0, now))
+    no_room _ _ _ _ c.in_default-carried_out_by_ticket.ensures.full (all.1 c.self.inside.store) all.0 (omega (arith, as_many_left _ _ _ _ c.self.invariant.0, now))

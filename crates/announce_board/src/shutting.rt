@@ -1,0 +1,98 @@
+// How a leader shuts the queue and releases. It posts nothing, and its line is in the Book that goes home.
+ghost use Rattle.std.specs.Prelude.{◌≡◌, ◌≢◌, ℕ, ◌+◌, ◌<◌, ◌≤◌, true, [], ◌∷◌, None};
+ghost use Rattle.pq_types.specs.Asked.{Reply};
+ghost use Rattle.pq_types.specs.declared.answer.Answer.TheVariants.{Entered};
+ghost use Rattle.pq_types.specs.declared.journal.TheConstants.{GREATEST_NUMBER};
+ghost use Rattle.pq_types.specs.History.{MayDo};
+ghost use Rattle.pq_types.specs.Operation.{Shuts};
+ghost use Rattle.pq_book.specs.Book.{limits_of};
+ghost use Rattle.desk_core.specs.Home.{home_of};
+ghost use Rattle.desk_core.specs.declared.model.View.TheVariants.{Holder};
+ghost use Rattle.desk_core.specs.Desk.{volume};
+ghost use Rattle.desk_core.specs.Knows.{NoneAbove};
+ghost use Rattle.desk_core.specs.Layout.{lock_at};
+ghost use Rattle.desk_core.specs.Pen.{IsIdle, after_release_by};
+ghost use Rattle.announce_board.specs.Asking.{IsAnswerBy, IsAboveAll, IsFullFor};
+ghost use Rattle.announce_board.specs.Slots.{MeetsTerms, out};
+ghost use Rattle.announce_board.specs.Steps.{pen_at};
+ghost use Rattle.announce_board.specs.Tokens.{IsLeadOf, is_idle};
+
+use crate::boxed_book::BoxedBook;
+use crate::desk::Desk;
+use crate::laws::law_steps_are_allowed;
+use crate::rule::{Board, BoardSeat, ReleaseWith, Slot};
+use crate::tokens::{Lead, Pen};
+use crate::words::LOCK;
+use desk_core::laws::{law_books_deal, law_calls_are_lines};
+use leftist_heap::Store;
+use pq_book::Entry;
+use pq_types::{Answer, Item, Part};
+
+/// Has the Book shut the queue for the pen, puts it into its slot, and frees the lock then.
+fn put_home_shut<S: Store<Entry<P>>, P: Part>(
+    board: &Board<S, P>,
+    seat: &mut BoardSeat<S, P>,
+    place: u16,
+    serial: u64,
+    book: BoxedBook<S, P>,
+) -> Answer<Item<P>>
+    requires here { seat.old.table_id ≡ board.now.table_id }
+    requires is { seat.old.me.0 ≡ Holder (pen_at seat.old.me) }
+    requires lock { lock_at < board.now.table_id.words }
+    requires slot { seat.old.me.1 ≡ (0, out) ∷ [] }
+    requires leads { (pen_at seat.old.me).leading ≡ true }
+    requires due { (pen_at seat.old.me).due ≡ None }
+    requires idle { IsIdle (pen_at seat.old.me).standing }
+    requires place { place ≡ (pen_at seat.old.me).place }
+    requires serial { serial ≡ (pen_at seat.old.me).posts + 1 }
+    requires few { serial ≤ GREATEST_NUMBER }
+    requires used { NoneAbove (pen_at seat.old.me).place (pen_at seat.old.me).posts (pen_at seat.old.me).hand }
+    requires book { home_of book ≡ volume (pen_at seat.old.me).room (pen_at seat.old.me).hand }
+    requires terms { MeetsTerms board.now.key.terms book }
+    ensures table { seat.new.table_id ≡ seat.old.table_id }
+    ensures may { MayDo (limits_of book) (pen_at seat.old.me).hand Shuts result }
+    ensures answers { IsAnswerBy (pen_at seat.old.me).room Shuts result }
+    ensures behind { (number : ℕ) (reply : Reply) → result ≡ Entered number reply → IsAboveAll number (pen_at seat.old.me).mine }
+    ensures full { result ≡ Answer.BookFull → IsFullFor (pen_at seat.new.me) }
+    ensures barred { IsFullFor (pen_at seat.old.me) → (number : ℕ) (reply : Reply) → result ≢ Entered number reply }
+    ensures memory { result ≢ Answer.NoMemory }
+    ensures after { (now : ℕ) × (seat.new.me ≡ (Holder (after_release_by (pen_at seat.old.me) Shuts result now), [])) }
+{
+    law_steps_are_allowed::<S, P>();
+    law_calls_are_lines();
+    law_books_deal();
+    let mut book = book;
+    let answer = book.boxed.apply_shut(place, serial);
+    drop(board.exchange(seat, 0, Slot::with(book)));
+    board.store::<ReleaseWith>(seat, LOCK, 0);
+    answer
+}
+
+impl<S: Store<Entry<P>>, P: Part> Desk<S, P> {
+    /// The idle leader, to which nothing is due, has the Book shut the queue, puts the Book home and then
+    /// frees the lock, in one step. From then on the Book refuses each push and each further shut; what waits
+    /// stays. The line of the shut comes after those of the pen's earlier calls. It is refused where the
+    /// journal is full, where the queue is shut, and where its line would make memory forget one that is not
+    /// archived. It takes no memory.
+    pub fn release_shut(&self, pen: &mut Pen<S, P>, lead: Lead<S, P>) -> Answer<Item<P>>
+        requires table { pen.old.table ≡ self.now.table }
+        requires lead { IsLeadOf pen.old lead }
+        requires terms { MeetsTerms self.now.terms lead.book }
+        requires due { pen.old.state.due ≡ None }
+        requires idle { is_idle pen.old.state.standing ≡ true }
+        requires few { pen.old.state.posts < GREATEST_NUMBER }
+        ensures may { MayDo (limits_of lead.book) pen.old.state.hand Shuts result }
+        ensures answers { IsAnswerBy pen.old.state.room Shuts result }
+        ensures behind { (number : ℕ) (reply : Reply) → result ≡ Entered number reply → IsAboveAll number pen.old.state.mine }
+        ensures full { result ≡ Answer.BookFull → IsFullFor pen.new.state }
+        ensures barred { IsFullFor pen.old.state → (number : ℕ) (reply : Reply) → result ≢ Entered number reply }
+        ensures memory { result ≢ Answer.NoMemory }
+        ensures after { (now : ℕ) × (pen.new ≡ record pen.old { state = after_release_by pen.old.state Shuts result now }) }
+    {
+        let serial = pen.posts + 1;
+        let book = lead.into_boxed();
+        let answer = put_home_shut(&self.table.shared, &mut pen.seat, pen.place, serial, book);
+        pen.posts = serial;
+        answer
+    }
+}

@@ -8,18 +8,20 @@
  *     pq_item item = { 3, 7 };
  *     if (pq_open(NULL, &queue) == PQ_OK && pq_push(pq_own(queue), item, PQ_FOREVER, NULL) == PQ_OK) ..
  *
- * A call goes through a member of the queue. pq_own(queue) stands for the calling thread's own member, so any number of threads may call
- * through it. A program that wants to move a member between threads joins one itself (pq_join).
+ * A call goes through a member of the queue. That of pq_own(queue) is the calling thread's own, so any number of threads may call through it.
+ * A program that wants to move a member between threads joins one itself (pq_join).
  *
- * Most calls take `until`, the time until which they may wait for the queue's lock, a member or an item: a time of pq_now, PQ_NOW (never), or
- * PQ_FOREVER. PQ_TIMED_OUT: nothing was done or will be, but for *done pushes of pq_push_many. Only pq_write is a cancellation point.
+ * Most calls take `until`, the time until which they may wait for the queue's lock, a member or an item. It is a time of pq_now, PQ_NOW
+ * (never), or PQ_FOREVER. PQ_TIMED_OUT: nothing was done or will be, but for *done pushes of pq_push_many. Only pq_write is a cancellation
+ * point.
  *
  * All that a thread does before it pushes or moves an item happens before what another does after a call that returned it. So a value may be
  * a pointer.
  *
  * Nothing checks these duties of the caller. Pointers are valid. A member that was joined is in one call at a time; a queue, and
  * pq_own(queue), may be in calls of many threads. No call is made from a signal handler, or left by longjmp. Nothing is used after it was
- * freed. A thread that dies in a call may keep the queue's lock (then calls with a deadline time out, and others hang), or another lock.
+ * freed. A thread that dies in a call may keep the queue's lock: then calls with a deadline time out, and others hang. If it keeps another lock,
+ * any call may hang.
  */
 #ifndef FLATPQ_H
 #define FLATPQ_H
@@ -60,7 +62,7 @@ typedef enum pq_code {
     PQ_ALL_JOINED = 41,   /* as many members are in use as the queue was opened for, or this one is the last awake */
     PQ_NO_MEMBER = 42,    /* the member is NULL, or another copy of the library has opened the queue */
     PQ_NO_ENTRY = 46,     /* the journal has no such entry */
-    PQ_EMPTY = 48,        /* the queue has no item */
+    PQ_EMPTY = 48,        /* the queue has no item; of a call that listens also: another thread had the lock */
     PQ_FORGOTTEN = 49,    /* some of these entries are no longer in memory */
     PQ_NOT_DUE = 50,      /* the priority of the first item is above the bound: the item stays */
     PQ_SHUT = 51,         /* the queue is shut, so it takes no push; or it is shut and empty */
@@ -117,11 +119,11 @@ typedef struct pq_options {
    PQ_OK; PQ_BAD_OPTION, PQ_NO_MEMORY, PQ_FORKED, PQ_PROCESSOR: *queue is NULL. */
 PQ_CHECKED pq_code pq_open(const pq_options *options, pq_queue **queue);
 
-/* Shuts the queue down for good: each push that begins from now on is refused (PQ_SHUT), and so are those that wait for room. Threads that wait for
-   an item take what is left, and return PQ_SHUT once nothing is left; no item comes after that. The shut has an entry (PQ_SHUTS), but in a full
-   journal, which refuses pushes as before. The call waits for nothing: where it finds all members in use, or the lock held, the next call by a
-   member makes the shut first, with that call's deadline. Where the shut's entry could make memory forget an unarchived one it is made once more is
-   archived; until then each request is refused (PQ_UNARCHIVED). It may be called again. PQ_OK; PQ_CLOSED, PQ_FORKED. */
+/* Shuts the queue down for good: each push that begins from now on is refused (PQ_SHUT), and so are those that wait for room. Threads that wait
+   for an item take what is left, and return PQ_SHUT once nothing is left; no item comes after that. The shut has an entry (PQ_SHUTS), but in a
+   full journal, which refuses pushes as before. The call waits for nothing. Where it finds all members in use, or the lock held, the next call by
+   a member makes the shut first, with that call's deadline. Where the shut's entry could make memory forget an unarchived one it is made once
+   more is archived; until then each request is refused (PQ_UNARCHIVED). It may be called again. PQ_OK; PQ_CLOSED, PQ_FORKED. */
 pq_code pq_shut(pq_queue *queue);
 
 /* 1: the queue is shut, so each push that begins from now on is refused. 0: none was refused for that before this call; or in a forked child. */
@@ -133,21 +135,21 @@ int pq_is_shut(pq_queue *queue);
 PQ_CHECKED pq_code pq_close(pq_queue *queue, pq_journal **journal);
 
 /* Frees the queue, closed or not, or NULL. The program must not use it any more. Memory is freed once joined members are given back, calls have
-   returned, and threads that listen by pq_own have ended. Then `left`, unless it is NULL, is called with each item that was left, in
-   the thread that frees the memory; calls that `left` makes by `queue` return PQ_CLOSED. No thread that waits is woken: shut the queue first. */
+   returned, and threads that listen by pq_own have ended. Then the thread that frees it calls `left`, unless that is NULL, with each item that
+   was left. Calls that `left` makes by `queue` return PQ_CLOSED. No thread that waits is woken: shut the queue first. */
 void pq_free(pq_queue *queue, void (*left)(void *context, pq_item item), void *context);
 
 /* The calling thread's own member, as a pointer that all threads may share. A thread gets its member at its first call, and gives it back when
    it ends. Where all members are in use, a call takes over one that its thread does not use, or waits for one until its `until`. So more
    threads than members may call, and wait for an item (pq_take). A thread that waits for room keeps its member. So open a queue with a bound
-   for more members than threads that wait for room: else the take that would end their wait may itself wait for ever. */
+   for more members than threads that wait for room. Else the take that would end their wait may itself wait for ever. */
 pq_member *pq_own(pq_queue *queue);
 
 /* Gives the calling thread's own member back now, if the thread has one. */
 void pq_leave(pq_queue *queue);
 
-/* Joins the queue. Where all are in use, it takes over a member that its thread does not use (pq_own), or waits until then for one that is
-   given back. The member may move between threads. PQ_OK; PQ_ALL_JOINED, PQ_NO_MEMORY, PQ_CLOSED, PQ_FORKED: *member is NULL. */
+/* Joins the queue. Where all members are in use, it takes over one that its thread does not use (pq_own). Else it waits until then for one that
+   is given back. The member may move between threads. PQ_OK; PQ_ALL_JOINED, PQ_NO_MEMORY, PQ_CLOSED, PQ_FORKED: *member is NULL. */
 PQ_CHECKED pq_code pq_join(pq_queue *queue, uint64_t until, pq_member **member);
 
 /* Gives a joined member back, in any thread. member may be NULL. */
@@ -157,7 +159,7 @@ void pq_give_back(pq_member *member);
    the thread's member, or UINT32_MAX where the thread has none at the moment. */
 uint32_t pq_place(pq_member *member);
 
-/* Requests. Each of these calls may also return PQ_NO_MEMBER, PQ_FORKED, PQ_EXHAUSTED, PQ_JOURNAL_FULL or PQ_UNARCHIVED, and
+/* Requests. Each of these calls may also return PQ_NO_MEMBER, PQ_FORKED, PQ_EXHAUSTED, PQ_JOURNAL_FULL or PQ_UNARCHIVED. It may return
    PQ_TIMED_OUT unless `until` is PQ_FOREVER; a call by pq_own also PQ_CLOSED or PQ_NO_MEMORY. A call without `until` doesn't wait. number
    may be NULL; else *number is the number of the journal entry, if there is one. The first that is true refuses a request: PQ_JOURNAL_FULL,
    PQ_SHUT, PQ_UNARCHIVED, PQ_FULL, PQ_NO_MEMORY. Where nothing is there to take, a call that takes is refused for PQ_JOURNAL_FULL alone. */
@@ -191,7 +193,7 @@ PQ_CHECKED pq_code pq_pop_due_many(pq_member *member, uint64_t priority, pq_item
                                    uint64_t *number);
 
 /* How many items the queue has, exactly, at one moment of the call. It has no entry. peak may be NULL; else *peak is the most items that the
-   queue has had at once, from when it was opened to that moment. PQ_OK; never PQ_EXHAUSTED, PQ_JOURNAL_FULL or PQ_UNARCHIVED. */
+   queue had at once up to that moment. PQ_OK; never PQ_EXHAUSTED, PQ_JOURNAL_FULL or PQ_UNARCHIVED. */
 PQ_CHECKED pq_code pq_size(pq_member *member, uint64_t until, uint64_t *size, uint64_t *peak);
 
 /* Takes the item of this ticket out, wherever it waits: the ticket is the number of the entry that put it in. No other call returns it then. Also
@@ -205,21 +207,23 @@ PQ_CHECKED pq_code pq_reschedule(pq_member *member, uint64_t ticket, uint64_t pr
 /* For event loops and futures. A thread that listens by pq_own keeps its member. The last that is awake (pq_take) doesn't listen: PQ_ALL_JOINED. */
 
 /* Takes the first item out if it is due (pq_take_due); else the member listens by `timer`, a timerfd of CLOCK_MONOTONIC that no other member
-   has. It is readable once the first item is due, when an earlier one comes, on a shut, or sometimes for nothing: then call again, while this
-   returns PQ_OK. The program neither sets nor reads it, and closes it after pq_unlisten. The call does not wait for the queue's lock. PQ_OK;
-   PQ_NOT_DUE, PQ_EMPTY: wait for the timer; after PQ_NOT_DUE *item is the first item, which stays; PQ_SHUT; PQ_NO_TIMER; or a refusal. */
+   has. It is readable once the first item is due, when an earlier one comes, on a shut, or sometimes for nothing. Then call again, while this
+   returns PQ_OK. The program neither sets nor reads it, and closes it after pq_unlisten. The call does not wait for the queue's lock. If another
+   thread has that for long, it returns PQ_EMPTY, and the timer is readable within 0.1 ms. PQ_OK; PQ_NOT_DUE, PQ_EMPTY: wait for the timer; after
+   PQ_NOT_DUE *item is the first item, which stays; PQ_SHUT; PQ_NO_TIMER; or a refusal. */
 PQ_CHECKED pq_code pq_take_due_or_listen(pq_member *member, int timer, pq_item *item, uint64_t *number);
 
 /* Takes the first item out if its priority is at most this one; else the member listens. It does not wait for the queue's lock.
    PQ_OK; PQ_EMPTY: it listens; PQ_NOT_DUE: it listens, and *item is the first item, and stays: call again when that is due at the latest;
-   PQ_SHUT; or a refusal. While the member listens, notify(context) is called at most once, after a push, move or shut, or for nothing: in any
-   thread that calls the queue, or in this call if another thread has the lock for long, which then returns PQ_EMPTY. Then call again.
-   notify must not wait or call this library. All that listen so shall pass the same bound, or the current time: a push notifies one. */
+   PQ_SHUT; or a refusal. While the member listens, notify(context) is called at most once, after a push, move or shut, or for nothing. Any
+   thread that calls the queue may call it. If another thread has the lock for long, this call does, and returns PQ_EMPTY although items may be
+   there. After notify call again. notify must not wait or call this library. A push notifies one member. So all that listen shall pass the same
+   bound, or the current time. */
 PQ_CHECKED pq_code pq_take_or_listen(pq_member *member, uint64_t priority, pq_item *item, uint64_t *number,
                                      void (*notify)(void *context), void *context);
 
-/* Puts an item in, if there is room; else the member listens for room as by pq_take_or_listen: then call again, or pq_unlisten, as others that
-   listen for room may rely on that. PQ_OK; PQ_FULL: it listens; PQ_SHUT, PQ_NO_MEMORY; or a refusal. */
+/* Puts an item in, if there is room; else the member listens for room as by pq_take_or_listen. After notify call again, or pq_unlisten: others
+   that listen for room may rely on that. PQ_OK; PQ_FULL: it listens; PQ_SHUT, PQ_NO_MEMORY; or a refusal. */
 PQ_CHECKED pq_code pq_push_or_listen(pq_member *member, pq_item item, uint64_t *number, void (*notify)(void *context), void *context);
 
 /* Ends the listening, as a take or a refused call does: notify neither runs nor is called again. 1: the member listened, and was not notified. */
@@ -233,16 +237,15 @@ void pq_notify_fd(void *context);
 
 enum pq_request { PQ_PUSH = 0, PQ_POP = 1, PQ_PEEK = 2, PQ_REMOVE = 3, PQ_RESCHEDULE = 4, PQ_SHUTS = 5 };
 
-/* An entry: its number, from 1; its place's count of requests so far, this one and refused ones included; the member's place; the request; the
-   reply, PQ_OK or PQ_EMPTY; and the item pushed or found, as it was then. PQ_SHUTS shut the queue: no push follows, and its reply is PQ_EMPTY. */
+/* An entry. PQ_SHUTS shut the queue: no push follows, and its reply is PQ_EMPTY. */
 typedef struct pq_entry {
-    uint64_t number;
-    uint64_t serial;
-    uint32_t place;
-    uint32_t request;
-    uint32_t reply;
+    uint64_t number;  /* from 1 */
+    uint64_t serial;  /* its place's count of requests so far, this one and refused ones included */
+    uint32_t place;   /* of the member */
+    uint32_t request; /* of enum pq_request */
+    uint32_t reply;   /* PQ_OK or PQ_EMPTY */
     uint32_t unused;
-    pq_item item;
+    pq_item item;      /* pushed or found, as it was then */
     uint64_t ticket;   /* of PQ_REMOVE and PQ_RESCHEDULE; else 0 */
     uint64_t priority; /* of PQ_RESCHEDULE the one that the item gets; else 0 */
 } pq_entry;
@@ -271,10 +274,10 @@ size_t pq_text(const pq_entry *entry, char text[PQ_TEXT_ROOM]);
 /* Writes all entries as text to a file descriptor. PQ_OK; PQ_NOT_WRITTEN: a part may be written. */
 PQ_CHECKED pq_code pq_write(const pq_journal *journal, int file);
 
-/* Reads a journal back from a file descriptor, to the end of the file: the text that pq_write writes, of a journal from entry 1 on. Each line is
-   checked: its checksum, that its number is the next one, and that its reply follows from the entries before. A text of an earlier version has no
-   checksums. The journal is as that of a closed queue, and keeps the last 65536 entries. line and bytes may be NULL; else *line is how many lines
-   are read, and *bytes the length of those before a torn or refused one. PQ_OK; PQ_TORN: the last line has no line feed, and is left out;
+/* Reads a journal back from a file descriptor, to the end of the file. The text is what pq_write writes, of a journal from entry 1 on. Each line
+   is checked: its checksum, that its number is the next one, and that its reply follows from the entries before. A text of an earlier version
+   has no checksums. The journal is as that of a closed queue, and keeps the last 65536 entries. line and bytes may be NULL. Else *line is how many
+   lines are read, and *bytes the length of those before a torn or refused one. PQ_OK; PQ_TORN: the last line has no line feed, and is left out;
    PQ_NOT_LAWFUL: line *line is refused, and *journal is NULL, as of PQ_NOT_READ, PQ_NO_MEMORY and PQ_PROCESSOR. */
 PQ_CHECKED pq_code pq_journal_read(int file, pq_journal **journal, uint64_t *line, uint64_t *bytes);
 

@@ -10,18 +10,6 @@
  * The proved calls, with what follows each of them. The thread that carries a push out wakes threads that wait for its item.
  */
 
-static void watch_push(uint32_t request, pq_item item) {
-    if (IS_WATCHED && request == PQ_PUSH) {
-        flatpq_tsan_push(item);
-    }
-}
-
-static void watch_answer(const core_answer *answer) {
-    if (IS_WATCHED && (answer->kind == KIND_POPPED || answer->kind == KIND_FIRST)) {
-        flatpq_tsan_pop(answer->item);
-    }
-}
-
 /* A call of push, pop or peek. The answer comes last, as the proved call gets its address: a compiler would keep that of the whole call in a
    register meanwhile, if it were the same. */
 typedef struct call {
@@ -34,34 +22,57 @@ typedef struct call {
     core_answer answer;
 } call;
 
-INLINE pq_item item_of(uint32_t request, const call *it) {
-    const pq_item none = { 0, 0 };
-    return request == PQ_PUSH ? it->item : none;
+static void watch_push(uint32_t request, const call *it) {
+    if (IS_WATCHED && request == PQ_PUSH) {
+        flatpq_tsan_push(it->item);
+    }
 }
 
-/* What a step of a call does that finds the lock held. */
-enum { POSTS_NOTHING, POSTS };
+static void watch_answer(const core_answer *answer) {
+    if (IS_WATCHED && (answer->kind == KIND_POPPED || answer->kind == KIND_FIRST)) {
+        flatpq_tsan_pop(answer->item);
+    }
+}
 
-/* Carries the request out where the lock is free, and does not look at what comes of it. */
-INLINE pq_code step_call_once(uint32_t request, uint32_t posts, call *it) {
-    const pq_item item = item_of(request, it);
+/* Carries the request out where the lock is free, and does not look at what comes of it. What keeps a shut from being made is no answer. */
+INLINE pq_code try_once(uint32_t request, call *it) {
+    core *proved = &it->member->proved;
     pq_code code = flatpq_before(it->member);
-    return !LIKELY(code == PQ_OK) ? code : pq_core_step_call(&it->member->proved, request, item.priority, item.value, posts, &it->answer);
+    if (!LIKELY(code == PQ_OK)) {
+        return code == LOCK_HELD || code == PQ_UNARCHIVED ? code : PQ_EXHAUSTED;
+    }
+    switch (request) {
+    case PQ_PUSH:
+        return pq_core_try_push(proved, it->item.priority, it->item.value, &it->answer);
+    case PQ_POP:
+        return pq_core_try_pop(proved, it->first, &it->answer);
+    default:
+        return pq_core_try_least(proved, it->first, &it->answer);
+    }
 }
 
-static pq_code step_call(uint32_t request, uint32_t posts, call *it) {
-    pq_code code;
-    watch_push(request, item_of(request, it));
-    code = LEAVE_OUT(step_call_once(request, posts, it));
+/* The code of a request that was tried once: PQ_OK where it was carried out. Then it has its whole answer. */
+static pq_code answered(uint32_t request, pq_code code, call *it) {
+    if (code == ANSWERED) {
+        return PQ_OK;
+    }
     if (code == PQ_OK) {
-        watch_answer(&it->answer);
-        flatpq_carried_out(it->member, &it->answer);
+        it->answer.kind = request;
+        it->answer.owes_wake = 0;
+        it->answer.item = request == PQ_PUSH ? it->item : *it->first;
     }
     return code;
 }
 
 static pq_code try_call(uint32_t request, call *it) {
-    return step_call(request, POSTS_NOTHING, it);
+    pq_code code;
+    watch_push(request, it);
+    code = answered(request, LEAVE_OUT(try_once(request, it)), it);
+    if (code == PQ_OK) {
+        watch_answer(&it->answer);
+        flatpq_carried_out(it->member, &it->answer);
+    }
+    return code;
 }
 
 /* Looks for the answer, and else makes a round, which returns NOT_ANSWERED, or finds the lock held. */
@@ -82,15 +93,25 @@ static pq_code step_answer(pq_member *it, core_answer *answer) {
  */
 
 /* Waits until the posted request has its answer. */
-static pq_code wait_for_answer(pq_member *it, rest *resting, core_answer *answer) {
+static pq_code wait_for_answer(call *it, rest *resting) {
     for (;;) {
-        pq_code code = step_answer(it, answer);
+        pq_code code = step_answer(it->member, &it->answer);
         if (code == LOCK_HELD) {
             flatpq_rests(resting);
         } else if (code != NOT_ANSWERED) {
             return code;
         }
     }
+}
+
+/* Posts the request, and waits for its answer. LOCK_HELD: a shut waits to be carried out, and nothing is posted. */
+static pq_code post(uint32_t request, call *it, rest *resting) {
+    const pq_item none = { 0, 0 }, item = request == PQ_PUSH ? it->item : none;
+    pq_code code = flatpq_before(it->member);
+    if (code == PQ_OK) {
+        code = LEAVE_OUT(pq_core_post(&it->member->proved, request, item.priority, item.value));
+    }
+    return code == PQ_OK ? wait_for_answer(it, resting) : code;
 }
 
 typedef struct trying {
@@ -108,18 +129,14 @@ static pq_code try_until(uint32_t request, call *it) {
     return flatpq_try_again(try_again, &again, it->member->queue, it->until);
 }
 
-/* Nothing is posted while a shut waits to be carried out. */
 static pq_code try_and_post(uint32_t request, call *it) {
     rest resting = flatpq_rest_of(it->member->queue, PQ_FOREVER);
     pq_code code = LOCK_HELD;
     while (code == LOCK_HELD && resting.now < resting.posts && flatpq_spins(&resting)) {
         code = try_call(request, it);
     }
-    while (code == LOCK_HELD && (code = step_call(request, POSTS, it)) == LOCK_HELD) {
+    while (code == LOCK_HELD && (code = try_call(request, it)) == LOCK_HELD && (code = post(request, it, &resting)) == LOCK_HELD) {
         flatpq_rests(&resting);
-    }
-    if (code == HAS_POSTED) {
-        code = wait_for_answer(it->member, &resting, &it->answer);
     }
     flatpq_rested(&resting);
     return code;
@@ -174,6 +191,7 @@ static pq_code end(call *it, own *mine, pq_code code) {
 
 /* Goes on with a call whose request was tried once. */
 static COLD pq_code go_on(uint32_t request, pq_code code, call *it, own *mine) {
+    code = answered(request, code, it);
     if (code == LOCK_HELD) {
         code = ask_again(request, it);
     } else if (code == PQ_OK) {
@@ -195,15 +213,12 @@ static COLD pq_code ask_fully(uint32_t request, call *it) {
 _Static_assert(KIND_PUSHED == (int)PQ_PUSH && KIND_POPPED == (int)PQ_POP && KIND_FIRST == (int)PQ_PEEK, "the usual answers");
 
 /* Whether the request was carried out, and has the usual answer, and nobody is to be woken. */
-INLINE int is_done(uint32_t request, pq_code code, const call *it) {
-    return LIKELY(code == PQ_OK) && LIKELY(flatpq_owes_nothing(it->member, &it->answer)) && LIKELY(it->answer.kind == request);
+INLINE int is_done(pq_code code, const call *it) {
+    return LIKELY(code == PQ_OK) && LIKELY(__atomic_load_n(&it->member->queue->concerned, __ATOMIC_RELAXED) == 0);
 }
 
 /* What a call returns whose request is done. */
-INLINE pq_code returned(uint32_t request, const call *it) {
-    if (request != PQ_PUSH) {
-        flatpq_copy(it->first, &it->answer.item);
-    }
+INLINE pq_code returned(const call *it) {
     if (it->number != NULL) {
         *it->number = it->answer.number;
     }
@@ -218,12 +233,12 @@ INLINE pq_code ask_by_own(uint32_t request, call *it) {
     }
     it->mine = last;
     it->member = last->member;
-    code = step_call_once(request, POSTS_NOTHING, it);
-    if (!is_done(request, code, it)) {
+    code = try_once(request, it);
+    if (!is_done(code, it)) {
         return go_on(request, code, it, it->mine);
     }
     flatpq_leave(it->mine, 0);
-    return returned(request, it);
+    return returned(it);
 }
 
 /* Makes a call as most are: nothing is special, the member is joined, or is the one that the thread used last, and the lock is free. What the call
@@ -236,8 +251,8 @@ INLINE pq_code ask(uint32_t request, call *it) {
     if (!LIKELY(!it->member->is_shared)) {
         return ask_by_own(request, it);
     }
-    code = step_call_once(request, POSTS_NOTHING, it);
-    return is_done(request, code, it) ? returned(request, it) : go_on(request, code, it, NULL);
+    code = try_once(request, it);
+    return is_done(code, it) ? returned(it) : go_on(request, code, it, NULL);
 }
 
 pq_code flatpq_push(pq_member *member, pq_item item, uint64_t until, core_answer *answer) {

@@ -10,10 +10,10 @@
 
 typedef struct core_inside *core;
 
-/* A step found that another thread carries out requests: it did nothing, or it posted its request; or that what it posted has no answer yet. No
+/* A step found that another thread carries out requests, and did nothing; the answer is not the usual one; or what it posted has no answer yet. No
    public call returns these codes. */
 #define LOCK_HELD ((pq_code)8)
-#define HAS_POSTED ((pq_code)14)
+#define ANSWERED ((pq_code)14)
 #define NOT_ANSWERED ((pq_code)43)
 
 enum { KIND_PUSHED, KIND_POPPED, KIND_FIRST, KIND_EMPTY, KIND_JOURNAL_FULL, KIND_NO_MEMORY, KIND_SHUT, KIND_UNARCHIVED, KIND_FULL };
@@ -66,7 +66,12 @@ pq_code pq_core_close(core *queue, core *journal);
 
 /* Members. */
 pq_code pq_core_place(core *member, uint32_t *place);
-pq_code pq_core_step_call(core *member, uint32_t request, uint64_t priority, uint64_t value, uint32_t posts, core_answer *answer);
+/* The next three return PQ_OK where the request was carried out, the answer is KIND_PUSHED, KIND_POPPED or KIND_FIRST, and nobody is to be woken: then of
+   the answer only the number is written. ANSWERED: else, and all of the answer is written, but no item. */
+pq_code pq_core_try_push(core *member, uint64_t priority, uint64_t value, core_answer *answer);
+pq_code pq_core_try_pop(core *member, pq_item *item, core_answer *answer);
+pq_code pq_core_try_least(core *member, pq_item *item, core_answer *answer);
+pq_code pq_core_post(core *member, uint32_t request, uint64_t priority, uint64_t value);
 pq_code pq_core_step_answer(core *member, core_answer *answer);
 pq_code pq_core_try_pop_or_look(core *member, uint32_t takes, uint64_t priority, core_answer *answer);
 pq_code pq_core_try_remove(core *member, uint64_t ticket, core_answer *answer);

@@ -341,14 +341,9 @@ INLINE void flatpq_copy(pq_item *to, const volatile pq_item *from) {
     to->value = from->value;
 }
 
-/* Whether nobody is to be woken after a proved call. */
-INLINE int flatpq_owes_nothing(const pq_member *member, const core_answer *answer) {
-    return (answer->owes_wake | __atomic_load_n(&member->queue->concerned, __ATOMIC_RELAXED)) == 0;
-}
-
 /* After each proved call that may have carried requests out. */
 INLINE void flatpq_carried_out(pq_member *member, const core_answer *answer) {
-    if (!LIKELY(flatpq_owes_nothing(member, answer))) {
+    if (!LIKELY((answer->owes_wake | __atomic_load_n(&member->queue->concerned, __ATOMIC_RELAXED)) == 0)) {
         flatpq_wake_after(member, answer);
     }
 }

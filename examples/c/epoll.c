@@ -38,7 +38,7 @@ static pq_code run_due(int timer) {
 }
 
 static int watch(int all, int file) {
-    struct epoll_event event = { EPOLLIN, { .fd = file } };
+    struct epoll_event event = { EPOLLIN | EPOLLET, { .fd = file } }; /* without EPOLLET it works too */
     return epoll_ctl(all, EPOLL_CTL_ADD, file, &event);
 }
 

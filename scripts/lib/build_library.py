@@ -101,7 +101,7 @@ class Library:
         else:
             text = f"not proved here; {sources.elsewhere()[0]} (PROVED)"
             text += ", so it has checks at run time" if known["core"] == CHECKED else ""
-            text += f": --prove does that, in about {telling.minutes()} minutes"
+            text += ": --prove does that"
         with contextlib.suppress(OSError):
             print(f"build: {text}", file=sys.stderr, flush=True)
 

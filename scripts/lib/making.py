@@ -88,7 +88,7 @@ def proved(teller, crate, made):
         if sources.is_proved(made):
             return
         proof = telling.Proof(teller, [f"{TOP}/scripts/prove-all", crate], crate)
-        teller.tell(f"the {teller.what} is proved and built, which takes about {telling.minutes()} minutes here from nothing")
+        teller.tell(f"the {teller.what} is proved and built, which takes long from nothing")
         if proof.make():
             proof.tell_all()
             raise NotBuilt(f"it was not proved, so the {teller.what} was not built")

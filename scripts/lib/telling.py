@@ -12,19 +12,10 @@ import time
 from crate_list import with_below
 from tree import TOP
 
-# Minutes of processor time that it takes to prove and build the program or the library from nothing, and by the clock its longest chain of
-# crates, each proved by one processor, or shared among three.
-WORK, CHAIN, SHARED = 38, 27, 13
 # A line comes at least once in so many seconds.
 SILENCE = 30
 # What rt ci says of a crate once it is done.
 DONE = re.compile(r"rt: (\w+) (proved$|is kept: )")
-
-
-def minutes():
-    """Returns about how many minutes it takes on this machine to prove and build the program, or the library."""
-    processors = len(os.sched_getaffinity(0))
-    return max(SHARED if processors > 3 else CHAIN, -(-WORK // processors))
 
 
 def end_on_signals():

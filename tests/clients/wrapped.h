@@ -1,11 +1,9 @@
-/* A thread that holds a queue's lock. It pushes an item, and stops or dies where the push asks for memory, which it does with the lock.
+/* A thread that holds a queue's lock. It pushes an item, and stops where the push asks for memory, which it does with the lock.
    One source of a client includes this; CMakeLists.txt links it with WRAPS malloc, so that the library's malloc comes here. */
 #ifndef WRAPPED_H
 #define WRAPPED_H
 
 #include "check.h"
-
-#include <sys/syscall.h>
 
 #ifdef __cplusplus
 extern "C" {
@@ -16,7 +14,7 @@ void *__wrap_malloc(size_t size);
 }
 #endif
 
-enum holds { HOLDS_NOTHING = 0, HOLDS_AND_STOPS = 1, HOLDS_AND_DIES = 2 };
+enum holds { HOLDS_NOTHING = 0, HOLDS_AND_STOPS = 1 };
 
 /* What the calling thread does at its next request for memory; whether the holder has the lock, and whether it is to let it go. */
 static __thread enum holds wrapped_next;
@@ -27,9 +25,6 @@ void *__wrap_malloc(size_t size) {
     wrapped_next = HOLDS_NOTHING;
     if (next != HOLDS_NOTHING) {
         __atomic_store_n(&wrapped_holds, 1, __ATOMIC_RELEASE);
-    }
-    if (next == HOLDS_AND_DIES) {
-        syscall(SYS_exit, 0L);
     }
     while (next == HOLDS_AND_STOPS && !__atomic_load_n(&wrapped_lets_go, __ATOMIC_ACQUIRE)) {
         sleep_ms(1);

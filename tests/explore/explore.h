@@ -62,7 +62,7 @@ fiber *choose_fiber(fiber *mine, const void *at, enum access access, int *choice
 int choose_costly(void); /* whether this, which costs a preemption, happens now */
 void search_resumes(int which);
 void search_steps(int which, const void *at, enum access access);
-void want(int choice);
+void want(int choice, int thread);
 void print_replay(void);
 
 /* races.c: which steps can change places. */

@@ -51,10 +51,10 @@
 #define TRIES(call, ...) \
     (POINT(#call, &proved_core, WRITES), proved_begins(FIRST(__VA_ARGS__), 1) ? proved_ends(call) : LOCK_HELD)
 #define STEPS(call, ...) (POINT(#call, &proved_core, WRITES), proved_begins(FIRST(__VA_ARGS__), 0), (call))
-#define pq_core_step_call(m, r, p, v, posts, a)                                                       \
-    (POINT("pq_core_step_call", &proved_core, WRITES), proved_begins(m, 1)                              \
-         ? proved_ends(pq_core_step_call(m, r, p, v, posts, a))                                          \
-         : (posts) ? proved_post(m, r, p, v) : LOCK_HELD)
+#define pq_core_try_push(...) TRIES(pq_core_try_push(__VA_ARGS__), __VA_ARGS__)
+#define pq_core_try_pop(...) TRIES(pq_core_try_pop(__VA_ARGS__), __VA_ARGS__)
+#define pq_core_try_least(...) TRIES(pq_core_try_least(__VA_ARGS__), __VA_ARGS__)
+#define pq_core_post(m, r, p, v) (POINT("pq_core_post", &proved_core, WRITES), proved_post(m, r, p, v))
 #define pq_core_step_answer(m, a) (POINT("pq_core_step_answer", &proved_core, WRITES), proved_answer(m, a))
 #define pq_core_step_take(...) TRIES(pq_core_step_take(__VA_ARGS__), __VA_ARGS__)
 #define pq_core_try_pop_or_look(...) TRIES(pq_core_try_pop_or_look(__VA_ARGS__), __VA_ARGS__)

@@ -74,7 +74,8 @@ static pq_code await_entry(uint64_t number, uint64_t until) {
     check_call_begins(AWAITS, until, number);
     code = pq_wait_archived(queue, number, until);
     check_call_begins(NO_CALL, PQ_FOREVER, 0);
-    if (code == PQ_CLOSED && ending != FREED && queue->archived >= number) {
+    if ((code == PQ_CLOSED && ending != FREED && queue->archived >= number) || (code == PQ_OK && queue->archived < number)
+        || (code == PQ_TIMED_OUT && until != PQ_NOW && now < until)) {
         fail("a wait until an entry is archived returns %s", pq_code_text(code));
     }
     return code;
@@ -121,10 +122,15 @@ static void push_unless_shut(int which, const uint64_t *numbers) {
 
 static pq_code close_once(void) {
     pq_journal *journal;
-    pq_code code = pq_close(queue, &journal);
+    pq_code code;
+    check_call_begins(NO_CALL, PQ_FOREVER, 0);
+    code = pq_close(queue, &journal);
     if (code == PQ_OK) {
         ending = CLOSED;
         pq_journal_free(journal);
+    }
+    if (code == PQ_OK && me->is_after_shut && queue->is_shut != IS_SHUT) {
+        fail("a shut returned, and a close that began after that did not make it");
     }
     return code;
 }

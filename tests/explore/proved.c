@@ -123,7 +123,7 @@ static pq_code ends(pq_code code, int carries_out) {
 
 /* A step that has an answer has carried out what was posted before it, and so has one that found the end. */
 pq_code proved_ends(pq_code code) {
-    return ends(code, code == PQ_OK || code == PQ_SHUT);
+    return ends(code, code == PQ_OK || code == ANSWERED || code == PQ_SHUT);
 }
 
 /* The thread has posted its request, and others go on until the time that its word says. */
@@ -137,9 +137,6 @@ static void stay(const void *handle) {
     }
 }
 
-/* The second half of a step that finds the lock held. The library calls the step alone. */
-pq_code pq_core_post(core *member, uint32_t request, uint64_t priority, uint64_t value);
-
 pq_code proved_post(core *member, uint32_t request, uint64_t priority, uint64_t value) {
     pq_code code = pq_core_post(member, request, priority, value);
     if (code == PQ_OK && post_count < MOST_HANDLES) {
@@ -148,7 +145,7 @@ pq_code proved_post(core *member, uint32_t request, uint64_t priority, uint64_t 
     if (code == PQ_OK && me != NULL && me->posts_until > 0) {
         stay(member);
     }
-    return code == PQ_OK ? HAS_POSTED : code;
+    return code;
 }
 
 static void forget_post(const void *handle) {

@@ -1,7 +1,7 @@
 /*
  * Which steps of an execution can change places: a preemption is tried only before a step that a later step of another thread depends on, and
  * that is not ordered before it by the steps between (dynamic partial-order reduction, Flanagan and Godefroid 2005; bounded by preemptions,
- * Coons, Musuvathi and McKinley 2013: where a thread blocks each other is tried, and before such a step each other too).
+ * Coons, Musuvathi and McKinley 2013: where a thread blocks each other is tried).
  *
  * Steps depend on each other where they touch the same word, and one of them writes it. All proved calls touch one word. That a thread unlocks
  * is never before that another locks, so that race is between the two that lock.
@@ -70,7 +70,7 @@ static int is_race(int of, int other, uint32_t step) {
 
 static void read_word(int of, slot *it, int choice) {
     if (it->writer >= 0 && is_race(of, it->writer, it->write_step)) {
-        want(it->write_choice);
+        want(it->write_choice, of);
     }
     join(&moments[of], &it->writes);
     it->read_steps[of] = moments[of].of[of];
@@ -80,11 +80,11 @@ static void read_word(int of, slot *it, int choice) {
 
 static void write_word(int of, slot *it, int choice) {
     if (it->writer >= 0 && is_race(of, it->writer, it->write_step)) {
-        want(it->write_choice);
+        want(it->write_choice, of);
     }
     for (int i = 0; i < fiber_count; i++) {
         if (it->read_steps[i] > 0 && is_race(of, i, it->read_steps[i])) {
-            want(it->read_choices[i]);
+            want(it->read_choices[i], of);
         }
     }
     join(&moments[of], &it->all);

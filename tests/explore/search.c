@@ -3,14 +3,16 @@
  * priorities that change at a few points (PCT, Burckhardt et al. 2010).
  *
  * Where a thread blocks, each that can go on is tried, at no cost. Before a step each other that can go on, or that sleeps until the next time,
- * costs a preemption. It is tried where a later step of another thread may change places with that step (races.c). A schedule that preempts
- * a thread, and resumes it before a step that depends on its next one, is as one that preempts it a step later: no more choices are made in it.
- * This pays: with up to 2 preemptions it played 4,782 schedules in place of 32,876 (own), and 9,314 of 204,114 (close-beside-a-join).
+ * costs a preemption. One is tried where a later step of its own may change places with that step, and each where that one can't go on there
+ * (races.c). A schedule that preempts a thread, and resumes it before a step that depends on its next one, is as one that preempts it a step later:
+ * no more choices are made in it. This pays: with up to 2 preemptions it plays 3,774 schedules in place of 39,886 (own), and 7,816 of 284,860
+ * (close-beside-a-join).
  *
  * usage: explore [-b PREEMPTIONS] [-n RANDOM SCHEDULES] [-s SEED] [-t SECONDS] [-r SCHEDULE] NAME SCENARIO
  */
 #include "explore.h"
 
+#include <limits.h>
 #include <stdio.h>
 #include <stdlib.h>
 #include <string.h>
@@ -21,8 +23,11 @@ enum { MOST_CHOICES = 100000, MOST_CHANGES = 6 };
 
 int is_random, is_redundant;
 static int bound, preempted;
+/* A choice: the alternatives as bits, and which threads they are. */
 static struct {
-    int chosen, of, is_wanted;
+    int chosen, of;
+    unsigned wanted, tried;
+    signed char threads[MOST_FIBERS];
 } choices[MOST_CHOICES];
 static int choice_count, choice_known;
 static uint64_t seed, random_state, points, most_points, change_at[MOST_CHANGES];
@@ -55,15 +60,21 @@ void print_replay(void) {
     printf("\n");
 }
 
-/* Some step races with that after this choice. */
-void want(int choice) {
+/* A step of this thread races with that after this choice: it is tried there, and where it could not go on each other is. */
+void want(int choice, int thread) {
+    for (int i = 1; choice >= 0 && i < choices[choice].of; i++) {
+        if (choices[choice].threads[i] == thread) {
+            choices[choice].wanted |= 1u << i;
+            return;
+        }
+    }
     if (choice >= 0) {
-        choices[choice].is_wanted = 1;
+        choices[choice].wanted = UINT_MAX;
     }
 }
 
-/* One of so many, the first by itself; *index is where that is recorded, or -1. */
-static int choose(int count, int costs, int is_wanted, int *index) {
+/* One of so many, the first by itself; *index is where that is recorded, or -1. Each is tried, or those that are wanted. */
+static int choose(int count, int costs, int is_each_tried, int *index) {
     int i = choice_count, chosen = 0;
     *index = -1;
     if (count < 2 || is_redundant || (costs && preempted >= bound)) {
@@ -74,11 +85,12 @@ static int choose(int count, int costs, int is_wanted, int *index) {
     }
     if (i < choice_known) {
         chosen = choices[i].chosen < count ? choices[i].chosen : 0;
-        choices[i].is_wanted |= is_wanted;
     } else {
-        choices[i].is_wanted = is_wanted;
+        choices[i].wanted = is_each_tried ? UINT_MAX : 0;
+        choices[i].tried = 0;
     }
     choices[i].chosen = chosen;
+    choices[i].tried |= 1u << chosen;
     choices[i].of = count;
     choice_count++;
     preempted += costs && chosen > 0;
@@ -152,6 +164,9 @@ fiber *choose_fiber(fiber *mine, const void *at, enum access access, int *choice
         return NULL;
     }
     chosen = choose(count, mine != NULL, mine == NULL, choice);
+    for (int i = 0; *choice >= 0 && i < count; i++) {
+        choices[*choice].threads[i] = found[i] != NULL ? (signed char)index_of(found[i]) : -1;
+    }
     if (mine != NULL && chosen > 0) {
         int i = index_of(mine);
         waits_with[i].is_set = 1;
@@ -213,9 +228,10 @@ static void begin_random_ones(void) {
 /* Sets the next schedule: 0 where there is none. */
 static int next_schedule(void) {
     while (choice_count > 0) {
-        int last = choice_count - 1;
-        if (choices[last].is_wanted && choices[last].chosen + 1 < choices[last].of) {
-            choices[last].chosen++;
+        const int last = choice_count - 1;
+        const unsigned left = choices[last].wanted & ~choices[last].tried & ((1u << choices[last].of) - 1);
+        if (left != 0) {
+            choices[last].chosen = __builtin_ctz(left);
             choice_known = choice_count;
             return 1;
         }

@@ -22,24 +22,22 @@ use Rattle.desk_core.specs.Words.{word_number, word_of, mixed, MixedByWord, Word
 use Rattle.pq_types.specs.Control.{kind_of, request_item, answer_item, notice_has_item, posted, answered, is_answer}
 use Rattle.pq_types.specs.Mail.{IsProperControl, control_word}
 use Rattle.pq_types.specs.declared.control.Kind.TheVariants as kind
-use Rattle.pq_types.specs.Asked.{Line}
 use Rattle.pq_types.specs.declared.journal.TheConstants.{GREATEST_NUMBER}
 use Rattle.pq_types.specs.Queue.{IsProperRequestOf}
-use Rattle.pq_types.specs.History.{journal_after, journal_by}
-use Rattle.desk_core.specs.Answering.{MayTellOf, MayTell}
+use Rattle.pq_types.specs.History.{journal_after, journal_by, Limits, MayDo, MayAnswer}
 use Rattle.pq_types.specs.Laws.{ControlWordsDiffer}
 use Rattle.pq_book.specs.Book.{Volume}
-use Rattle.desk_core.specs.Home.{Home, home_of}
+use Rattle.desk_core.specs.Archiving.{archived_of, EveryRunHasLimits, LimitsRise}
 use Rattle.desk_core.specs.Beyond.{NextIsUnknown}
 use Rattle.desk_core.specs.Dealing.{IsReached, Takes, MovesReach}
-use Rattle.desk_core.specs.Desk.{Desk, Has, time, volume, put, locked, freed, with_control, with_cell, with_pen}
-use Rattle.desk_core.specs.Steps.{Event, actor, Drafts, Posts, Tries, Reads, ReadsItem, LaysItem, Answers, Applies, Releases, ReleasesBy, Looks, SeesItem, TakesItem, Step}
-use Rattle.desk_core.specs.Keeping.{DraftKeeps, PostKeeps, LeadKeeps, MissKeeps, ReadKeeps, ReadItemKeeps, LayItemKeeps, AnswerKeeps, ApplyKeeps, ReleaseKeeps, ReleaseByKeeps, LookKeeps, SeeItemKeeps, TakeItemKeeps, DueIsNew, PensAreSeated}
+use Rattle.desk_core.specs.Desk.{Desk, Has, time, put, locked, freed, with_control, with_cell, with_pen, dealer_opening}
+use Rattle.desk_core.specs.Steps.{Event, actor, Drafts, Posts, Tries, Reads, ReadsItem, LaysItem, Answers, Applies, Archives, Releases, ReleasesBy, Looks, SeesItem, TakesItem, Step}
+use Rattle.desk_core.specs.Keeping.{DraftKeeps, PostKeeps, LeadKeeps, MissKeeps, ReadKeeps, ReadItemKeeps, LayItemKeeps, AnswerKeeps, ApplyKeeps, ArchiveKeeps, ReleaseKeeps, ReleaseByKeeps, LookKeeps, SeeItemKeeps, TakeItemKeeps, DueIsNew, PensAreSeated}
 use Rattle.desk_core.specs.Looking as looking
 use Rattle.desk_core.specs.Knows.{Knows, LeadersKnow, HomeIsKnown}
 use Rattle.desk_core.specs.Clauses.{RuleGivesClauses}
 use Rattle.desk_core.specs.Layout.{lock_at, control_at, item_at, LockStored, ControlStored, ItemStored, Loaded, WordsAreReadBack}
-use Rattle.desk_core.specs.Pen.{IsIdle, IsKept, after_draft, after_post, after_lead, after_miss, after_read, after_read_item, after_lay, after_answer, after_apply, after_release, after_release_by, after_look, after_see, after_take}
+use Rattle.desk_core.specs.Pen.{IsIdle, IsKept, after_draft, after_post, after_lead, after_miss, after_read, after_read_item, after_lay, after_answer, after_apply, after_archive, after_release, after_release_by, after_look, after_see, after_take, book_with, book_in_hand, limits_in_hand}
 use Rattle.desk_core.specs.Rule.{MeetsRule}
 use Rattle.desk_core.specs.Duties.{DutiesAreKept, weight_of}
 use Rattle.desk_core.specs.declared.model.Duty.TheVariants.{Active}
@@ -51,12 +49,12 @@ use Rattle.desk_core.specs.declared.model.View.TheVariants.{Holder}
 use Rattle.announce_board.specs.Allowed.{AsMove, AsLook, Plainly, desk_in}
 use Rattle.announce_board.specs.Rule.{Keeps, Seated, desk_of, book_in, book_at_home}
 use Rattle.announce_board.specs.declared.terms.Terms.{Terms}
-use Rattle.announce_board.specs.Slots.{MeetsTerms, Slotted, with_book, says}
-use Rattle.announce_board.specs.Steps.{pen_at, StandsAt, WordDrafted, Drafted, PostStored, LockRead, LockTried, ControlRead, MailRead, CellRead, ItemRead, WordLaid, ItemLaid, AnswerStored, Released, HasInSlot, BringsHome, BringsHomeBy, Applied, ReleasedWith, Looked, AnswerLooked, WordSeen, ItemSeen, Taken, ItemTaken}
+use Rattle.announce_board.specs.Slots.{MeetsTerms, Slotted, with_book, says, first_limits}
+use Rattle.announce_board.specs.Steps.{pen_at, StandsAt, WordDrafted, Drafted, PostStored, LockRead, LockTried, ControlRead, MailRead, CellRead, ItemRead, WordLaid, ItemLaid, AnswerStored, Released, HasInSlot, BringsHome, BringsHomeBy, Applied, Archived, ReleasedWith, Looked, AnswerLooked, WordSeen, ItemSeen, Taken, ItemTaken}
 use Rattle.announce_board.proofs.Duties.{acts_on}
 use Rattle.announce_board.proofs.Sums.{length_at}
 use Rattle.announce_board.proofs.Weights.{weighs_on}
-use Rattle.announce_board.proofs.Same.{same_request, same_answer, kind_posted, same_draft, same_waiting, same_due, same_notice, not_true, refused_alone, none_refused, same_applied, same_ended, same_book}
+use Rattle.announce_board.proofs.Same.{same_request, same_answer, kind_posted, same_draft, same_waiting, same_due, same_notice, not_true, refused_alone, none_refused, same_applied, same_ended, same_archived, same_book}
 
 -- the laws of the machine that the steps rest on
 pub record Laws : Type 0 where
@@ -69,6 +67,7 @@ pub record Laws : Type 0 where
   pub lay_item : LayItemKeeps
   pub answer : AnswerKeeps
   pub apply : ApplyKeeps
+  pub archive : ArchiveKeeps
   pub release : ReleaseKeeps
   pub release_by : ReleaseByKeeps
   pub look : LookKeeps
@@ -89,30 +88,35 @@ pub record Laws : Type 0 where
   pub by_word : MixedByWord
   pub mix : WordsMix
   pub goes_on : MovesReach
+  pub limited : EveryRunHasLimits
+  pub rise : LimitsRise
 
 -- a fact of an index and a word, where both are known by equations
 pub at_both : (F : ℕ → ℕ → Type 0) (i j n k : ℕ) → i ≡ j → n ≡ k → F j k → F i n
 at_both F i j n k e f h = subst (λ x. F x n) (sym e) (subst (F j) (sym f) h)
 
--- what the machine sees at home is the Book in the slot
-pub book_there : (x : home.Option (home.Option Slotted)) (h : Home) → book_in x ≡ Some h → (b : Volume) × (x ≡ some (some (with_book b))) × (home_of b ≡ h)
-book_there none h e = absurd (cc e)
-book_there (some none) h e = absurd (cc e)
-book_there (some (some (says n))) h e = absurd (cc e)
-book_there (some (some (with_book b))) h e = let f : Some (home_of b) ≡ Some h = e in let g : home_of b ≡ h = cc in (b, refl, g)
+-- the Book that the machine sees at home is the one in the slot
+pub book_there : (x : home.Option (home.Option Slotted)) (b : Volume) → book_in x ≡ Some b → x ≡ some (some (with_book b))
+book_there none b e = absurd (cc e)
+book_there (some none) b e = absurd (cc e)
+book_there (some (some (says n))) b e = absurd (cc e)
+book_there (some (some (with_book c))) b e = let f : Some c ≡ Some b = e in let g : c ≡ b = cc in ap (λ v. some (some (with_book v))) g
 
--- the one Book in a slot
-pub one_book : (b b' : Volume) → some (some (with_book b)) ≡ some (some (with_book b')) → b' ≡ b
-one_book b b' e = sym (let f : b ≡ b' = cc in f)
+-- the Book at home meets the terms of the opening
+pub book_bounded : EveryRunHasLimits → LimitsRise → (room : ℕ) (terms : Terms) (places : ℕ) (d : Desk) → room ≤ GREATEST_NUMBER → IsReached places (first_limits room terms) d
+    → (book : Volume) → d.home ≡ Some book → MeetsTerms terms book
+book_bounded limited rise room terms places d small (moves, run) book at =
+    let first = first_limits room terms in
+    let archived = archived_of (dealer_opening places first) moves d run in
+    let fits = ((limited places first moves d small run).home book at).0 in
+    let up = rise first archived in
+    let more = up.allowed in
+    let same = ap (λ (l : Limits). l.allowed) fits in
+    (ap (λ (l : Limits). l.bound) fits ∙ up.bound, omega (arith, more, same))
 
 -- the terms that are said
 one_said : (a b : Terms) → ◌≡◌ {A = home.Option Slotted} (some (says a)) (some (says b)) → a ≡ b
 one_said a b e = cc
-
--- of a slot that has just got a Book
-pub bounded_now : (homes : List (home.Option Slotted)) (b : Volume) (terms : Terms) → get_elem? homes 0 ≡ some (some (with_book b)) → MeetsTerms terms b
-    → (b' : Volume) → get_elem? homes 0 ≡ some (some (with_book b')) → MeetsTerms terms b'
-bounded_now homes b terms at is b' at' = subst (MeetsTerms terms) (sym (one_book b b' (sym at ∙ at'))) is
 
 -- an item of either width is in the range of wide ones
 wider : (wide : Bool) (x : Item) → IsItemOf wide x → IsItemOf true x
@@ -134,11 +138,11 @@ module _ (laws : Laws) (wide : Bool) (roomy : ℕ → Type 0) (room : ℕ) (term
     has = at ∙ ap some is
 
     stands : StandsAt d p
-    stands = record { reached = k.reached; meets = k.meets; seat = id; has = has }
+    stands = record { first = first_limits room terms; room = refl; reached = k.reached; meets = k.meets; seat = id; has = has }
 
     -- the step of the machine leads to a desk that is reached too
-    goes : (x : Event) (e : Desk) → Step d x e → IsReached places room e
-    goes x e move = laws.goes_on places room d e (Takes x) k.reached move
+    goes : (x : Event) (e : Desk) → Step d x e → IsReached places (first_limits room terms) e
+    goes x e move = laws.goes_on places (first_limits room terms) d e (Takes x) k.reached move
 
     -- duties stay kept, while this pen takes a step and acts on
     stays : (w : PenState) → w.duty ≡ Active → DutiesAreKept (slice_set s.views id (Holder w))
@@ -152,19 +156,19 @@ module _ (laws : Laws) (wide : Bool) (roomy : ℕ → Type 0) (room : ℕ) (term
     inside = (laws.seated d id p k.meets has).inside
 
     -- nothing was stored, and the pen is now this one
-    abbrev unchanged : (i : ℕ) (q : PenState) → q.duty ≡ Active → IsReached places room (with_pen d id q) → MeetsRule (desk_of room places k.held k.control k.cells s.homes (slice_set s.views id (Holder q)))
+    abbrev unchanged : (i : ℕ) (q : PenState) → q.duty ≡ Active → IsReached places (first_limits room terms) (with_pen d id q) → MeetsRule (desk_of room places k.held k.control k.cells s.homes (slice_set s.views id (Holder q)))
         → Keeps wide roomy room terms places record { words = slice_set s.words i (slice_index s.words i); homes = s.homes; views = slice_set s.views id (Holder q) }
-    unchanged i q acts reached meets = record { held = k.held; control = k.control; cells = k.cells; words = laws.loaded wide places s.words k.held k.control k.cells i k.words; slots = k.slots; reached = reached; meets = meets; duties = stays q acts; weight = weighs q acts; memory = k.memory; bounded = k.bounded }
+    unchanged i q acts reached meets = record { held = k.held; control = k.control; cells = k.cells; words = laws.loaded wide places s.words k.held k.control k.cells i k.words; slots = k.slots; reached = reached; meets = meets; duties = stays q acts; weight = weighs q acts; memory = k.memory }
 
     -- the Book in the slots is this one
-    home_is : (P : Desk → Type 0) (held : Bool) (homes : List (home.Option Slotted)) (views : List View) (book : Option Home) → book_at_home homes ≡ book
+    home_is : (P : Desk → Type 0) (held : Bool) (homes : List (home.Option Slotted)) (views : List View) (book : Option Volume) → book_at_home homes ≡ book
         → P (record { room = room; places = places; held = held; control = k.control; item = k.cells; home = book; views = views })
         → P (desk_of room places held k.control k.cells homes views)
     home_is P held homes views book e h =
         subst (λ b. P (record { room = room; places = places; held = held; control = k.control; item = k.cells; home = b; views = views })) (sym e) h
 
     -- a try in vain
-    missed : k.held ≡ true → IsReached places room (with_pen d id (after_miss p))
+    missed : k.held ≡ true → IsReached places (first_limits room terms) (with_pen d id (after_miss p))
     missed held = goes (Tries id) (with_pen d id (after_miss p)) (p, has, inr (held, refl))
 
   pub draft_allowed : (index word j : ℕ) (x : Item) → index ≡ item_at p.place + j → word ≡ word_of wide j x → j < word_number wide → IsIdle p.standing → IsItemOf wide x
@@ -189,7 +193,6 @@ module _ (laws : Laws) (wide : Bool) (roomy : ℕ → Type 0) (room : ℕ) (term
           duties = stays s k at (after_draft p z) refl;
           weight = weighs s k at (after_draft p z) refl;
           memory = k.memory;
-          bounded = k.bounded;
         },
         inl (Drafts id z, refl, (p, has s k at, idle, wider wide z (laws.mix.fits wide j x y range (k.words.ranges p.place (inside s k at))), refl)),
         λ i x' range' e f.
@@ -225,7 +228,6 @@ module _ (laws : Laws) (wide : Bool) (roomy : ℕ → Type 0) (room : ℕ) (term
           duties = stays s k at (after_post p request (time (d s k at))) refl;
           weight = weighs s k at (after_post p request (time (d s k at))) refl;
           memory = λ all. none_refused k.control p.place (posted (p.posts + 1) request) (k.memory all) (λ e. absurd (cc e));
-          bounded = k.bounded;
         },
         inl (Posts id request, refl, (p, draft, has s k at, idle, few, proper, kept, refl)),
         λ q other stood known proper' e.
@@ -251,12 +253,11 @@ module _ (laws : Laws) (wide : Bool) (roomy : ℕ → Type 0) (room : ℕ) (term
           cells = k.cells;
           words = laws.loaded wide places s.words k.held k.control k.cells lock_at k.words;
           slots = k.slots;
-          reached = subst (λ v. IsReached places room (desk_of room places k.held k.control k.cells s.homes v)) (sym (set_again s.views id m.0 at)) k.reached;
+          reached = subst (λ v. IsReached places (first_limits room terms) (desk_of room places k.held k.control k.cells s.homes v)) (sym (set_again s.views id m.0 at)) k.reached;
           meets = subst (λ v. MeetsRule (desk_of room places k.held k.control k.cells s.homes v)) (sym (set_again s.views id m.0 at)) k.meets;
           duties = subst DutiesAreKept (sym (set_again s.views id m.0 at)) k.duties;
           weight = subst (λ v. weight_of places v ≤ places) (sym (set_again s.views id m.0 at)) k.weight;
           memory = k.memory;
-          bounded = k.bounded;
         },
         inr (ap (λ v. desk_of room places k.held k.control k.cells s.homes v) (set_again s.views id m.0 at)),
         (λ _. refl, λ ne. absurd (ne e)),
@@ -274,23 +275,17 @@ module _ (laws : Laws) (wide : Bool) (roomy : ℕ → Type 0) (room : ℕ) (term
     free : k.held ≡ false
     free = (laws.read_back wide places s.words k.held k.control k.cells k.words).lock_free.0 e
 
-    lead : (journal : List Line) × (book_at_home s.homes ≡ Some (volume room journal)) × MeetsRule (with_pen (locked (d s k at)) id (after_lead p journal))
+    lead : (book : Volume) × (book_at_home s.homes ≡ Some book) × (book.room ≡ room) × MeetsRule (with_pen (locked (d s k at)) id (after_lead p book))
     lead = laws.lead (d s k at) id p k.meets (has s k at) free
 
     room_is : p.room ≡ room
     room_is = (laws.seated (d s k at) id p k.meets (has s k at)).room
 
-    got : (b : Volume) × (get_elem? s.homes 0 ≡ some (some (with_book b))) × (home_of b ≡ volume room lead.0)
-    got = book_there (get_elem? s.homes 0) (volume room lead.0) lead.1
-
     abbrev book : Volume
-    book = got.0
+    book = lead.0
 
     there : get_elem? s.homes 0 ≡ some (some (with_book book))
-    there = got.1
-
-    journal_is : book.journal ≡ lead.0
-    journal_is = ap (λ (h : Home). h.journal) got.2
+    there = book_there (get_elem? s.homes 0) book lead.1
 
     empty : get_elem? (set s.homes 0 none) 0 ≡ some none
     empty = set_here s.homes 0 none (length_at s.homes 0 (some (with_book book)) there)
@@ -305,7 +300,7 @@ module _ (laws : Laws) (wide : Bool) (roomy : ℕ → Type 0) (room : ℕ) (term
         × (((e : Event) × (actor e ≡ id) × Step (desk_in k) e (desk_in k')) ⊎ (desk_in k' ≡ desk_in k))
         × LockTried (step slots lock_at 0 1 said) m (slice_index s.words lock_at) (v, carried_after m.1 a)
     won said said_is = (
-      Holder (after_lead p lead.0),
+      Holder (after_lead p book),
       takes 0 (with_book book),
       there,
       record {
@@ -314,28 +309,27 @@ module _ (laws : Laws) (wide : Bool) (roomy : ℕ → Type 0) (room : ℕ) (term
         cells = k.cells;
         words = laws.lock_stored wide places s.words k.held true k.control k.cells k.words;
         slots = length-set s.homes 0 none ∙ k.slots;
-        reached = home_is s k at (IsReached places room) true (set s.homes 0 none) (slice_set s.views id (Holder (after_lead p lead.0))) None out
-            (goes s k at (Tries id) (with_pen (locked (d s k at)) id (after_lead p lead.0)) (p, has s k at, inl (free, (volume room lead.0, lead.1, refl))));
-        meets = home_is s k at MeetsRule true (set s.homes 0 none) (slice_set s.views id (Holder (after_lead p lead.0))) None out lead.2;
-        duties = stays s k at (after_lead p lead.0) refl;
-        weight = weighs s k at (after_lead p lead.0) refl;
+        reached = home_is s k at (IsReached places (first_limits room terms)) true (set s.homes 0 none) (slice_set s.views id (Holder (after_lead p book))) None out
+            (goes s k at (Tries id) (with_pen (locked (d s k at)) id (after_lead p book)) (p, has s k at, inl (free, (book, lead.1, refl))));
+        meets = home_is s k at MeetsRule true (set s.homes 0 none) (slice_set s.views id (Holder (after_lead p book))) None out lead.3;
+        duties = stays s k at (after_lead p book) refl;
+        weight = weighs s k at (after_lead p book) refl;
         memory = k.memory;
-        bounded = λ b gone. absurd (let f : some none ≡ some (some (with_book b)) = sym empty ∙ gone in cc);
       },
       inl (
         Tries id,
         refl,
-        home_is s k at (λ y. Step (d s k at) (Tries id) y) true (set s.homes 0 none) (slice_set s.views id (Holder (after_lead p lead.0))) None out
-            (p, has s k at, inl (free, (volume room lead.0, lead.1, refl))),
+        home_is s k at (λ y. Step (d s k at) (Tries id) y) true (set s.homes 0 none) (slice_set s.views id (Holder (after_lead p book))) None out
+            (p, has s k at, inl (free, (book, lead.1, refl))),
       ),
       (
         λ _ b e. record {
           book = book;
-          room = ap (λ (h : Home). h.room) got.2 ∙ sym room_is;
-          bounded = subst (λ u. MeetsTerms u book) (one_said terms b (sym said_is ∙ e)) (k.bounded book there);
-          knows = subst (Knows p.room p) (sym journal_is) (subst (λ r. Knows r p lead.0) (sym room_is) (laws.home (d s k at) id p lead.0 k.meets (has s k at) lead.1));
+          room = lead.2 ∙ sym room_is;
+          bounded = subst (λ u. MeetsTerms u book) (one_said terms b (sym said_is ∙ e)) (book_bounded laws.limited laws.rise room terms places (d s k at) k.meets.2.room_in_range k.reached book lead.1);
+          knows = subst (λ r. Knows r p book.journal) (sym room_is) (laws.home (d s k at) id p book k.meets (has s k at) lead.1).1;
           led_not = led_not;
-          next = ap (λ js. (Holder (after_lead p js), (0, with_book book) ∷ m.1)) (sym journal_is);
+          next = refl;
         },
         λ ne. absurd (ne e),
       ),
@@ -415,7 +409,6 @@ module _ (laws : Laws) (wide : Bool) (roomy : ℕ → Type 0) (room : ℕ) (term
           duties = stays s k at (after_lay p due z) refl;
           weight = weighs s k at (after_lay p due z) refl;
           memory = k.memory;
-          bounded = k.bounded;
         },
         inl (LaysItem id z, refl, (p, due, has s k at, (k.meets.2.due id p (has s k at) due is_due).0, is_due, no_push, wider wide z (laws.mix.fits wide j x y range (k.words.ranges due.place lt)), refl)),
         λ i other x' e range' g f.
@@ -432,13 +425,12 @@ module _ (laws : Laws) (wide : Bool) (roomy : ℕ → Type 0) (room : ℕ) (term
       ))
 
   pub answer_allowed : (index word : ℕ) (due : Due) (request : Request) (answer : Answer) → index ≡ control_at due.place → word ≡ control_word (answered answer) → due.place < places → p.due ≡ Some due
-      → kind_of request ≡ due.kind → IsKept (request_item request) due.item → IsKept (answer_item answer) due.item → MayTellOf p.room p.hand request answer
+      → kind_of request ≡ due.kind → IsKept (request_item request) due.item → IsKept (answer_item answer) due.item → MayAnswer (limits_in_hand p) p.hand request answer
       → (roomy p.room → answer ≢ NoMemory) → AsMove wide roomy room terms places slots id m index (λ _. word) (λ _. AnswerStored (step slots index word 0 none) m word)
   answer_allowed index word due request answer ei ew lt is_due kind known laid may unrefused =
       at_both (λ i n. AsMove wide roomy room terms places slots id m i (λ _. n) (λ _. AnswerStored (step slots i n 0 none) m n)) index (control_at due.place) word (control_word (answered answer)) ei ew
       (λ s k long at small.
-      let may' : MayTellOf room p.hand request answer = subst (λ r. MayTellOf r p.hand request answer) (laws.seated (d s k at) id p k.meets (has s k at)).room may in
-      let proper = ((laws.due (d s k at) id p k.meets (has s k at) due is_due).answers request answer may').1 in (
+      let proper = ((laws.due (d s k at) id p k.meets (has s k at) due is_due).answers request answer may).1 in (
         Holder (after_answer p due request answer),
         keeps,
         tt,
@@ -449,14 +441,13 @@ module _ (laws : Laws) (wide : Bool) (roomy : ℕ → Type 0) (room : ℕ) (term
           words = laws.control_stored wide places s.words k.held k.control k.cells due.place (answered answer) k.words lt proper;
           slots = k.slots;
           reached = goes s k at (Answers id answer) (with_pen (with_control (d s k at) due.place (answered answer)) id (after_answer p due request answer))
-              (p, due, request, has s k at, (k.meets.2.due id p (has s k at) due is_due).0, is_due, kind, known, laid, may', refl);
-          meets = laws.answer (d s k at) id p k.meets (has s k at) due request answer is_due kind known laid may';
+              (p, due, request, has s k at, (k.meets.2.due id p (has s k at) due is_due).0, is_due, kind, known, laid, may, refl);
+          meets = laws.answer (d s k at) id p k.meets (has s k at) due request answer is_due kind known laid may;
           duties = stays s k at (after_answer p due request answer) refl;
           weight = weighs s k at (after_answer p due request answer) refl;
           memory = λ all. none_refused k.control due.place (answered answer) (k.memory all) (λ e. unrefused (subst roomy (sym (laws.seated (d s k at) id p k.meets (has s k at)).room) all) (refused_alone answer e));
-          bounded = k.bounded;
         },
-        inl (Answers id answer, refl, (p, due, request, has s k at, (k.meets.2.due id p (has s k at) due is_due).0, is_due, kind, known, laid, may', refl)),
+        inl (Answers id answer, refl, (p, due, request, has s k at, (k.meets.2.due id p (has s k at) due is_due).0, is_due, kind, known, laid, may, refl)),
         λ other q a e kind' known' laid' proper' f.
             let dues = same_due other due p.due e is_due in
             let q_is = same_request request q due.item (kind ∙ sym (kind' ∙ ap (λ (x : Due). x.kind) dues)) known (subst (λ (x : Due). IsKept (request_item q) x.item) dues known') in
@@ -466,34 +457,44 @@ module _ (laws : Laws) (wide : Bool) (roomy : ℕ → Type 0) (room : ℕ) (term
       ))
 
   pub apply_allowed : (others : List (ℕ × Slotted)) (request : Request) (answer : Answer) → BringsHome m request answer others
-      → p.leading ≡ true → IsIdle p.standing → p.posts < GREATEST_NUMBER → IsProperRequestOf true request → MayTellOf p.room p.hand request answer
+      → p.leading ≡ true → IsIdle p.standing → p.posts < GREATEST_NUMBER → IsProperRequestOf true request → MayAnswer (limits_in_hand p) p.hand request answer
       → AsMove wide roomy room terms places slots id m lock_at (λ n. n) (Applied (step slots lock_at 0 0 none) m)
   apply_allowed others request answer held leads idle few proper may s k long at small =
       let now = time (d s k at) in
       let w = after_apply p request answer now in
-      let room_is = (laws.seated (d s k at) id p k.meets (has s k at)).room in
-      let may' : MayTellOf room p.hand request answer = subst (λ r. MayTellOf r p.hand request answer) room_is may in (
+      let room_is = (laws.seated (d s k at) id p k.meets (has s k at)).room in (
         Holder w,
         keeps,
         tt,
-        unchanged s k at lock_at w refl (goes s k at (Applies id request answer) (with_pen (d s k at) id w) (p, has s k at, leads, idle, few, proper, may', refl))
-            (laws.apply (d s k at) id p k.meets (has s k at) request answer now leads idle few proper may'),
-        inl (Applies id request answer, refl, (p, has s k at, leads, idle, few, proper, may', refl)),
+        unchanged s k at lock_at w refl (goes s k at (Applies id request answer) (with_pen (d s k at) id w) (p, has s k at, leads, idle, few, proper, may, refl))
+            (laws.apply (d s k at) id p k.meets (has s k at) request answer now leads idle few proper may),
+        inl (Applies id request answer, refl, (p, has s k at, leads, idle, few, proper, may, refl)),
         λ q a other home. (
-          (now, ap (λ v. (Holder v, m.1)) (same_applied now p request q answer a may other (same_book m (journal_after p.hand p.place (p.posts + 1) request answer) (journal_after p.hand p.place (p.posts + 1) q a) others (rest m.1) held home))),
+          (now, ap (λ v. (Holder v, m.1)) (same_applied now p request q answer a may other (ap (λ (b : Volume). b.journal) (same_book m (book_with p (journal_after p.hand p.place (p.posts + 1) request answer)) (book_with p (journal_after p.hand p.place (p.posts + 1) q a)) others (rest m.1) held home)))),
           subst (λ r. Knows r p p.hand) (sym room_is) (laws.leaders (d s k at) id p k.meets (has s k at) leads),
         ),
       )
 
-  pub release_looks : (others : List (ℕ × Slotted)) (home : HasInSlot m p.hand others) → MeetsTerms terms home.0 → p.leading ≡ true
+  pub archive_allowed : (others : List (ℕ × Slotted)) (lines : ℕ) → HasInSlot m (book_in_hand (after_archive p lines)) others → p.leading ≡ true
+      → AsMove wide roomy room terms places slots id m lock_at (λ n. n) (Archived (step slots lock_at 0 0 none) m)
+  archive_allowed others lines held leads s k long at small =
+      let w = after_archive p lines in (
+        Holder w,
+        keeps,
+        tt,
+        unchanged s k at lock_at w refl (goes s k at (Archives id lines) (with_pen (d s k at) id w) (p, has s k at, leads, refl)) (laws.archive (d s k at) id p k.meets (has s k at) lines leads),
+        inl (Archives id lines, refl, (p, has s k at, leads, refl)),
+        λ other home. ap (λ v. (Holder v, m.1)) (same_archived p lines other (same_book m (book_in_hand w) (book_in_hand (after_archive p other)) others (rest m.1) held home)),
+      )
+
+  pub release_looks : (others : List (ℕ × Slotted)) → HasInSlot m (book_in_hand p) others → p.leading ≡ true
       → AsLook wide roomy room terms places slots id m lock_at (λ _. 0) (λ _. Released (step slots lock_at 0 0 none) m 0)
-  release_looks others (book, is, held) kept leads s k long at small =
-      let room_is = (laws.seated (d s k at) id p k.meets (has s k at)).room in
+  release_looks others held leads s k long at small =
+      let book = book_in_hand p in
       let homes_are : put_back s.homes m.1 ≡ set s.homes 0 (some (with_book book)) = ap (put_back s.homes) held in
       let slot_is : get_elem? (put_back s.homes m.1) 0 ≡ some (some (with_book book)) =
       ap (λ hs. get_elem? hs 0) homes_are ∙ set_here s.homes 0 (some (with_book book)) (let e = k.slots in omega arith) in
-      let back : book_at_home (put_back s.homes m.1) ≡ Some (volume room p.hand) =
-      ap book_in slot_is ∙ (ap Some is ∙ ap (λ r. Some (volume r p.hand)) room_is) in (
+      let back : book_at_home (put_back s.homes m.1) ≡ Some book = ap book_in slot_is in (
         Holder (after_release p),
         gives,
         tt,
@@ -503,39 +504,36 @@ module _ (laws : Laws) (wide : Bool) (roomy : ℕ → Type 0) (room : ℕ) (term
           cells = k.cells;
           words = laws.lock_stored wide places s.words k.held false k.control k.cells k.words;
           slots = ap length homes_are ∙ (length-set s.homes 0 (some (with_book book)) ∙ k.slots);
-          reached = home_is s k at (IsReached places room) false (put_back s.homes m.1) (slice_set s.views id (Holder (after_release p))) (Some (volume room p.hand)) back
-              (goes s k at (Releases id) (with_pen (freed (d s k at) p.hand) id (after_release p)) (p, has s k at, leads, refl));
-          meets = home_is s k at MeetsRule false (put_back s.homes m.1) (slice_set s.views id (Holder (after_release p))) (Some (volume room p.hand)) back
+          reached = home_is s k at (IsReached places (first_limits room terms)) false (put_back s.homes m.1) (slice_set s.views id (Holder (after_release p))) (Some book) back
+              (goes s k at (Releases id) (with_pen (freed (d s k at) book) id (after_release p)) (p, has s k at, leads, refl));
+          meets = home_is s k at MeetsRule false (put_back s.homes m.1) (slice_set s.views id (Holder (after_release p))) (Some book) back
               (laws.release (d s k at) id p k.meets (has s k at) leads);
           duties = stays s k at (after_release p) refl;
           weight = weighs s k at (after_release p) refl;
           memory = k.memory;
-          bounded = bounded_now (put_back s.homes m.1) book terms slot_is kept;
         },
-        home_is s k at (λ y. (step : Step (d s k at) (Releases id) y) × (looking.sights_of (d s k at) (Releases id) y step ≡ looking.Looked p.place p.hand ∷ [])) false (put_back s.homes m.1) (slice_set s.views id (Holder (after_release p))) (Some (volume room p.hand)) back
+        home_is s k at (λ y. (step : Step (d s k at) (Releases id) y) × (looking.sights_of (d s k at) (Releases id) y step ≡ looking.Looked p.place p.hand ∷ [])) false (put_back s.homes m.1) (slice_set s.views id (Holder (after_release p))) (Some book) back
             ((p, has s k at, leads, refl), refl),
         refl,
       )
 
-  pub release_allowed : (others : List (ℕ × Slotted)) (home : HasInSlot m p.hand others) → MeetsTerms terms home.0 → p.leading ≡ true
+  pub release_allowed : (others : List (ℕ × Slotted)) → HasInSlot m (book_in_hand p) others → p.leading ≡ true
       → AsMove wide roomy room terms places slots id m lock_at (λ _. 0) (λ _. Released (step slots lock_at 0 0 none) m 0)
-  release_allowed others home kept leads s k long at small =
-      let t = release_looks others home kept leads s k long at small in
+  release_allowed others held leads s k long at small =
+      let t = release_looks others held leads s k long at small in
       (t.0, t.1, t.2, t.3, inl (Releases id, refl, t.4.0), t.5)
 
-  pub release_with_allowed : (others : List (ℕ × Slotted)) (operation : Operation) (answer : Answer) (home : BringsHomeBy m operation answer others)
-      → MeetsTerms terms home.0 → p.leading ≡ true → p.due ≡ None → IsIdle p.standing → p.posts < GREATEST_NUMBER → IsProperOperationOf true operation → MayTell p.room p.hand operation answer
+  pub release_with_allowed : (others : List (ℕ × Slotted)) (operation : Operation) (answer : Answer) → BringsHomeBy m operation answer others
+      → p.leading ≡ true → p.due ≡ None → IsIdle p.standing → p.posts < GREATEST_NUMBER → IsProperOperationOf true operation → MayDo (limits_in_hand p) p.hand operation answer
       → AsMove wide roomy room terms places slots id m lock_at (λ _. 0) (λ _. ReleasedWith (step slots lock_at 0 0 none) m 0)
-  release_with_allowed others operation answer (book, is, held) kept leads none_due idle few proper may s k long at small =
-      let js = journal_by p.hand p.place (p.posts + 1) operation answer in
+  release_with_allowed others operation answer held leads none_due idle few proper may s k long at small =
+      let book = book_with p (journal_by p.hand p.place (p.posts + 1) operation answer) in
       let w = after_release_by p operation answer (time (d s k at)) in
       let room_is = (laws.seated (d s k at) id p k.meets (has s k at)).room in
-      let may' : MayTell room p.hand operation answer = subst (λ r. MayTell r p.hand operation answer) room_is may in
       let homes_are : put_back s.homes m.1 ≡ set s.homes 0 (some (with_book book)) = ap (put_back s.homes) held in
       let slot_is : get_elem? (put_back s.homes m.1) 0 ≡ some (some (with_book book)) =
       ap (λ hs. get_elem? hs 0) homes_are ∙ set_here s.homes 0 (some (with_book book)) (let e = k.slots in omega arith) in
-      let back : book_at_home (put_back s.homes m.1) ≡ Some (volume room js) =
-      ap book_in slot_is ∙ (ap Some is ∙ ap (λ r. Some (volume r js)) room_is) in (
+      let back : book_at_home (put_back s.homes m.1) ≡ Some book = ap book_in slot_is in (
         Holder w,
         gives,
         tt,
@@ -545,23 +543,22 @@ module _ (laws : Laws) (wide : Bool) (roomy : ℕ → Type 0) (room : ℕ) (term
           cells = k.cells;
           words = laws.lock_stored wide places s.words k.held false k.control k.cells k.words;
           slots = ap length homes_are ∙ (length-set s.homes 0 (some (with_book book)) ∙ k.slots);
-          reached = home_is s k at (IsReached places room) false (put_back s.homes m.1) (slice_set s.views id (Holder w)) (Some (volume room js)) back
-              (goes s k at (ReleasesBy id operation answer) (with_pen (freed (d s k at) js) id w) (p, has s k at, leads, none_due, idle, few, proper, may', refl));
-          meets = home_is s k at MeetsRule false (put_back s.homes m.1) (slice_set s.views id (Holder w)) (Some (volume room js)) back
-              (laws.release_by (d s k at) id p k.meets (has s k at) operation answer (time (d s k at)) leads none_due idle few proper may');
+          reached = home_is s k at (IsReached places (first_limits room terms)) false (put_back s.homes m.1) (slice_set s.views id (Holder w)) (Some book) back
+              (goes s k at (ReleasesBy id operation answer) (with_pen (freed (d s k at) book) id w) (p, has s k at, leads, none_due, idle, few, proper, may, refl));
+          meets = home_is s k at MeetsRule false (put_back s.homes m.1) (slice_set s.views id (Holder w)) (Some book) back
+              (laws.release_by (d s k at) id p k.meets (has s k at) operation answer (time (d s k at)) leads none_due idle few proper may);
           duties = stays s k at w refl;
           weight = weighs s k at w refl;
           memory = k.memory;
-          bounded = bounded_now (put_back s.homes m.1) book terms slot_is kept;
         },
         inl (
           ReleasesBy id operation answer,
           refl,
-          home_is s k at (λ y. Step (d s k at) (ReleasesBy id operation answer) y) false (put_back s.homes m.1) (slice_set s.views id (Holder w)) (Some (volume room js)) back
-              (p, has s k at, leads, none_due, idle, few, proper, may', refl),
+          home_is s k at (λ y. Step (d s k at) (ReleasesBy id operation answer) y) false (put_back s.homes m.1) (slice_set s.views id (Holder w)) (Some book) back
+              (p, has s k at, leads, none_due, idle, few, proper, may, refl),
         ),
         λ q a other home. (
-          (time (d s k at), ap (λ v. (Holder v, rest m.1)) (same_ended (time (d s k at)) p operation q answer a may other (same_book m js (journal_by p.hand p.place (p.posts + 1) q a) others (rest m.1) (book, is, held) home))),
+          (time (d s k at), ap (λ v. (Holder v, rest m.1)) (same_ended (time (d s k at)) p operation q answer a may other (ap (λ (b : Volume). b.journal) (same_book m book (book_with p (journal_by p.hand p.place (p.posts + 1) q a)) others (rest m.1) held home)))),
           subst (λ r. Knows r p p.hand) (sym room_is) (laws.leaders (d s k at) id p k.meets (has s k at) leads),
         ),
       )

@@ -7,10 +7,10 @@ use Rattle.atomic_table.specs.Table.{Final, Seen}
 use Rattle.pq_types.specs.declared.control.Control.TheVariants.{Nothing}
 use Rattle.pq_types.specs.Item.{item}
 use Rattle.pq_book.specs.Book.{Volume}
-use Rattle.desk_core.specs.Home.{Home, home_of}
 use Rattle.desk_core.specs.Dealing.{IsReached, Deals, MovesReach, EveryDealtRunIsLinearizable}
+use Rattle.desk_core.specs.Archiving.{EveryRunHasLimits, LimitsRise}
 use Rattle.desk_core.specs.Times.{EveryDealtRunIsTimed}
-use Rattle.desk_core.specs.Desk.{Desk, Has, volume}
+use Rattle.desk_core.specs.Desk.{Desk, Has, AtHome, volume, dealer_opening}
 use Rattle.desk_core.specs.Keeping.{PensAreSeated}
 use Rattle.desk_core.specs.Knows.{Knows, HomeIsKnown}
 use Rattle.desk_core.specs.Layout.{ZerosAreFresh, WordsAreReadBack, lock_at}
@@ -21,43 +21,34 @@ use Rattle.desk_core.specs.declared.model.View.{View}
 use Rattle.desk_core.specs.declared.model.View.TheVariants.{Dealer, Holder, Testimony}
 use Rattle.announce_board.specs.Rule.{Keeps, Seated, desk_of, book_at_home}
 use Rattle.announce_board.specs.declared.terms.Terms.{Terms}
-use Rattle.announce_board.specs.Slots.{MeetsTerms, Slotted, with_book, book_of}
+use Rattle.announce_board.specs.Slots.{MeetsTerms, Slotted, with_book, book_of, first_limits}
 use Rattle.announce_board.specs.Steps.{pen_at}
 use Rattle.announce_board.specs.Opening.{OpeningKept, DealingAllowed, EndsAreTold, IsHomeBook, IsHomeWith, IsHeldWith, HasAll, ClosedByAll}
-use Rattle.announce_board.proofs.Allows.{book_there, one_book}
+use Rattle.announce_board.proofs.Allows.{book_there, book_bounded}
+use Rattle.announce_board.proofs.Homes.{same_volume}
 use Rattle.announce_board.proofs.Lines.{lines_are_of}
 use Rattle.announce_board.proofs.Gathered.{nobody_leads, keepers_testify, pens_apart}
 use Rattle.announce_board.proofs.Duties.{none_yet, quiet_set, quiet_more, pen_quiet, dealer_quiet}
 use Rattle.announce_board.proofs.Weights.{weighs_more, weighs_dealt}
 use Rattle.announce_board.proofs.Same.{not_true}
 
--- the desk before all steps, with this Book at home
-abbrev opened_with : ℕ → ℕ → Home → Desk
-opened_with places room home =
+pub opening_kept : (wide : Bool) (roomy : ℕ → Type 0) → OpeningsMeetRule → ZerosAreFresh → OpeningKept wide roomy
+opening_kept wide roomy opens zeros room terms places book small sized empty is =
+    let first : Some (volume (first_limits room terms) []) ≡ Some book =
+    ap Some (same_volume (volume (first_limits room terms) []) book (sym sized) (ap (λ (t : Terms). t.bound) is) (ap (λ (t : Terms). t.allowed) is) (sym empty)) in
+    let d : Desk = dealer_opening places (first_limits room terms) in
     record {
-      room = room;
-      places = places;
       held = false;
       control = λ _. Nothing;
-      item = λ _. item 0 0;
-      home = Some home;
-      views = Dealer 0 room ∷ [];
+      cells = λ _. item 0 0;
+      words = zeros wide places;
+      slots = refl;
+      reached = subst (λ h. IsReached places (first_limits room terms) (record d { home = h })) first ([], refl);
+      meets = subst (λ h. MeetsRule (record d { home = h })) first (opens.dealer places (first_limits room terms) small);
+      duties = quiet_more [] (Dealer 0 room) none_yet (dealer_quiet 0 room);
+      weight = (let a = weighs_more places [] (Dealer 0 room) in omega (arith, a));
+      memory = λ all place e. absurd (cc e);
     }
-
-pub opening_kept : (wide : Bool) (roomy : ℕ → Type 0) → OpeningsMeetRule → ZerosAreFresh → OpeningKept wide roomy
-opening_kept wide roomy opens zeros room terms places book small empty is = record {
-  held = false;
-  control = λ _. Nothing;
-  cells = λ _. item 0 0;
-  words = zeros wide places;
-  slots = refl;
-  reached = subst (λ h. IsReached places room (opened_with places room h)) (sym empty) ([], refl);
-  meets = subst (λ h. MeetsRule (opened_with places room h)) (sym empty) (opens.dealer places room small);
-  duties = quiet_more [] (Dealer 0 room) none_yet (dealer_quiet 0 room);
-  weight = (let a = weighs_more places [] (Dealer 0 room) in omega (arith, a));
-  memory = λ all place e. absurd (cc e);
-  bounded = λ b at. subst (MeetsTerms terms) (sym (one_book book b at)) is;
-}
 
 pub dealing_allowed : (wide : Bool) (roomy : ℕ → Type 0) → MovesReach → DealingKeepsRule → DealingAllowed wide roomy
 dealing_allowed wide roomy goes deals room terms places id place known lt s k at = record {
@@ -66,14 +57,13 @@ dealing_allowed wide roomy goes deals room terms places id place known lt s k at
   cells = k.cells;
   words = k.words;
   slots = k.slots;
-  reached = goes places room (desk_of room places k.held k.control k.cells s.homes s.views) _ (Deals id) k.reached (place, known, at, lt, refl);
+  reached = goes places (first_limits room terms) (desk_of room places k.held k.control k.cells s.homes s.views) _ (Deals id) k.reached (place, known, at, lt, refl);
   meets = deals (desk_of room places k.held k.control k.cells s.homes s.views) id place known k.meets at lt;
   duties = quiet_more (set s.views id (Dealer (place + 1) known)) (Holder (new_pen known place))
       (quiet_set s.views id (Dealer place known) (Dealer (place + 1) known) k.duties at (dealer_quiet place known) (dealer_quiet (place + 1) known))
       (pen_quiet (new_pen known place) refl);
   weight = (let same = weighs_dealt places s.views id place known at lt in let within = k.weight in omega (arith, same, within));
   memory = k.memory;
-  bounded = k.bounded;
 }
 
 -- with one place alone, the pen that leads is any that has a seat
@@ -90,59 +80,56 @@ leads_alone d chief seat p places one has (held, home, (q, there, leads)) =
     ap (λ (x : PenState). x.leading) f ∙ leads
 
 pub ends_are_told : (wide : Bool) (roomy : ℕ → Type 0) → WordsAreReadBack → HomeIsKnown → PensAreSeated → EveryDealtRunIsLinearizable → EveryDealtRunIsTimed
-    → EndsAreTold wide roomy
-ends_are_told wide roomy read known seated linear timed room terms places s k =
+    → EveryRunHasLimits → LimitsRise → EndsAreTold wide roomy
+ends_are_told wide roomy read known seated linear timed limited rise room terms places s k =
     let back = read wide places s.words k.held k.control k.cells k.words in
     let d : Desk = desk_of room places k.held k.control k.cells s.homes s.views in
-    let journal = k.meets.0 in
     let lock = k.meets.2.lock in
+    let bounded = book_bounded limited rise room terms places d k.meets.2.room_in_range k.reached in
     record {
       free = λ e.
           let free : k.held ≡ false = back.lock_free.0 e in
-          let at_home : book_at_home s.homes ≡ Some (volume room journal) = ⊎_elim (λ u. u.1) (λ u. absurd (true≢false (sym u.0 ∙ free))) lock in
-          let (book, there, same) = book_there (get_elem? s.homes 0) (volume room journal) at_home in (
+          let home : AtHome (book_at_home s.homes) room k.meets.0 = ⊎_elim (λ u. u.1) (λ u. absurd (true≢false (sym u.0 ∙ free))) lock in
+          let book = home.book in (
             book,
-            there,
-            record { desk = d; reached = k.reached; meets = k.meets; at_home = at_home ∙ ap Some (sym same); room_is = ap (λ (h : Home). h.room) same },
+            book_there (get_elem? s.homes 0) book home.is,
+            record { desk = d; reached = k.reached; meets = k.meets; at_home = home.is; room_is = home.room_is },
             refl,
             λ id m is at.
                 let has = at ∙ ap some is in (
-                  subst (λ (h : Home). Knows (pen_at m).room (pen_at m) h.journal) (sym same)
-                      (subst (λ r. Knows r (pen_at m) journal) (sym (seated d id (pen_at m) k.meets has).room) (known d id (pen_at m) journal k.meets has at_home)),
+                  subst (λ r. Knows r (pen_at m) book.journal) (sym (seated d id (pen_at m) k.meets has).room) (known d id (pen_at m) book k.meets has home.is).1,
                   not_true (pen_at m).leading (λ leads. true≢false (sym (k.meets.2.led id (pen_at m) has leads).1 ∙ free)),
                 ),
-            k.bounded book there,
+            bounded book home.is,
           );
       held = λ ne. let h = back.lock_held ne in (h.1, record { desk = d; reached = k.reached; meets = k.meets; held = h.0; room_is = refl }, refl);
       alone = λ ne one id m is at.
           let held : k.held ≡ true = (back.lock_held ne).0 in
           ⊎_elim (λ u. absurd (true≢false (sym held ∙ u.0))) (leads_alone d k.meets.1 id (pen_at m) k.meets.2.seated one (at ∙ ap some is)) lock;
       all = λ id pens n at has_all.
-          let at_home : book_at_home s.homes ≡ Some (volume room journal) =
+          let home : AtHome (book_at_home s.homes) room k.meets.0 =
           ⊎_elim
           (λ u. u.1)
           (λ u. absurd (nobody_leads s.views id pens n k.duties at places k.weight has_all k.meets.1 u.2.0 u.2.1 u.2.2))
           lock in
           let sits = λ (i : ℕ) (p : PenState) (of : slice_get pens i ≡ Some p). (k.duties.stay id pens n i p at of (has_all.retired i p of)).0 in
-          let (book, there, same) = book_there (get_elem? s.homes 0) (volume room journal) at_home in (
+          let book = home.book in (
             book,
-            there,
+            book_there (get_elem? s.homes 0) book home.is,
             record {
-              home = record { desk = d; reached = k.reached; meets = k.meets; at_home = at_home ∙ ap Some (sym same); room_is = ap (λ (h : Home). h.room) same; seated = sits };
+              home = record { desk = d; reached = k.reached; meets = k.meets; at_home = home.is; room_is = home.room_is; seated = sits };
               knows = λ i p of.
                   (let t = sits i p of in
-                  subst (λ (h : Home). Knows p.room p h.journal) (sym same)
-                  (subst (λ r. Knows r p journal) (sym (seated d t.0 p k.meets t.1).room) (known d t.0 p journal k.meets t.1 at_home)));
+                  subst (λ r. Knows r p book.journal) (sym (seated d t.0 p k.meets t.1).room) (known d t.0 p book k.meets t.1 home.is).1);
               only = λ i l e.
-                  (let e' : slice_get journal i ≡ Some l = subst (λ (h : Home). slice_get h.journal i ≡ Some l) same e in
-                  let (j, p, has, here, (m, keeps)) = lines_are_of linear timed places room d journal k.meets.2.room_in_range k.reached at_home i l e' in
+                  (let (j, p, has, here, (m, keeps)) = lines_are_of linear timed places (first_limits room terms) d book k.meets.2.room_in_range k.reached home.is i l e in
                   let (h, of) = keepers_testify s.views id pens n k.duties at places k.weight has_all j p has m keeps in
                   (h, p, of, here));
               placed = record {
                 inside = λ i p of. (let t = sits i p of in k.meets.2.seated.inside t.0 p t.1);
                 apart = λ i j p q of there same. pens_apart s.views id pens n k.duties at i j p q of there (has_all.retired i p of) (has_all.retired j q there) same;
               };
-              bounded = k.bounded book there;
+              bounded = bounded book home.is;
             },
           );
     }
@@ -155,26 +142,26 @@ word_first (x ∷ xs) k e = some-injective x k e
 seat_of : (id : ℕ) (m : Seated) (views all : List View) → m.0 ≡ Holder (pen_at m) → views ≡ all → get_elem? all id ≡ some m.0 → Has views id (pen_at m)
 seat_of id m views all is same at = ap (λ vs. get_elem? vs id) same ∙ at ∙ ap some is
 
-with_pen_at : (room : ℕ) (book : Volume) (id : ℕ) (m : Seated) → m.0 ≡ Holder (pen_at m) → (all : List View) (other : Volume) (h : IsHomeBook room other) → h.desk.views ≡ all → other ≡ book → get_elem? all id ≡ some m.0 → IsHomeWith room (pen_at m) book
-with_pen_at room book id m is all other h same e at =
-    record { desk = h.desk; reached = h.reached; meets = h.meets; at_home = h.at_home ∙ ap (λ (b : Volume). Some (home_of b)) e; room_is = ap (λ (b : Volume). b.room) (sym e) ∙ h.room_is; seat = id; has = seat_of id m h.desk.views all is same at }
+with_pen_at : (room : ℕ) (terms : Terms) (book : Volume) (id : ℕ) (m : Seated) → m.0 ≡ Holder (pen_at m) → (all : List View) (other : Volume) (h : IsHomeBook room terms other) → h.desk.views ≡ all → other ≡ book → get_elem? all id ≡ some m.0 → IsHomeWith room terms (pen_at m) book
+with_pen_at room terms book id m is all other h same e at =
+    record { desk = h.desk; reached = h.reached; meets = h.meets; at_home = h.at_home ∙ ap Some e; room_is = ap (λ (b : Volume). b.room) (sym e) ∙ h.room_is; seat = id; has = seat_of id m h.desk.views all is same at }
 
 -- the Book that was in the slot of a table which was closed without a seat
 pub closes : (wide : Bool) (roomy : ℕ → Type 0) → EndsAreTold wide roomy → (room : ℕ) (terms : Terms) (places : ℕ) (words : List ℕ) (slots : List Slotted) (lock : ℕ) (slot : Slotted)
     → Final (Keeps wide roomy room terms places) words slots → get_elem? words 0 ≡ some lock → get_elem? slots 0 ≡ some slot
-    → (book : Volume) → (lock ≡ 0) × (slot ≡ with_book book) → IsHomeBook room book × MeetsTerms terms book
+    → (book : Volume) → (lock ≡ 0) × (slot ≡ with_book book) → IsHomeBook room terms book × MeetsTerms terms book
 closes wide roomy ends room terms places words slots lock slot (s, keeps, same, long, values) first last book h =
     let n : slice_index s.words lock_at ≡ 0 = word_first s.words lock (ap (λ y. get_elem? y 0) same ∙ first) ∙ h.0 in
     let t = (ends room terms places s keeps).free n in
     let there = values 0 (with_book t.0) t.1 in
     let f : some (with_book t.0) ≡ some (with_book book) = sym there ∙ (last ∙ ap some h.1) in
     let g : t.0 ≡ book = cc in
-    (subst (IsHomeBook room) g t.2, subst (MeetsTerms terms) g t.5)
+    (subst (IsHomeBook room terms) g t.2, subst (MeetsTerms terms) g t.5)
 
 -- the Book that was in the slot of a table which was closed with the seat of a pen
 pub closes_with : (wide : Bool) (roomy : ℕ → Type 0) → EndsAreTold wide roomy → (room : ℕ) (terms : Terms) (places id : ℕ) (m : Seated) (words : List ℕ) (slots : List Slotted) (lock : ℕ) (slot : Slotted) → m.0 ≡ Holder (pen_at m)
     → Final (Seen (Keeps wide roomy room terms places) id m.0) words slots → get_elem? words 0 ≡ some lock → get_elem? slots 0 ≡ some slot
-    → (book : Volume) → (lock ≡ 0) × (slot ≡ with_book book) → IsHomeWith room (pen_at m) book × Knows (pen_at m).room (pen_at m) book.journal × ((pen_at m).leading ≡ false) × MeetsTerms terms book
+    → (book : Volume) → (lock ≡ 0) × (slot ≡ with_book book) → IsHomeWith room terms (pen_at m) book × Knows (pen_at m).room (pen_at m) book.journal × ((pen_at m).leading ≡ false) × MeetsTerms terms book
 closes_with wide roomy ends room terms places id m words slots lock slot is (s, seen, same, long, values) first last book h =
     let n : slice_index s.words lock_at ≡ 0 = word_first s.words lock (ap (λ y. get_elem? y 0) same ∙ first) ∙ h.0 in
     let t = (ends room terms places s seen.0).free n in
@@ -182,7 +169,7 @@ closes_with wide roomy ends room terms places id m words slots lock slot is (s, 
     let f : some (with_book t.0) ≡ some (with_book book) = sym there ∙ (last ∙ ap some h.1) in
     let g : t.0 ≡ book = cc in
     let told = t.4 id m is seen.1 in
-    (with_pen_at room book id m is s.views t.0 t.2 t.3 g seen.1, subst (λ (b : Volume). Knows (pen_at m).room (pen_at m) b.journal) g told.0, told.1, subst (MeetsTerms terms) g t.5)
+    (with_pen_at room terms book id m is s.views t.0 t.2 t.3 g seen.1, subst (λ (b : Volume). Knows (pen_at m).room (pen_at m) b.journal) g told.0, told.1, subst (MeetsTerms terms) g t.5)
 
 -- the Book that was in the slot of a table which was closed with a testimony of all pens
 pub closes_all : (wide : Bool) (roomy : ℕ → Type 0) → EndsAreTold wide roomy → (room : ℕ) (terms : Terms) (places id : ℕ) (v : View) (pens : List PenState) (words : List ℕ) (slots : List Slotted) (slot : Slotted)
@@ -209,7 +196,7 @@ closes_all_as wide roomy ends room room' terms terms' places places' id v pens w
 
 -- the lock word of a table that was closed with the seat of a pen, where it was not 0
 pub closes_held : (wide : Bool) (roomy : ℕ → Type 0) → EndsAreTold wide roomy → (room : ℕ) (terms : Terms) (places id : ℕ) (m : Seated) (words : List ℕ) (slots : List Slotted) (lock : ℕ) → m.0 ≡ Holder (pen_at m)
-    → Final (Seen (Keeps wide roomy room terms places) id m.0) words slots → get_elem? words 0 ≡ some lock → lock ≢ 0 → IsHeldWith room (pen_at m)
+    → Final (Seen (Keeps wide roomy room terms places) id m.0) words slots → get_elem? words 0 ≡ some lock → lock ≢ 0 → IsHeldWith room terms (pen_at m)
 closes_held wide roomy ends room terms places id m words slots lock is (s, seen, same, long, values) first held =
     let t = (ends room terms places s seen.0).held (λ e. held (sym (word_first s.words lock (ap (λ y. get_elem? y 0) same ∙ first)) ∙ e)) in
     let h = t.1 in
@@ -222,8 +209,13 @@ closes_alone wide roomy ends room terms places id m words slots lock is (s, seen
     (ends room terms places s seen.0).alone (λ e. held (sym (word_first s.words lock (ap (λ y. get_elem? y 0) same ∙ first)) ∙ e)) one id m is seen.1
 
 -- the same, named otherwise
-pub home_as : (room room' : ℕ) (p p' : PenState) (book : Volume) → room ≡ room' → p ≡ p' → IsHomeWith room p book → IsHomeWith room' p' book
-home_as room room' p p' book e f h = subst (λ r. IsHomeWith r p' book) e (subst (λ q. IsHomeWith room q book) f h)
+pub book_as : (room room' : ℕ) (terms terms' : Terms) (book : Volume) → room ≡ room' → terms ≡ terms' → IsHomeBook room terms book → IsHomeBook room' terms' book
+book_as room room' terms terms' book e b h = subst (λ r. IsHomeBook r terms' book) e (subst (λ t. IsHomeBook room t book) b h)
 
-pub held_as : (room room' : ℕ) (p p' : PenState) → room ≡ room' → p ≡ p' → IsHeldWith room p → IsHeldWith room' p'
-held_as room room' p p' e f h = subst (λ r. IsHeldWith r p') e (subst (λ q. IsHeldWith room q) f h)
+pub home_as : (room room' : ℕ) (terms terms' : Terms) (p p' : PenState) (book : Volume) → room ≡ room' → terms ≡ terms' → p ≡ p' → IsHomeWith room terms p book → IsHomeWith room' terms' p' book
+home_as room room' terms terms' p p' book e b f h =
+    subst (λ r. IsHomeWith r terms' p' book) e (subst (λ t. IsHomeWith room t p' book) b (subst (λ q. IsHomeWith room terms q book) f h))
+
+pub held_as : (room room' : ℕ) (terms terms' : Terms) (p p' : PenState) → room ≡ room' → terms ≡ terms' → p ≡ p' → IsHeldWith room terms p → IsHeldWith room' terms' p'
+held_as room room' terms terms' p p' e b f h =
+    subst (λ r. IsHeldWith r terms' p') e (subst (λ t. IsHeldWith room t p') b (subst (λ q. IsHeldWith room terms q) f h))

@@ -9,7 +9,7 @@ use Rattle.pq_types.specs.declared.answer.Answer.TheVariants as answer
 use Rattle.pq_types.specs.declared.control.Kind.TheVariants as kind
 use Rattle.pq_types.specs.Asked.{Line}
 use Rattle.pq_types.specs.Control.{kind_of, request_item, answer_item, reply_item}
-use Rattle.desk_core.specs.Answering.{MayTellOf}
+use Rattle.pq_types.specs.History.{Limits, MayAnswer}
 use Rattle.desk_core.specs.Pen.{IsKept, with_known, after_answer}
 use Rattle.desk_core.specs.declared.model.PenState.{PenState}
 use Rattle.desk_core.specs.declared.model.View.TheVariants.{Holder}
@@ -25,13 +25,13 @@ kept_own Pop = tt
 kept_own Least = tt
 
 -- an answer with an item is none to a push
-pub no_push : (room : ℕ) (hand : List Line) (q : Request) (a : Answer) (x : Item) → MayTellOf room hand q a → answer_item a ≡ Some x → kind_of q ≢ kind.Push
-no_push room hand (Push y) (answer.Entered n r) x may e g = let f : None ≡ Some x = sym (ap reply_item may.2) ∙ e in absurd (cc f)
-no_push room hand Pop (answer.Entered n r) x may e g = absurd (cc g)
-no_push room hand Least (answer.Entered n r) x may e g = absurd (cc g)
-no_push room hand q answer.BookFull x may e g = absurd (cc e)
-no_push room hand q answer.NoMemory x may e g = absurd (cc e)
-no_push room hand q (answer.Refused why) x may e g = absurd (cc e)
+pub no_push : (limits : Limits) (hand : List Line) (q : Request) (a : Answer) (x : Item) → MayAnswer limits hand q a → answer_item a ≡ Some x → kind_of q ≢ kind.Push
+no_push limits hand (Push y) (answer.Entered n r) x may e g = let f : None ≡ Some x = sym (ap reply_item may.2) ∙ e in absurd (cc f)
+no_push limits hand Pop (answer.Entered n r) x may e g = absurd (cc g)
+no_push limits hand Least (answer.Entered n r) x may e g = absurd (cc g)
+no_push limits hand q answer.BookFull x may e g = absurd (cc e)
+no_push limits hand q answer.NoMemory x may e g = absurd (cc e)
+no_push limits hand q (answer.Refused why) x may e g = absurd (cc e)
 
 kept_else : (q : Request) (x : Item) → kind_of q ≢ kind.Push → IsKept (request_item q) (Some x)
 kept_else (Push y) x ne = absurd (ne refl)
@@ -41,17 +41,17 @@ kept_else Least x ne = tt
 pub due_plain : (p : PenState) (place serial : ℕ) (q : Request) (a : Answer) → p.due ≡ Some (due_of place serial q) → answer_item a ≡ None → IsDueFor p place q a (due_of place serial q)
 due_plain p place serial q a e none = record { is_due = e; here = refl; kind = refl; known = kept_own q; laid = subst (λ o. IsKept o (request_item q)) (sym none) tt }
 
-due_laid : (words : ℕ) (p : PenState) (place serial room : ℕ) (hand : List Line) (q : Request) (a : Answer) (x : Item) → MayTellOf room hand q a → answer_item a ≡ Some x
+due_laid : (words : ℕ) (p : PenState) (place serial : ℕ) (limits : Limits) (hand : List Line) (q : Request) (a : Answer) (x : Item) → MayAnswer limits hand q a → answer_item a ≡ Some x
     → IsDueFor (laid_by words p (due_of place serial q) x) place q a (with_known (due_of place serial q) x)
-due_laid words p place serial room hand q a x may e =
-    record { is_due = refl; here = refl; kind = refl; known = kept_else q x (no_push room hand q a x may e); laid = subst (λ o. IsKept o (Some x)) (sym e) refl }
+due_laid words p place serial limits hand q a x may e =
+    record { is_due = refl; here = refl; kind = refl; known = kept_else q x (no_push limits hand q a x may e); laid = subst (λ o. IsKept o (Some x)) (sym e) refl }
 
 -- the same of a seat where the item was just laid
-pub due_after : (words : ℕ) (before between : Seated) (place serial room : ℕ) (hand : List Line) (q : Request) (a : Answer) (x : Item) → MayTellOf room hand q a → answer_item a ≡ Some x
+pub due_after : (words : ℕ) (before between : Seated) (place serial : ℕ) (limits : Limits) (hand : List Line) (q : Request) (a : Answer) (x : Item) → MayAnswer limits hand q a → answer_item a ≡ Some x
     → Becomes before (laid_by words (pen_at before) (due_of place serial q) x) between → IsDueFor (pen_at between) place q a (with_known (due_of place serial q) x)
-due_after words before between place serial room hand q a x may e next =
+due_after words before between place serial limits hand q a x may e next =
     subst (λ r. IsDueFor r place q a (with_known (due_of place serial q) x)) (sym (pen_is before between (laid_by words (pen_at before) (due_of place serial q) x) next))
-    (due_laid words (pen_at before) place serial room hand q a x may e)
+    (due_laid words (pen_at before) place serial limits hand q a x may e)
 
 -- and it knows the same room
 pub room_laid : (words : ℕ) (before between : Seated) (place serial : ℕ) (q : Request) (x : Item)

@@ -1,5 +1,5 @@
 -- The lead of a pen stays its own while the pen drafts, posts and looks.
-use Rattle.std.proofs.Common.{ℕ, ◌+◌, ◌<◌, Bool, true, false, List, [], ◌∷◌, arith, ap, sym, ◌∙◌, subst}
+use Rattle.std.proofs.Common.{ℕ, ◌+◌, ◌<◌, Bool, true, false, List, [], ◌∷◌, arith, sym, subst}
 use Rattle.atomic_table.specs.Seated.{TableId}
 use Rattle.pq_types.specs.Item.{Item}
 use Rattle.pq_types.specs.Asked.{Request}
@@ -11,12 +11,12 @@ use Rattle.pq_types.specs.declared.control.Control.{Control}
 use Rattle.pq_types.specs.declared.control.Control.TheVariants.{Nothing, Posted, Answered}
 use Rattle.pq_types.specs.Asked.{Line}
 use Rattle.pq_types.specs.Control.{notice_has_item}
-use Rattle.pq_types.specs.History.{journal_after, Limits}
+use Rattle.pq_types.specs.History.{journal_after}
 use Rattle.desk_core.specs.Knows.{NoneAbove}
 use Rattle.desk_core.specs.Pen.{after_look}
 use Rattle.desk_core.specs.declared.model.PenState.{PenState}
 use Rattle.announce_board.specs.Asking.{seen_by, taken_if}
-use Rattle.announce_board.specs.Leading.{DraftKeepsLead, PostKeepsLead, LookKeepsLead, ArchiveKeepsLead, TermsStay, ArchiveKeepsTerms}
+use Rattle.announce_board.specs.Leading.{DraftKeepsLead, PostKeepsLead, LookKeepsLead}
 use Rattle.announce_board.specs.Tokens.{AtDesk, Leading, IsLeadOf}
 
 -- no line is above one serial more
@@ -63,14 +63,3 @@ seen_keeps words table p lead request (Answered notice) cell now h =
 pub look_keeps : LookKeepsLead
 look_keeps words pen lead found after h look =
     subst (λ p. IsLeadOf (at pen.table p) lead) (sym look.next) (seen_keeps words pen.table pen.state lead look.request look.control look.cell look.now h)
-
-pub archive_keeps : ArchiveKeepsLead
-archive_keeps pen lead lines h = record { table = h.table; place = h.place; leads = h.leads; book = h.book; used = h.used }
-
-pub terms_stay : TermsStay
-terms_stay terms old new same (bound, many) =
-    let more = ap (λ (l : Limits). l.allowed) same in
-    (ap (λ (l : Limits). l.bound) same ∙ bound, omega (arith, many, more))
-
-pub archive_keeps_terms : ArchiveKeepsTerms
-archive_keeps_terms terms lead lines more (bound, many) = (bound, omega (arith, many, more))

@@ -4,12 +4,13 @@ use Rattle.std.specs.Prelude.{Some, None}
 use Rattle.std.proofs.lemmas.Option.{slice_get_within}
 use Rattle.pq_types.specs.Asked.{Line}
 use Rattle.pq_types.specs.declared.journal.TheConstants.{GREATEST_NUMBER}
-use Rattle.desk_core.specs.Home.{Home}
+use Rattle.pq_types.specs.History.{Limits}
+use Rattle.pq_book.specs.Book.{Volume}
 use Rattle.desk_core.specs.Clauses.{LockClause}
 use Rattle.desk_core.specs.Calls.{call_of}
 use Rattle.desk_core.specs.CallLines.{IsLineOf}
 use Rattle.desk_core.specs.Dealing.{IsReached, EveryDealtRunIsLinearizable, dealt_history}
-use Rattle.desk_core.specs.Desk.{Desk, Has, volume, dealer_opening}
+use Rattle.desk_core.specs.Desk.{Desk, Has, dealer_opening}
 use Rattle.desk_core.specs.Linearizable.{Act, Begins, Ends}
 use Rattle.desk_core.specs.Times.{KeepsPosition, AreTimed, EveryDealtRunIsTimed}
 use Rattle.desk_core.specs.declared.model.PenState.{PenState}
@@ -38,26 +39,26 @@ kept_here d history t j p has n keeps a at =
     keeps
 
 -- the Book at home has the journal that the lock tells
-lock_is : (d : Desk) (a b : List Line) → LockClause d a → d.home ≡ Some (volume d.room b) → a ≡ b
+lock_is : (d : Desk) (a : List Line) (b : Volume) → LockClause d a → d.home ≡ Some b → a ≡ b.journal
 lock_is d a b lock home =
     ⊎_elim
     (λ u.
-    (let f : Some (volume d.room a) ≡ Some (volume d.room b) = sym u.1 ∙ home in
-    let g : volume d.room a ≡ volume d.room b = cc in
-    ap (λ (v : Home). v.journal) g))
-    (λ u. absurd (let f : None ≡ Some (volume d.room b) = sym u.1 ∙ home in cc))
+    (let f : Some u.1.book ≡ Some b = sym u.1.is ∙ home in
+    let g : u.1.book ≡ b = cc in
+    sym u.1.journal_is ∙ ap (λ (v : Volume). v.journal) g))
+    (λ u. absurd (let f : None ≡ Some b = sym u.1 ∙ home in cc))
     lock
 
 -- each line of the journal at home is of the place of a pen that has a seat, and keeps a position
-pub lines_are_of : EveryDealtRunIsLinearizable → EveryDealtRunIsTimed → (places room : ℕ) (d : Desk) (journal : List Line) → room ≤ GREATEST_NUMBER
-    → IsReached places room d → d.home ≡ Some (volume d.room journal) → (i : ℕ) (l : Line) → slice_get journal i ≡ Some l
+pub lines_are_of : EveryDealtRunIsLinearizable → EveryDealtRunIsTimed → (places : ℕ) (limits : Limits) (d : Desk) (book : Volume) → limits.room ≤ GREATEST_NUMBER
+    → IsReached places limits d → d.home ≡ Some book → (i : ℕ) (l : Line) → slice_get book.journal i ≡ Some l
     → (j : ℕ) × (p : PenState) × Has d.views j p × (p.place ≡ l.place) × ((n : ℕ) × KeepsPosition p n)
-lines_are_of linear timed places room d journal small (moves, run) home i l e =
-    let history = dealt_history (dealer_opening places room) moves d run in
-    let z = linear places room moves d small run in
-    let t = timed places room moves d run in
-    let same = lock_is d z.0 journal z.1 home in
+lines_are_of linear timed places limits d book small (moves, run) home i l e =
+    let history = dealt_history (dealer_opening places limits) moves d run in
+    let z = linear places limits moves d small run in
+    let t = timed places limits moves d run in
+    let same = lock_is d z.0 book z.1 home in
     let c = call_of (i + 1) l.serial l.operation l.reply in
-    let (n, at) = z.2.begun l.place c (subst (λ js. IsLineOf js l.place c) (sym same) (line_at journal i l e)) in
+    let (n, at) = z.2.begun l.place c (subst (λ js. IsLineOf js l.place c) (sym same) (line_at book.journal i l e)) in
     let (j, p, has, keeps) = t.kept n (slice_get_within history n (Begins l.place c.serial c.operation) at) in
     (j, p, has, kept_here d history t j p has n keeps (Begins l.place c.serial c.operation) at, (n, keeps))

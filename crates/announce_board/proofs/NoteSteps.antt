@@ -8,7 +8,7 @@ use Rattle.atomic_table.specs.Table.{State, keeps}
 use Rattle.atomic_table.proofs.Lists.{set_else}
 use Rattle.pq_types.specs.Asked.{Line}
 use Rattle.announce_board.specs.declared.terms.Terms.{Terms}
-use Rattle.announce_board.specs.Slots.{Slotted}
+use Rattle.announce_board.specs.Slots.{Slotted, first_limits}
 use Rattle.desk_core.specs.CallLines.{IsLineOf, CallsAreLines}
 use Rattle.desk_core.specs.Calls.{call}
 use Rattle.desk_core.specs.Dealing.{IsReached, CatchesUp as MovesUp, Writes, Hears, Copies, MovesReach}
@@ -33,10 +33,10 @@ module _ (wide : Bool) (roomy : ℕ → Type 0) (room : ℕ) (terms : Terms) (pl
   d = desk_of room places k.held k.control k.cells s.homes s.views
 
   -- the views alone have changed
-  viewed : (views : List View) → IsReached places room (record d { views = views }) → MeetsRule (record d { views = views }) → DutiesAreKept views → weight_of places views ≤ places
+  viewed : (views : List View) → IsReached places (first_limits room terms) (record d { views = views }) → MeetsRule (record d { views = views }) → DutiesAreKept views → weight_of places views ≤ places
       → Keeps wide roomy room terms places record { words = s.words; homes = s.homes; views = views }
   viewed views reached meets duties weight =
-      record { held = k.held; control = k.control; cells = k.cells; words = k.words; slots = k.slots; reached = reached; meets = meets; duties = duties; weight = weight; memory = k.memory; bounded = k.bounded }
+      record { held = k.held; control = k.control; cells = k.cells; words = k.words; slots = k.slots; reached = reached; meets = meets; duties = duties; weight = weight; memory = k.memory }
 
 pub catch_up_allowed : (wide : Bool) (roomy : ℕ → Type 0) → MovesReach → CatchUpKeeps → Loaded → CatchUpAllowed wide roomy
 catch_up_allowed wide roomy goes kept loaded room terms places slots id m is s k long at small =
@@ -52,12 +52,11 @@ catch_up_allowed wide roomy goes kept loaded room terms places slots id m is s k
         cells = k.cells;
         words = loaded wide places s.words k.held k.control k.cells lock_at k.words;
         slots = k.slots;
-        reached = goes places room now (with_pen now id (after_catch_up p t.0)) (MovesUp id) k.reached (p, t.0, at ∙ ap some is, t.1, refl);
+        reached = goes places (first_limits room terms) now (with_pen now id (after_catch_up p t.0)) (MovesUp id) k.reached (p, t.0, at ∙ ap some is, t.1, refl);
         meets = t.3;
         duties = acts_on s.views id p (after_catch_up p t.0) k.duties (at ∙ ap some is) refl refl;
         weight = (let same = weighs_on places s.views id p (after_catch_up p t.0) (at ∙ ap some is) refl refl in let within = k.weight in omega (arith, same, within));
         memory = k.memory;
-        bounded = k.bounded;
       },
       (t.0, subst (λ r. Knows r p t.0) (sym (k.meets.2.pens id p (at ∙ ap some is)).told) t.2, refl),
     )
@@ -71,7 +70,7 @@ writing_allowed wide roomy goes kept room terms places slots id m is s k at =
     let same = weighs_on places s.views id p (after_writing p) (at ∙ ap some is) refl refl in
     let more = weighs_more places writer (Note p.known) in
     let within = k.weight in
-    viewed wide roomy room terms places s k views (goes places room now (record now { views = views }) (Writes id) k.reached (p, at ∙ ap some is, refl)) (kept (d wide roomy room terms places s k) id p k.meets (at ∙ ap some is))
+    viewed wide roomy room terms places s k views (goes places (first_limits room terms) now (record now { views = views }) (Writes id) k.reached (p, at ∙ ap some is, refl)) (kept (d wide roomy room terms places s k) id p k.meets (at ∙ ap some is))
     (quiet_more writer (Note p.known) (acts_on s.views id p (after_writing p) k.duties (at ∙ ap some is) refl refl) (note_quiet p.known))
     (omega (arith, same, more, within))
 
@@ -89,8 +88,8 @@ hearing_allowed wide roomy goes kept room terms places slots id m is other note 
     let within = k.weight in
     let heard : Desk = record now { views = set (set s.views id (Holder (after_hearing p told))) other (Note []) } in
     viewed wide roomy room terms places s k (set (set s.views id w) other (Note []))
-    (subst (λ known. IsReached places room (record now { views = set (set s.views id (Holder (record (after_hearing p told) { known = known }))) other (Note []) })) (sym longer)
-    (goes places room now heard (Hears id other) k.reached (p, told, here, was, refl)))
+    (subst (λ known. IsReached places (first_limits room terms) (record now { views = set (set s.views id (Holder (record (after_hearing p told) { known = known }))) other (Note []) })) (sym longer)
+    (goes places (first_limits room terms) now heard (Hears id other) k.reached (p, told, here, was, refl)))
     (subst (λ known. MeetsRule (record now { views = set (set s.views id (Holder (record (after_hearing p told) { known = known }))) other (Note []) })) (sym longer)
     (kept now id p k.meets here other told was))
     (quiet_set (set s.views id w) other (Note told) (Note []) (acts_on s.views id p (while_hearing p told) k.duties here refl refl)
@@ -106,8 +105,8 @@ copying_allowed wide roomy goes kept room terms places id note it s k at =
     let more = weighs_more places (set s.views id (Note told)) (Note told) in
     let within = k.weight in
     viewed wide roomy room terms places s k (set s.views id note ++ note ∷ [])
-    (subst (λ (v : View). IsReached places room (record now { views = set s.views id v ++ v ∷ [] })) (sym it)
-    (goes places room now copied (Copies id) k.reached (told, at ∙ ap some it, refl)))
+    (subst (λ (v : View). IsReached places (first_limits room terms) (record now { views = set s.views id v ++ v ∷ [] })) (sym it)
+    (goes places (first_limits room terms) now copied (Copies id) k.reached (told, at ∙ ap some it, refl)))
     (subst (λ (v : View). MeetsRule (record (d wide roomy room terms places s k) { views = set s.views id v ++ v ∷ [] })) (sym it)
     (kept (d wide roomy room terms places s k) id (told_of note) k.meets (at ∙ ap some it)))
     (subst (λ (v : View). DutiesAreKept (set s.views id v ++ v ∷ [])) (sym it)

@@ -16,19 +16,18 @@ use Rattle.pq_types.specs.declared.control.Control.{Control}
 use Rattle.pq_types.specs.declared.control.Control.TheVariants.{Answered}
 use Rattle.pq_types.specs.Control.{kind_of, request_item, answer_item, reply_item, outcome_of, posted, answered}
 use Rattle.pq_types.specs.Asked.{Line}
-use Rattle.pq_types.specs.History.{line_of, journal_after, journal_by}
-use Rattle.desk_core.specs.Answering.{MayTellOf, MayTell}
-use Rattle.desk_core.specs.Home.{Home}
+use Rattle.pq_types.specs.History.{line_of, journal_after, journal_by, Limits, MayDo, MayAnswer}
+use Rattle.pq_book.specs.Book.{Volume}
 use Rattle.desk_core.specs.Calls.{call_of, gained, gained_by}
 use Rattle.desk_core.specs.declared.model.Call.{Call}
 use Rattle.desk_core.specs.Desk.{put}
-use Rattle.desk_core.specs.Pen.{IsKept, told_full_by, after_apply, after_release_by}
+use Rattle.desk_core.specs.Pen.{IsKept, told_full_by, after_apply, after_archive, after_release_by, book_in_hand, limits_in_hand}
 use Rattle.desk_core.specs.declared.model.Standing.{Standing}
 use Rattle.desk_core.specs.declared.model.Standing.TheVariants.{Idle, Waiting}
 use Rattle.desk_core.specs.declared.model.Due.{Due}
 use Rattle.desk_core.specs.declared.model.PenState.{PenState}
 use Rattle.announce_board.specs.Rule.{NoneIsRefused, Seated}
-use Rattle.announce_board.specs.Slots.{Slotted, with_book, says}
+use Rattle.announce_board.specs.Slots.{Slotted, book_of}
 use Rattle.announce_board.specs.Steps.{HasInSlot}
 
 -- a request of a kind, with the item that is known of it
@@ -128,64 +127,64 @@ no_longer : (ls : List Line) (a : Line) → ls ++ a ∷ [] ≡ ls → ⊥
 no_longer ls a e = let f : length (ls ++ a ∷ []) ≡ length ls = ap length e in omega (arith, f, length-append ls (a ∷ []))
 
 -- where a rule refuses, there is room for a line
-pub room_left : (room : ℕ) (hand : List Line) (q : Operation) (why : Refusal) → MayTell room hand q (answer.Refused why) → length hand < room
-room_left room hand q refusal.Shut may = may.0
-room_left room hand q refusal.Unarchived may = may.0
-room_left room hand q refusal.Full may = may.0
+pub room_left : (limits : Limits) (hand : List Line) (q : Operation) (why : Refusal) → MayDo limits hand q (answer.Refused why) → length hand < limits.room
+room_left limits hand q refusal.Shut may = may.0
+room_left limits hand q refusal.Unarchived may = may.0
+room_left limits hand q refusal.Full may = may.0
 
 -- the call that an own request gains stands in the journal that it leaves
-same_gained : (room : ℕ) (hand : List Line) (place serial : ℕ) (q r : Operation) (a b : Answer) → MayTell room hand q a → MayTell room hand r b
+same_gained : (limits : Limits) (hand : List Line) (place serial : ℕ) (q r : Operation) (a b : Answer) → MayDo limits hand q a → MayDo limits hand r b
     → journal_by hand place serial q a ≡ journal_by hand place serial r b → gained_by serial q a ≡ gained_by serial r b
-same_gained room hand place serial q r (answer.Entered l x) (answer.Entered n y) may may' e =
+same_gained limits hand place serial q r (answer.Entered l x) (answer.Entered n y) may may' e =
     let f : line_of place serial q x ≡ line_of place serial r y = last_same hand (line_of place serial q x) (line_of place serial r y) e in
     let g : l ≡ n = may.1 ∙ sym may'.1 in
     ap (λ k. call_of k serial q x ∷ []) g ∙ ap (λ (y : Line). call_of n y.serial y.operation y.reply ∷ []) f
-same_gained room hand place serial q r (answer.Entered l x) answer.BookFull may may' e = absurd (no_longer hand (line_of place serial q x) e)
-same_gained room hand place serial q r (answer.Entered l x) answer.NoMemory may may' e = absurd (no_longer hand (line_of place serial q x) e)
-same_gained room hand place serial q r (answer.Entered l x) (answer.Refused why) may may' e = absurd (no_longer hand (line_of place serial q x) e)
-same_gained room hand place serial q r answer.BookFull (answer.Entered n y) may may' e = absurd (no_longer hand (line_of place serial r y) (sym e))
-same_gained room hand place serial q r answer.BookFull answer.BookFull may may' e = refl
-same_gained room hand place serial q r answer.BookFull answer.NoMemory may may' e = refl
-same_gained room hand place serial q r answer.BookFull (answer.Refused why) may may' e = refl
-same_gained room hand place serial q r answer.NoMemory (answer.Entered n y) may may' e = absurd (no_longer hand (line_of place serial r y) (sym e))
-same_gained room hand place serial q r answer.NoMemory answer.BookFull may may' e = refl
-same_gained room hand place serial q r answer.NoMemory answer.NoMemory may may' e = refl
-same_gained room hand place serial q r answer.NoMemory (answer.Refused why) may may' e = refl
-same_gained room hand place serial q r (answer.Refused why) (answer.Entered n y) may may' e = absurd (no_longer hand (line_of place serial r y) (sym e))
-same_gained room hand place serial q r (answer.Refused why) answer.BookFull may may' e = refl
-same_gained room hand place serial q r (answer.Refused why) answer.NoMemory may may' e = refl
-same_gained room hand place serial q r (answer.Refused why) (answer.Refused other) may may' e = refl
+same_gained limits hand place serial q r (answer.Entered l x) answer.BookFull may may' e = absurd (no_longer hand (line_of place serial q x) e)
+same_gained limits hand place serial q r (answer.Entered l x) answer.NoMemory may may' e = absurd (no_longer hand (line_of place serial q x) e)
+same_gained limits hand place serial q r (answer.Entered l x) (answer.Refused why) may may' e = absurd (no_longer hand (line_of place serial q x) e)
+same_gained limits hand place serial q r answer.BookFull (answer.Entered n y) may may' e = absurd (no_longer hand (line_of place serial r y) (sym e))
+same_gained limits hand place serial q r answer.BookFull answer.BookFull may may' e = refl
+same_gained limits hand place serial q r answer.BookFull answer.NoMemory may may' e = refl
+same_gained limits hand place serial q r answer.BookFull (answer.Refused why) may may' e = refl
+same_gained limits hand place serial q r answer.NoMemory (answer.Entered n y) may may' e = absurd (no_longer hand (line_of place serial r y) (sym e))
+same_gained limits hand place serial q r answer.NoMemory answer.BookFull may may' e = refl
+same_gained limits hand place serial q r answer.NoMemory answer.NoMemory may may' e = refl
+same_gained limits hand place serial q r answer.NoMemory (answer.Refused why) may may' e = refl
+same_gained limits hand place serial q r (answer.Refused why) (answer.Entered n y) may may' e = absurd (no_longer hand (line_of place serial r y) (sym e))
+same_gained limits hand place serial q r (answer.Refused why) answer.BookFull may may' e = refl
+same_gained limits hand place serial q r (answer.Refused why) answer.NoMemory may may' e = refl
+same_gained limits hand place serial q r (answer.Refused why) (answer.Refused other) may may' e = refl
 
 -- and whether it tells that the journal is full is seen there too
-same_full : (room : ℕ) (hand : List Line) (place serial : ℕ) (q r : Operation) (a b : Answer) (before : Bool) → MayTell room hand q a → MayTell room hand r b
+same_full : (limits : Limits) (hand : List Line) (place serial : ℕ) (q r : Operation) (a b : Answer) (before : Bool) → MayDo limits hand q a → MayDo limits hand r b
     → journal_by hand place serial q a ≡ journal_by hand place serial r b → told_full_by before a ≡ told_full_by before b
-same_full room hand place serial q r (answer.Entered l x) (answer.Entered n y) before may may' e = refl
-same_full room hand place serial q r (answer.Entered l x) answer.BookFull before may may' e = absurd (no_longer hand (line_of place serial q x) e)
-same_full room hand place serial q r (answer.Entered l x) answer.NoMemory before may may' e = absurd (no_longer hand (line_of place serial q x) e)
-same_full room hand place serial q r (answer.Entered l x) (answer.Refused why) before may may' e = absurd (no_longer hand (line_of place serial q x) e)
-same_full room hand place serial q r answer.BookFull (answer.Entered n y) before may may' e = absurd (no_longer hand (line_of place serial r y) (sym e))
-same_full room hand place serial q r answer.BookFull answer.BookFull before may may' e = refl
-same_full room hand place serial q r answer.BookFull answer.NoMemory before may may' e = absurd (let lt = may'.0 in omega (arith, may, lt))
-same_full room hand place serial q r answer.BookFull (answer.Refused why) before may may' e = absurd (let lt = room_left room hand r why may' in omega (arith, may, lt))
-same_full room hand place serial q r answer.NoMemory (answer.Entered n y) before may may' e = absurd (no_longer hand (line_of place serial r y) (sym e))
-same_full room hand place serial q r answer.NoMemory answer.BookFull before may may' e = absurd (let lt = may.0 in omega (arith, may', lt))
-same_full room hand place serial q r answer.NoMemory answer.NoMemory before may may' e = refl
-same_full room hand place serial q r answer.NoMemory (answer.Refused why) before may may' e = refl
-same_full room hand place serial q r (answer.Refused why) (answer.Entered n y) before may may' e = absurd (no_longer hand (line_of place serial r y) (sym e))
-same_full room hand place serial q r (answer.Refused why) answer.BookFull before may may' e = absurd (let lt = room_left room hand q why may in omega (arith, may', lt))
-same_full room hand place serial q r (answer.Refused why) answer.NoMemory before may may' e = refl
-same_full room hand place serial q r (answer.Refused why) (answer.Refused other) before may may' e = refl
+same_full limits hand place serial q r (answer.Entered l x) (answer.Entered n y) before may may' e = refl
+same_full limits hand place serial q r (answer.Entered l x) answer.BookFull before may may' e = absurd (no_longer hand (line_of place serial q x) e)
+same_full limits hand place serial q r (answer.Entered l x) answer.NoMemory before may may' e = absurd (no_longer hand (line_of place serial q x) e)
+same_full limits hand place serial q r (answer.Entered l x) (answer.Refused why) before may may' e = absurd (no_longer hand (line_of place serial q x) e)
+same_full limits hand place serial q r answer.BookFull (answer.Entered n y) before may may' e = absurd (no_longer hand (line_of place serial r y) (sym e))
+same_full limits hand place serial q r answer.BookFull answer.BookFull before may may' e = refl
+same_full limits hand place serial q r answer.BookFull answer.NoMemory before may may' e = absurd (let lt = may'.0.space in omega (arith, may, lt))
+same_full limits hand place serial q r answer.BookFull (answer.Refused why) before may may' e = absurd (let lt = room_left limits hand r why may' in omega (arith, may, lt))
+same_full limits hand place serial q r answer.NoMemory (answer.Entered n y) before may may' e = absurd (no_longer hand (line_of place serial r y) (sym e))
+same_full limits hand place serial q r answer.NoMemory answer.BookFull before may may' e = absurd (let lt = may.0.space in omega (arith, may', lt))
+same_full limits hand place serial q r answer.NoMemory answer.NoMemory before may may' e = refl
+same_full limits hand place serial q r answer.NoMemory (answer.Refused why) before may may' e = refl
+same_full limits hand place serial q r (answer.Refused why) (answer.Entered n y) before may may' e = absurd (no_longer hand (line_of place serial r y) (sym e))
+same_full limits hand place serial q r (answer.Refused why) answer.BookFull before may may' e = absurd (let lt = room_left limits hand q why may in omega (arith, may', lt))
+same_full limits hand place serial q r (answer.Refused why) answer.NoMemory before may may' e = refl
+same_full limits hand place serial q r (answer.Refused why) (answer.Refused other) before may may' e = refl
 
 abbrev ended : PenState → List Call → Bool → List Line → ℕ → PenState
 ended p calls full journal now =
     record p { posts = p.posts + 1; standing = Idle None; mine = p.mine ++ calls; told_full = full; leading = false; known = journal; begins = p.begins ++ (p.posts + 1, now) ∷ []; ends = p.ends ++ (p.posts + 1, now + 1) ∷ []; steps = p.steps + 1 }
 
 -- and so does what the pen is afterwards
-pub same_ended : (now : ℕ) (p : PenState) (q r : Operation) (a b : Answer) → MayTell p.room p.hand q a → MayTell p.room p.hand r b
+pub same_ended : (now : ℕ) (p : PenState) (q r : Operation) (a b : Answer) → MayDo (limits_in_hand p) p.hand q a → MayDo (limits_in_hand p) p.hand r b
     → journal_by p.hand p.place (p.posts + 1) q a ≡ journal_by p.hand p.place (p.posts + 1) r b → after_release_by p q a now ≡ after_release_by p r b now
 same_ended now p q r a b may may' e =
-    ap (λ c. ended p c (told_full_by p.told_full a) (journal_by p.hand p.place (p.posts + 1) q a) now) (same_gained p.room p.hand p.place (p.posts + 1) q r a b may may' e)
-    ∙ (ap (λ f. ended p (gained_by (p.posts + 1) r b) f (journal_by p.hand p.place (p.posts + 1) q a) now) (same_full p.room p.hand p.place (p.posts + 1) q r a b p.told_full may may' e)
+    ap (λ c. ended p c (told_full_by p.told_full a) (journal_by p.hand p.place (p.posts + 1) q a) now) (same_gained (limits_in_hand p) p.hand p.place (p.posts + 1) q r a b may may' e)
+    ∙ (ap (λ f. ended p (gained_by (p.posts + 1) r b) f (journal_by p.hand p.place (p.posts + 1) q a) now) (same_full (limits_in_hand p) p.hand p.place (p.posts + 1) q r a b p.told_full may may' e)
     ∙ ap (λ j. ended p (gained_by (p.posts + 1) r b) (told_full_by p.told_full b) j now) e)
 
 abbrev applied : PenState → List Call → Bool → List Line → ℕ → PenState
@@ -193,23 +192,21 @@ applied p calls full journal now =
     record p { posts = p.posts + 1; standing = Idle None; mine = p.mine ++ calls; told_full = full; hand = journal; begins = p.begins ++ (p.posts + 1, now) ∷ []; ends = p.ends ++ (p.posts + 1, now + 1) ∷ []; steps = p.steps + 1 }
 
 -- the same of a pen that goes on leading
-pub same_applied : (now : ℕ) (p : PenState) (q r : Request) (a b : Answer) → MayTellOf p.room p.hand q a → MayTellOf p.room p.hand r b
+pub same_applied : (now : ℕ) (p : PenState) (q r : Request) (a b : Answer) → MayAnswer (limits_in_hand p) p.hand q a → MayAnswer (limits_in_hand p) p.hand r b
     → journal_after p.hand p.place (p.posts + 1) q a ≡ journal_after p.hand p.place (p.posts + 1) r b → after_apply p q a now ≡ after_apply p r b now
 same_applied now p q r a b may may' e =
-    ap (λ c. applied p c (told_full_by p.told_full a) (journal_after p.hand p.place (p.posts + 1) q a) now) (same_gained p.room p.hand p.place (p.posts + 1) (Asked q) (Asked r) a b may may' e)
-    ∙ (ap (λ f. applied p (gained (p.posts + 1) r b) f (journal_after p.hand p.place (p.posts + 1) q a) now) (same_full p.room p.hand p.place (p.posts + 1) (Asked q) (Asked r) a b p.told_full may may' e)
+    ap (λ c. applied p c (told_full_by p.told_full a) (journal_after p.hand p.place (p.posts + 1) q a) now) (same_gained (limits_in_hand p) p.hand p.place (p.posts + 1) (Asked q) (Asked r) a b may may' e)
+    ∙ (ap (λ f. applied p (gained (p.posts + 1) r b) f (journal_after p.hand p.place (p.posts + 1) q a) now) (same_full (limits_in_hand p) p.hand p.place (p.posts + 1) (Asked q) (Asked r) a b p.told_full may may' e)
     ∙ ap (λ j. applied p (gained (p.posts + 1) r b) (told_full_by p.told_full b) j now) e)
 
-abbrev journal_in : Slotted → List Line
-journal_in (says terms) = []
-journal_in (with_book b) = b.journal
+abbrev first_book : List (ℕ × Slotted) → Option Volume
+first_book [] = None
+first_book (x ∷ xs) = book_of x.1
 
-abbrev first_journal : List (ℕ × Slotted) → List Line
-first_journal [] = []
-first_journal (x ∷ xs) = journal_in x.1
+-- the one Book in a slot
+pub same_book : (m : Seated) (b c : Volume) (others more : List (ℕ × Slotted)) → HasInSlot m b others → HasInSlot m c more → b ≡ c
+same_book m b c others more held there = let e : Some b ≡ Some c = sym (ap first_book held) ∙ ap first_book there in cc
 
--- the journal of the one Book in a slot
-pub same_book : (m : Seated) (js ks : List Line) (others more : List (ℕ × Slotted)) → HasInSlot m js others → HasInSlot m ks more → js ≡ ks
-same_book m js ks others more (b, b_is, held) (c, c_is, there) =
-    let journal : Home → List Line = λ h. h.journal in
-    sym (ap journal b_is) ∙ (sym (ap first_journal held) ∙ (ap first_journal there ∙ ap journal c_is))
+-- the pen that has heard that lines are archived is known by how many its Book allows then
+pub same_archived : (p : PenState) (lines other : ℕ) → book_in_hand (after_archive p lines) ≡ book_in_hand (after_archive p other) → after_archive p lines ≡ after_archive p other
+same_archived p lines other e = ap (λ (b : Volume). record p { allowed = b.allowed; steps = p.steps + 1 }) e

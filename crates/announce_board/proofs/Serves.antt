@@ -15,11 +15,8 @@ use Rattle.pq_types.specs.Control.{answer_item}
 use Rattle.pq_types.specs.Operation.{Asked}
 use Rattle.pq_types.specs.History.{line, journal_after, last_serial, Limits, MayAnswer}
 use Rattle.pq_book.specs.Book.{Volume, limits_of, KeepsTerms}
-use Rattle.desk_core.specs.Answering.{MayTellOf, BooksDeal}
-use Rattle.desk_core.specs.Home.{Home, home_of}
 use Rattle.atomic_table.specs.Seated.{TableId}
-use Rattle.desk_core.specs.Desk.{volume}
-use Rattle.desk_core.specs.Pen.{after_answer, with_known}
+use Rattle.desk_core.specs.Pen.{after_answer, with_known, book_with, book_in_hand, limits_in_hand}
 use Rattle.announce_board.specs.ItemWords.{laid_by}
 use Rattle.desk_core.specs.declared.model.Due.{Due}
 use Rattle.desk_core.specs.declared.model.Duty.{Duty}
@@ -33,7 +30,7 @@ use Rattle.announce_board.specs.Serving.{IsServing, FindsPosted, FindsNone, Serv
 use Rattle.announce_board.specs.Told.{AboveTheLast}
 use Rattle.desk_core.specs.Knows.{NoneAbove}
 use Rattle.announce_board.proofs.Looks.{pen_is}
-use Rattle.announce_board.proofs.Homes.{in_hand, may_tell, same_limits}
+use Rattle.announce_board.proofs.Homes.{in_hand, same_volume}
 
 -- what a pen has in its hand, and where it is
 abbrev Same : PenState → PenState → Type 0
@@ -53,6 +50,23 @@ answered_same : (words : ℕ) (o : Option Item) (p : PenState) (due : Due) (q : 
 answered_same words None p due q a = ((refl, refl, refl), refl)
 answered_same words (Some x) p due q a = ((refl, refl, refl), refl)
 
+-- the Book in its hand, once it has read a record, and once it has answered there
+found_book : (words : ℕ) (p : PenState) (place serial : ℕ) (q : Request) → book_in_hand (found_posted_by words p place serial q) ≡ book_in_hand p
+found_book words p place serial (Push x) = refl
+found_book words p place serial Pop = refl
+found_book words p place serial Least = refl
+
+answered_book : (words : ℕ) (o : Option Item) (p : PenState) (due : Due) (q : Request) (a : Answer)
+    → book_in_hand (laid_and_answered_by words o p due q a) ≡ book_with p (journal_after p.hand due.place due.serial q a)
+answered_book words None p due q a = refl
+answered_book words (Some x) p due q a = refl
+
+served_book : (words : ℕ) (p : PenState) (place serial : ℕ) (q : Request) (a : Answer)
+    → book_in_hand (served_by words p place serial q a) ≡ book_with p (journal_after p.hand place serial q a)
+served_book words p place serial q a =
+    answered_book words (answer_item a) (found_posted_by words p place serial q) (due_of place serial q) q a
+    ∙ ap (λ (b : Volume). record b { journal = journal_after b.journal place serial q a }) (found_book words p place serial q)
+
 pub due_found : (words place : ℕ) (p p' : PenState) (serial : ℕ) (q : Request) → FindsPosted words place p serial q p' → p'.due ≡ Some (due_of place serial q)
 due_found words place p p' serial q h = ap (λ (r : PenState). r.due) h.next ∙ found_due words p place serial q
 
@@ -61,18 +75,21 @@ hand_found words place p p' serial q h =
     let s = found_same words p place serial q in
     (ap (λ (r : PenState). r.hand) h.next ∙ s.1, ap (λ (r : PenState). r.room) h.next ∙ s.0.2)
 
-pub above_last : AboveTheLast → (words place : ℕ) (p p' : PenState) (serial : ℕ) (q : Request) (book : Volume) → FindsPosted words place p serial q p' → home_of book ≡ volume p.room p.hand → last_serial place book.journal < serial
-above_last law words place p p' serial q book h e = subst (λ (b : Home). last_serial place b.journal < serial) (sym e) (law place serial p.hand h.in_range h.above)
+-- reading a record leaves the Book in hand
+pub book_found : (words place : ℕ) (p p' : PenState) (serial : ℕ) (q : Request) → FindsPosted words place p serial q p' → book_in_hand p' ≡ book_in_hand p
+book_found words place p p' serial q h = ap book_in_hand h.next ∙ found_book words p place serial q
+
+pub above_last : AboveTheLast → (words place : ℕ) (p p' : PenState) (serial : ℕ) (q : Request) (book : Volume) → FindsPosted words place p serial q p' → book ≡ book_in_hand p → last_serial place book.journal < serial
+above_last law words place p p' serial q book h e = subst (λ (b : Volume). last_serial place b.journal < serial) (sym e) (law place serial p.hand h.in_range h.above)
 
 -- the pen still leads after a step that keeps its seat
 pub still_serving : (table : TableId) (places place : ℕ) (before after : Seated) → IsServing table places before place → StaysSeated before after → IsServing table places after place
 still_serving table places place before after h s = record { is = s.is; leads = s.leading ∙ h.leads; within = h.within; inside = h.inside }
 
-pub may_found : BooksDeal → (words place : ℕ) (p p' : PenState) (serial : ℕ) (q : Request) (a : Answer) (book : Volume) → FindsPosted words place p serial q p' → home_of book ≡ volume p.room p.hand
-    → MayAnswer (limits_of book) book.journal q a → MayTellOf p'.room p'.hand q a
-may_found deals words place p p' serial q a book h e may =
-    let s = hand_found words place p p' serial q h in
-    subst (λ r. MayTellOf r p'.hand q a) (sym s.1) (subst (λ j. MayTellOf p.room j q a) (sym s.0) (may_tell deals p.room p.hand book (Asked q) a e may))
+pub may_found : (words place : ℕ) (p p' : PenState) (serial : ℕ) (q : Request) (a : Answer) (book : Volume) → FindsPosted words place p serial q p' → book ≡ book_in_hand p
+    → MayAnswer (limits_of book) book.journal q a → MayAnswer (limits_in_hand p') p'.hand q a
+may_found words place p p' serial q a book h e may =
+    subst (λ (b : Volume). MayAnswer (limits_of b) b.journal q a) (e ∙ sym (book_found words place p p' serial q h)) may
 
 -- what a rule refuses, memory does not
 ruled : (limits : Limits) (hand : List Line) (q r : Request) (why : Refusal) → MayAnswer limits hand q (answer.Refused why) → MayAnswer limits hand r answer.NoMemory → ⊥
@@ -96,8 +113,8 @@ other_answered limits hand place s t q r (answer.Refused why) answer.NoMemory ma
 
 serves_other : (words place : ℕ) (p p' : PenState) (book : Volume) (h : ServesBy words place p p' book) → h.answer ≢ answer.NoMemory → ServesOtherThanBy words answer.NoMemory place p p' book
 serves_other words place p p' book h other k =
-    other_answered (limits_of book) p.hand place h.serial k.serial h.request k.request h.answer k.answer h.may k.may
-    (ap (λ (b : Home). b.journal) (sym h.book_is ∙ k.book_is)) other
+    other_answered (limits_in_hand p) p.hand place h.serial k.serial h.request k.request h.answer k.answer h.may k.may
+    (ap (λ (b : Volume). b.journal) (sym h.book_is ∙ k.book_is)) other
 
 -- a leader that answers acts
 still_active : (words : ℕ) (o : Option Item) (p : PenState) (due : Due) (q : Request) (a : Answer) → p.duty ≡ Active
@@ -135,11 +152,16 @@ module _ (words place : ℕ) (before between after : Seated) (serial : ℕ) (q :
     leading = ap (λ (r : PenState). r.leading) pen_next ∙ served_same.0.1;
   }
 
-  book_now : (old new : Volume) → home_of old ≡ volume p.room p.hand → KeepsTerms old new → new.journal ≡ journal_after old.journal place serial q a → home_of new ≡ volume p.room (journal_after p.hand place serial q a)
-  book_now old new e terms journal =
-      ap (λ r. volume r new.journal) (terms.0 ∙ ap (λ (b : Home). b.room) e) ∙ ap (volume p.room) (journal ∙ ap (λ (b : Home). journal_after b.journal place serial q a) e)
+  book_now : (old new : Volume) → old ≡ book_in_hand p → KeepsTerms old new → new.allowed ≡ old.allowed → new.journal ≡ journal_after old.journal place serial q a
+      → new ≡ book_with p (journal_after p.hand place serial q a)
+  book_now old new e terms allowed journal =
+      same_volume new (book_with p (journal_after p.hand place serial q a))
+      (terms.0 ∙ ap (λ (b : Volume). b.room) e)
+      (terms.1 ∙ ap (λ (b : Volume). b.bound) e)
+      (allowed ∙ ap (λ (b : Volume). b.allowed) e)
+      (journal ∙ ap (λ (b : Volume). journal_after b.journal place serial q a) e)
 
-  pub serves : (old new : Volume) → home_of old ≡ volume p.room p.hand → KeepsTerms old new → new.allowed ≡ old.allowed → new.journal ≡ journal_after old.journal place serial q a
+  pub serves : (old new : Volume) → old ≡ book_in_hand p → KeepsTerms old new → new.allowed ≡ old.allowed → new.journal ≡ journal_after old.journal place serial q a
       → MayAnswer (limits_of old) old.journal q a → ServesBy words place p (pen_at after) new
   serves old new e terms allowed journal may = record {
     serial = serial;
@@ -147,22 +169,22 @@ module _ (words place : ℕ) (before between after : Seated) (serial : ℕ) (q :
     answer = a;
     in_range = h.in_range;
     above = h.above;
-    may = subst (λ l. MayAnswer l p.hand q a) (sym (same_limits old new terms allowed)) (in_hand p.room p.hand old (Asked q) a e may);
+    may = in_hand p old (Asked q) a e may;
     next = pen_next;
-    book_is = book_now old new e terms journal;
+    book_is = book_now old new e terms allowed journal;
     last = h.last;
     own = h.own;
   }
 
-  pub serves_another : (old new : Volume) → home_of old ≡ volume p.room p.hand → KeepsTerms old new → new.allowed ≡ old.allowed → new.journal ≡ journal_after old.journal place serial q a
+  pub serves_another : (old new : Volume) → old ≡ book_in_hand p → KeepsTerms old new → new.allowed ≡ old.allowed → new.journal ≡ journal_after old.journal place serial q a
       → MayAnswer (limits_of old) old.journal q a → a ≢ answer.NoMemory → ServesOtherThanBy words answer.NoMemory place p (pen_at after) new
   unfolding serves
   serves_another old new e terms allowed journal may other = serves_other words place p (pen_at after) new (serves old new e terms allowed journal may) other
 
-  pub serves_hand : (old new : Volume) → home_of old ≡ volume p.room p.hand → KeepsTerms old new → new.journal ≡ journal_after old.journal place serial q a → home_of new ≡ volume (pen_at after).room (pen_at after).hand
-  serves_hand old new e terms journal =
-      book_now old new e terms journal ∙ (ap (λ r. volume r (journal_after p.hand place serial q a)) (sym (ap (λ (r : PenState). r.room) pen_next ∙ served_same.0.2))
-      ∙ ap (volume (pen_at after).room) (sym (ap (λ (r : PenState). r.hand) pen_next ∙ served_same.1)))
+  pub serves_hand : (old new : Volume) → old ≡ book_in_hand p → KeepsTerms old new → new.allowed ≡ old.allowed → new.journal ≡ journal_after old.journal place serial q a
+      → new ≡ book_in_hand (pen_at after)
+  serves_hand old new e terms allowed journal =
+      book_now old new e terms allowed journal ∙ sym (ap book_in_hand pen_next ∙ served_book words p place serial q a)
 
 -- serving takes two steps or more
 found_steps : (words : ℕ) (p : PenState) (place serial : ℕ) (q : Request) → p.steps < (found_posted_by words p place serial q).steps
@@ -184,11 +206,11 @@ passes_other words place p p' book a h k e =
     omega (arith, once, twice, served_steps words p place k.serial k.request k.answer)
 
 -- where nothing stood posted
-pub passes : (place : ℕ) (p p' : PenState) (book : Volume) → FindsNone place p p' → home_of book ≡ volume p.room p.hand → Passes place p p' book
+pub passes : (place : ℕ) (p p' : PenState) (book : Volume) → FindsNone place p p' → book ≡ book_in_hand p → Passes place p p' book
 passes place p p' book h e = record { control = h.control; not_posted = h.not_posted; next = h.next; book_is = e; own = h.own }
 
-pub passes_hand : (place : ℕ) (p p' : PenState) (book : Volume) → FindsNone place p p' → home_of book ≡ volume p.room p.hand → home_of book ≡ volume p'.room p'.hand
-passes_hand place p p' book h e = e ∙ ap (λ (r : PenState). volume r.room r.hand) (sym h.next)
+pub passes_hand : (place : ℕ) (p p' : PenState) (book : Volume) → FindsNone place p p' → book ≡ book_in_hand p → book ≡ book_in_hand p'
+passes_hand place p p' book h e = e ∙ ap book_in_hand (sym h.next)
 
 found_posts : (words : ℕ) (p : PenState) (place serial : ℕ) (q : Request) → (found_posted_by words p place serial q).posts ≡ p.posts
 found_posts words p place serial (Push x) = refl

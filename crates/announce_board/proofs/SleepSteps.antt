@@ -9,6 +9,7 @@ use Rattle.desk_core.specs.Testimonies.{after_sleeping, after_waking}
 use Rattle.desk_core.specs.declared.model.PenState.{PenState}
 use Rattle.desk_core.specs.declared.model.View.{View}
 use Rattle.desk_core.specs.declared.model.View.TheVariants.{Holder, Testimony}
+use Rattle.announce_board.specs.Slots.{first_limits}
 use Rattle.announce_board.specs.Rule.{desk_of, pen_of}
 use Rattle.announce_board.specs.Sleeping.{SleepAllowed, WakeAllowed}
 use Rattle.announce_board.specs.Steps.{pen_at}
@@ -32,7 +33,7 @@ sleep_allowed wide roomy meet goes room terms places slots id m is new s k at =
     let same = weighs_asleep places s.views id p has refl in
     let within = k.weight in
     viewed wide roomy meet room terms places s k views
-    (goes places room now (record now { views = views }) (Sleeps id) k.reached (p, has, ap (λ (x : PenState). x.leading) new, refl))
+    (goes places (first_limits room terms) now (record now { views = views }) (Sleeps id) k.reached (p, has, ap (λ (x : PenState). x.leading) new, refl))
     (quiet_more (set s.views id (Holder w)) (Testimony [] 1)
     (quiet_set s.views id (Holder p) (Holder w) k.duties has (pen_quiet p refl) (sleeper_quiet p new))
     (licence_quiet 1))
@@ -51,7 +52,7 @@ wake_allowed wide roomy meet goes room terms places id v other w n is it some_le
     let within = k.weight in
     let as_new : sleeper ≡ after_sleeping (new_pen p.room p.place) = k.duties.new id sleeper has refl in
     viewed wide roomy meet room terms places s k views
-    (goes places room now (record now { views = views }) (Wakes id other) k.reached (sleeper, n, has, licence, ne, refl))
+    (goes places (first_limits room terms) now (record now { views = views }) (Wakes id other) k.reached (sleeper, n, has, licence, ne, refl))
     (quiet_set (set s.views id (Holder awake)) other (Testimony [] n) (Testimony [] 0)
     (quiet_set s.views id (Holder sleeper) (Holder awake) k.duties has
     (sleeper_quiet p (ap after_waking as_new))

@@ -5,7 +5,7 @@ use lib.ListN.{get_elem?}
 use Rattle.atomic_table.specs.Table.{State, keeps}
 use Rattle.atomic_table.proofs.Lists.{set_else, set_again}
 use Rattle.announce_board.specs.declared.terms.Terms.{Terms}
-use Rattle.announce_board.specs.Slots.{Slotted}
+use Rattle.announce_board.specs.Slots.{Slotted, first_limits}
 use Rattle.desk_core.specs.Dealing.{IsReached, Testifies, Retires, Gathers, ReachedMeetRule, MovesReach}
 use Rattle.desk_core.specs.Desk.{Desk}
 use Rattle.desk_core.specs.Layout.{lock_at, Loaded}
@@ -26,7 +26,7 @@ use Rattle.announce_board.proofs.Weights.{weighs_more, weighs_all_active, weighs
 
 -- the views alone have changed
 pub viewed : (wide : Bool) (roomy : ℕ → Type 0) → ReachedMeetRule → (room : ℕ) (terms : Terms) (places : ℕ) (s : State Slotted View) (k : Keeps wide roomy room terms places s) (views : List View)
-    → IsReached places room (record (desk_of room places k.held k.control k.cells s.homes s.views) { views = views }) → DutiesAreKept views → weight_of places views ≤ places
+    → IsReached places (first_limits room terms) (record (desk_of room places k.held k.control k.cells s.homes s.views) { views = views }) → DutiesAreKept views → weight_of places views ≤ places
     → Keeps wide roomy room terms places record { words = s.words; homes = s.homes; views = views }
 viewed wide roomy meet room terms places s k views reached duties weight =
     record {
@@ -36,11 +36,10 @@ viewed wide roomy meet room terms places s k views reached duties weight =
       words = k.words;
       slots = k.slots;
       reached = reached;
-      meets = meet places room (record (desk_of room places k.held k.control k.cells s.homes s.views) { views = views }) k.meets.2.room_in_range reached;
+      meets = meet places (first_limits room terms) (record (desk_of room places k.held k.control k.cells s.homes s.views) { views = views }) k.meets.2.room_in_range reached;
       duties = duties;
       weight = weight;
       memory = k.memory;
-      bounded = k.bounded;
     }
 
 -- a testimony of a pen that acts
@@ -65,8 +64,8 @@ testify_allowed wide roomy meet goes room terms places slots id m is s k at =
     let same : set s.views id m.0 ≡ s.views = set_again s.views id m.0 at in
     let as_before : weight_of places (set s.views id m.0) ≡ weight_of places s.views = ap (weight_of places) same in
     viewed wide roomy meet room terms places s k (set s.views id m.0 ++ last ∷ [])
-    (subst (λ (v : View). IsReached places room (record now { views = set s.views id v ++ last ∷ [] })) (sym is)
-    (goes places room now given (Testifies id) k.reached (p, has, refl)))
+    (subst (λ (v : View). IsReached places (first_limits room terms) (record now { views = set s.views id v ++ last ∷ [] })) (sym is)
+    (goes places (first_limits room terms) now given (Testifies id) k.reached (p, has, refl)))
     (quiet_more (set s.views id m.0) last (subst DutiesAreKept (sym same) k.duties) (active_testimony p refl))
     (omega (arith, more, none, within, as_before))
 
@@ -81,7 +80,7 @@ retire_allowed wide roomy meet goes room terms places slots id m is idle s k at 
     let same = weighs_retired places s.views id p has refl in
     let within = k.weight in
     viewed wide roomy meet room terms places s k views
-    (goes places room now (record now { views = views }) (Retires id) k.reached (p, has, idle, refl))
+    (goes places (first_limits room terms) now (record now { views = views }) (Retires id) k.reached (p, has, idle, refl))
     (retires s.views id p k.duties has refl idle (λ seat q there here. k.meets.2.seated.apart seat id q p there has here))
     (omega (arith, same, within))
 
@@ -95,7 +94,7 @@ gather_allowed wide roomy meet goes room terms places id v other w is it s k at 
     let same = weighs_gathered places s.views id other (pens_of v) (pens_of w) (licences_of v) (licences_of w) here second ne in
     let within = k.weight in
     viewed wide roomy meet room terms places s k views
-    (goes places room now (record now { views = views }) (Gathers id other) k.reached
+    (goes places (first_limits room terms) now (record now { views = views }) (Gathers id other) k.reached
     (pens_of v, pens_of w, licences_of v, licences_of w, here, second, ne, refl))
     (gathers s.views id other (pens_of v) (pens_of w) (licences_of v) (licences_of w) k.duties here second ne)
     (omega (arith, same, within))
@@ -112,18 +111,17 @@ compare_allowed wide roomy truth loaded room terms places slots id m is s k long
         cells = k.cells;
         words = loaded wide places s.words k.held k.control k.cells lock_at k.words;
         slots = k.slots;
-        reached = subst (λ v. IsReached places room (desk_of room places k.held k.control k.cells s.homes v)) (sym same) k.reached;
+        reached = subst (λ v. IsReached places (first_limits room terms) (desk_of room places k.held k.control k.cells s.homes v)) (sym same) k.reached;
         meets = subst (λ v. MeetsRule (desk_of room places k.held k.control k.cells s.homes v)) (sym same) k.meets;
         duties = subst DutiesAreKept (sym same) k.duties;
         weight = subst (λ v. weight_of places v ≤ places) (sym same) k.weight;
         memory = k.memory;
-        bounded = k.bounded;
       },
       (
         refl,
         (
           room,
-          truth places room k.reached.0 (desk_of room places k.held k.control k.cells s.homes s.views) k.meets.2.room_in_range k.reached.1 id (pens_of m.0) (licences_of m.0) (at ∙ ap some is),
+          truth places (first_limits room terms) k.reached.0 (desk_of room places k.held k.control k.cells s.homes s.views) k.meets.2.room_in_range k.reached.1 id (pens_of m.0) (licences_of m.0) (at ∙ ap some is),
         ),
       ),
     )

@@ -21,8 +21,7 @@ use Rattle.pq_types.specs.Operation.{Asked, ByTicket, Shuts, ticket_of, request_
 use Rattle.pq_types.specs.Queue.{reply_to}
 use Rattle.pq_types.specs.Entry.{Entry, item_of, item_at, taken, entries_after, reply_by}
 use Rattle.pq_types.specs.Control.{answer_item, posted, answered, is_posted, Carries}
-use Rattle.pq_types.specs.History.{IsLegalFrom, entries_of, last_serial}
-use Rattle.desk_core.specs.Answering.{MayTell}
+use Rattle.pq_types.specs.History.{IsLegalFrom, entries_of, last_serial, Limits, MayDo}
 use Rattle.pq_types.specs.Mail.{IsProperAnswerOf}
 use Rattle.desk_core.specs.Beyond.{AnswersAreBeyond}
 use Rattle.desk_core.specs.Calls.{call, calls_of}
@@ -30,7 +29,7 @@ use Rattle.desk_core.specs.CallLines.{CallsAreLines, NumbersRise}
 use Rattle.desk_core.specs.Desk.{Desk, Has, with_pen}
 use Rattle.desk_core.specs.Clauses.{RuleGivesClauses, AnswerClause, ItemsClause, JournalClause}
 use Rattle.desk_core.specs.Keeping.{ReadKeeps, DueIsNew}
-use Rattle.desk_core.specs.Pen.{IsIdle, due_to, due_at, after_read, told_full_by, after_apply, after_release_by}
+use Rattle.desk_core.specs.Pen.{IsIdle, due_to, due_at, after_read, told_full_by, after_apply, after_release_by, limits_in_hand}
 use Rattle.desk_core.specs.Rule.{MeetsRule, Stands, fresh, idle, unanswered, entered, full, barred, refused}
 use Rattle.desk_core.specs.declared.model.Call.{Call}
 use Rattle.desk_core.specs.declared.model.Standing.{Standing}
@@ -78,15 +77,15 @@ answer_fits room journal p request (Refused Unarchived) lawful told h = tt
 answer_fits room journal p request (Refused Full) lawful told h = h.0
 
 -- what an operation of the pen's own may be answered is an answer to it
-pub own_answer_fits : (wide : Bool) (room : ℕ) (hand : List Line) (operation : Operation) (a : Answer) → MayTell room hand operation a → IsProperAnswerOf wide a
-    → IsAnswerBy room operation a
-own_answer_fits wide room hand operation (Entered number reply) may proper =
-    (proper.0, omega (arith, may.0, may.1), subst (IsReplyTo (request_of operation)) (sym may.2) (line_fits (entries_of hand) operation))
-own_answer_fits wide room hand operation BookFull may proper = tt
-own_answer_fits wide room hand operation NoMemory may proper = may.1
-own_answer_fits wide room hand operation (Refused Shut) may proper = may.1
-own_answer_fits wide room hand operation (Refused Unarchived) may proper = tt
-own_answer_fits wide room hand operation (Refused Full) may proper = may.1
+pub own_answer_fits : (wide : Bool) (limits : Limits) (hand : List Line) (operation : Operation) (a : Answer) → MayDo limits hand operation a → IsProperAnswerOf wide a
+    → IsAnswerBy limits.room operation a
+own_answer_fits wide limits hand operation (Entered number reply) may proper =
+    (proper.0, (let lt = may.0.space in omega (arith, lt, may.1)), subst (IsReplyTo (request_of operation)) (sym may.2) (line_fits (entries_of hand) operation))
+own_answer_fits wide limits hand operation BookFull may proper = tt
+own_answer_fits wide limits hand operation NoMemory may proper = may.1
+own_answer_fits wide limits hand operation (Refused Shut) may proper = may.1
+own_answer_fits wide limits hand operation (Refused Unarchived) may proper = tt
+own_answer_fits wide limits hand operation (Refused Full) may proper = may.2
 
 -- the item of an answer that stands in a waiting pen's record
 carries : (d : Desk) (journal : List Line) (p : PenState) (request : Request) (a : Answer) → ItemsClause d journal p
@@ -148,17 +147,17 @@ pub applied_full : (p : PenState) (request : Request) (a : Answer) (now : ℕ) �
 applied_full p request a now e = ap (told_full_by p.told_full) e
 
 -- who was told so before is not entered
-pub own_barred : (p : PenState) (operation : Operation) (a : Answer) → Knows p.room p p.hand → MayTell p.room p.hand operation a → IsFullFor p
+pub own_barred : (p : PenState) (operation : Operation) (a : Answer) → Knows p.room p p.hand → MayDo (limits_in_hand p) p.hand operation a → IsFullFor p
     → (number : ℕ) (reply : Reply) → a ≢ Entered number reply
 own_barred p operation a knows may f number reply e =
-    let m : MayTell p.room p.hand operation (Entered number reply) = subst (MayTell p.room p.hand operation) e may in
-    let lt = m.0 in
+    let m : MayDo (limits_in_hand p) p.hand operation (Entered number reply) = subst (MayDo (limits_in_hand p) p.hand operation) e may in
+    let lt = m.0.space in
     omega (arith, lt, knows.filled f)
 
-pub own_behind : CallsAreLines → (p : PenState) (operation : Operation) (a : Answer) → Knows p.room p p.hand → IsIdle p.standing → MayTell p.room p.hand operation a
+pub own_behind : CallsAreLines → (p : PenState) (operation : Operation) (a : Answer) → Knows p.room p p.hand → IsIdle p.standing → MayDo (limits_in_hand p) p.hand operation a
     → (number : ℕ) (reply : Reply) → a ≡ Entered number reply → IsAboveAll number p.mine
 own_behind lines p operation a knows free may number reply e =
-    let m : MayTell p.room p.hand operation (Entered number reply) = subst (MayTell p.room p.hand operation) e may in
+    let m : MayDo (limits_in_hand p) p.hand operation (Entered number reply) = subst (MayDo (limits_in_hand p) p.hand operation) e may in
     all_by_get (λ (c : Call). c.number < number) p.mine
     (λ i c at. let h = (lines p.place p.hand p.mine (knows.idle free) i c at).within in omega (arith, h, m.1))
 

@@ -17,7 +17,7 @@ use Rattle.pq_types.specs.declared.control.Control.TheVariants.{Answered}
 use Rattle.pq_types.specs.declared.journal.TheConstants.{GREATEST_NUMBER}
 use Rattle.pq_types.specs.Queue.{IsProperRequestOf}
 use Rattle.pq_types.specs.Control.{kind_of, request_item, answer_item, notice_has_item, posted, answered}
-use Rattle.desk_core.specs.Answering.{MayTellOf, MayTell}
+use Rattle.pq_types.specs.History.{MayDo, MayAnswer}
 use Rattle.pq_types.specs.Mail.{control_word}
 use Rattle.desk_core.specs.Desk.{Desk}
 use Rattle.desk_core.specs.Looking.{Looked, sights_of}
@@ -25,16 +25,16 @@ use Rattle.desk_core.specs.Steps.{Event, Releases, actor, Step}
 use Rattle.desk_core.specs.declared.model.View.{View}
 use Rattle.desk_core.specs.Words.{word_number, word_of}
 use Rattle.desk_core.specs.Layout.{lock_at, control_at, item_at}
-use Rattle.desk_core.specs.Pen.{IsIdle, IsKept}
+use Rattle.desk_core.specs.Pen.{IsIdle, IsKept, after_archive, book_in_hand, limits_in_hand}
 use Rattle.desk_core.specs.declared.model.Standing.TheVariants.{Idle, Waiting}
 use Rattle.desk_core.specs.declared.model.Due.{Due}
 use Rattle.desk_core.specs.declared.model.View.TheVariants.{Holder}
 use Rattle.announce_board.specs.Rule.{Keeps, Seated, desk_of}
 use Rattle.announce_board.specs.declared.terms.Terms.{Terms}
-use Rattle.announce_board.specs.Slots.{MeetsTerms, Slotted, says}
+use Rattle.announce_board.specs.Slots.{Slotted, says}
 use Rattle.announce_board.specs.Steps.{pen_at, Drafted, PostStored, LockRead, LockTried}
 use Rattle.announce_board.specs.Steps.{MailRead, ItemRead, ItemLaid, AnswerStored, Released}
-use Rattle.announce_board.specs.Steps.{HasInSlot, BringsHome, BringsHomeBy, Applied, ReleasedWith, AnswerLooked, ItemSeen, ItemTaken}
+use Rattle.announce_board.specs.Steps.{HasInSlot, BringsHome, BringsHomeBy, Applied, Archived, ReleasedWith, AnswerLooked, ItemSeen, ItemTaken}
 
 -- how it is said that a step of the seat m is allowed, and tells this: a step on the word at an index, of which it makes f
 -- of what the word was
@@ -124,7 +124,7 @@ AnswerAllowedBy A wide roomy = AtEachPen (λ room terms places slots id m.
     (index word : ℕ) (due : Due) (request : Request) (answer : Answer)
     → index ≡ control_at due.place → word ≡ control_word (answered answer) → due.place < places → (pen_at m).due ≡ Some due
     → kind_of request ≡ due.kind → IsKept (request_item request) due.item → IsKept (answer_item answer) due.item
-    → MayTellOf (pen_at m).room (pen_at m).hand request answer → (roomy (pen_at m).room → answer ≢ NoMemory)
+    → MayAnswer (limits_in_hand (pen_at m)) (pen_at m).hand request answer → (roomy (pen_at m).room → answer ≢ NoMemory)
     → A wide roomy room terms places slots id m index (λ _. word)
     (λ _. AnswerStored (step slots index word 0 none) m word))
 
@@ -134,22 +134,28 @@ ApplyAllowedBy A wide roomy = AtEachPen (λ room terms places slots id m.
     (others : List (ℕ × Slotted)) (request : Request) (answer : Answer)
     → BringsHome m request answer others → (pen_at m).leading ≡ true → IsIdle (pen_at m).standing
     → (pen_at m).posts < GREATEST_NUMBER
-    → IsProperRequestOf true request → MayTellOf (pen_at m).room (pen_at m).hand request answer
+    → IsProperRequestOf true request → MayAnswer (limits_in_hand (pen_at m)) (pen_at m).hand request answer
     → A wide roomy room terms places slots id m lock_at (λ n. n) (Applied (step slots lock_at 0 0 none) m))
 
--- the slot that is given back has the Book with the journal in the pen's hand, and meets the desk's terms
+-- the slot that is held has the Book in the pen's hand, which allows as many lines as it may once so many are archived
+abbrev pub ArchiveAllowedBy : Form → Bool → (ℕ → Type 0) → Type 0
+ArchiveAllowedBy A wide roomy = AtEachPen (λ room terms places slots id m. (others : List (ℕ × Slotted)) (lines : ℕ)
+    → HasInSlot m (book_in_hand (after_archive (pen_at m) lines)) others → (pen_at m).leading ≡ true
+    → A wide roomy room terms places slots id m lock_at (λ n. n) (Archived (step slots lock_at 0 0 none) m))
+
+-- the slot that is given back has the Book in the pen's hand
 abbrev pub ReleaseAllowedBy : Form → Bool → (ℕ → Type 0) → Type 0
 ReleaseAllowedBy A wide roomy = AtEachPen (λ room terms places slots id m. (others : List (ℕ × Slotted))
-    (home : HasInSlot m (pen_at m).hand others) → MeetsTerms terms home.0 → (pen_at m).leading ≡ true
+    → HasInSlot m (book_in_hand (pen_at m)) others → (pen_at m).leading ≡ true
     → A wide roomy room terms places slots id m lock_at (λ _. 0) (λ _. Released (step slots lock_at 0 0 none) m 0))
 
--- the slot that is given back has the Book, of the desk's terms, with the line of the operation of its own, if it is entered
+-- the slot that is given back has the Book with the line of the operation of its own, if it is entered
 abbrev pub ReleaseWithAllowedBy : Form → Bool → (ℕ → Type 0) → Type 0
 ReleaseWithAllowedBy A wide roomy = AtEachPen (λ room terms places slots id m.
-    (others : List (ℕ × Slotted)) (operation : Operation) (answer : Answer) (home : BringsHomeBy m operation answer others)
-    → MeetsTerms terms home.0 → (pen_at m).leading ≡ true → (pen_at m).due ≡ None → IsIdle (pen_at m).standing
+    (others : List (ℕ × Slotted)) (operation : Operation) (answer : Answer) → BringsHomeBy m operation answer others
+    → (pen_at m).leading ≡ true → (pen_at m).due ≡ None → IsIdle (pen_at m).standing
     → (pen_at m).posts < GREATEST_NUMBER
-    → IsProperOperationOf true operation → MayTell (pen_at m).room (pen_at m).hand operation answer
+    → IsProperOperationOf true operation → MayDo (limits_in_hand (pen_at m)) (pen_at m).hand operation answer
     → A wide roomy room terms places slots id m lock_at (λ _. 0) (λ _. ReleasedWith (step slots lock_at 0 0 none) m 0))
 
 abbrev pub LookAllowedBy : Form → Bool → (ℕ → Type 0) → Type 0
@@ -197,6 +203,9 @@ AnswerAllowed = AnswerAllowedBy Plainly
 
 abbrev pub ApplyAllowed : Bool → (ℕ → Type 0) → Type 0
 ApplyAllowed = ApplyAllowedBy Plainly
+
+abbrev pub ArchiveAllowed : Bool → (ℕ → Type 0) → Type 0
+ArchiveAllowed = ArchiveAllowedBy Plainly
 
 abbrev pub ReleaseAllowed : Bool → (ℕ → Type 0) → Type 0
 ReleaseAllowed = ReleaseAllowedBy Plainly

@@ -1,16 +1,13 @@
 -- What a pen that leads may do by itself, while its lead stays its own: it drafts, posts and looks, however
--- many words an item has; and its Book may come to allow more lines.
+-- many words an item has.
 use Rattle.pq_types.specs.Item.{Item}
 use Rattle.pq_types.specs.Asked.{Request}
 use Rattle.pq_types.specs.Asked.{Answer}
-use Rattle.std.specs.Prelude.{◌≡◌, ◌≤◌, ℕ, Option}
-use Rattle.pq_book.specs.Book.{Volume, limits_of}
-use Rattle.announce_board.specs.declared.terms.Terms.{Terms}
+use Rattle.std.specs.Prelude.{ℕ, Option}
 use Rattle.desk_core.specs.declared.model.PenState.{PenState}
 use Rattle.announce_board.specs.ItemWords.{drafted_by}
 use Rattle.announce_board.specs.Asking.{asked_by, LooksBy}
-use Rattle.announce_board.specs.Slots.{MeetsTerms}
-use Rattle.announce_board.specs.Tokens.{AtDesk, Leading, IsLeadOf, allowing}
+use Rattle.announce_board.specs.Tokens.{AtDesk, Leading, IsLeadOf}
 
 abbrev pub DraftKeepsLead : Type 0
 DraftKeepsLead = (words : ℕ) (pen : AtDesk) (lead : Leading) (x : Item) → IsLeadOf pen lead
@@ -26,15 +23,3 @@ LookKeepsLead =
     (words : ℕ) (pen : AtDesk) (lead : Leading) (found : Option Answer) (after : PenState) → IsLeadOf pen lead
     → LooksBy words pen.state found after
     → IsLeadOf (record pen { state = after }) lead
-
-abbrev pub ArchiveKeepsLead : Type 0
-ArchiveKeepsLead = (pen : AtDesk) (lead : Leading) (lines : ℕ) → IsLeadOf pen lead → IsLeadOf pen (allowing lead lines)
-
--- a Book that meets the terms still does where its limits stay, and where it allows more lines
-abbrev pub TermsStay : Type 0
-TermsStay = (terms : Terms) (old new : Volume) → limits_of new ≡ limits_of old → MeetsTerms terms old → MeetsTerms terms new
-
-abbrev pub ArchiveKeepsTerms : Type 0
-ArchiveKeepsTerms =
-    (terms : Terms) (lead : Leading) (lines : ℕ) → lead.book.allowed ≤ lines → MeetsTerms terms lead.book
-    → MeetsTerms terms (allowing lead lines).book

@@ -48,7 +48,7 @@ pub record WinsBook (terms : Terms) (before : Seated) (book : Volume) (after : S
   pub room : book.room ≡ (pen_at before).room
   pub led_not : (pen_at before).leading ≡ false
   pub knows : Knows (pen_at before).room (pen_at before) book.journal
-  pub next : ◌≡◌ {A = Seated} after (Holder (after_lead (pen_at before) book.journal), (0, out) ∷ before.1)
+  pub next : ◌≡◌ {A = Seated} after (Holder (after_lead (pen_at before) book), (0, out) ∷ before.1)
 
 -- the leader read the control of this place, and this is the post that stood there
 pub record LoadsMail (place : ℕ) (before : Seated) (result : Option (ℕ × Kind)) (after : Seated) : Type 0 where

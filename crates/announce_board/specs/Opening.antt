@@ -9,10 +9,9 @@ use Rattle.atomic_table.specs.Seated.{TableId}
 use Rattle.pq_types.specs.declared.journal.TheConstants.{GREATEST_NUMBER}
 use Rattle.pq_types.specs.Asked.{Line}
 use Rattle.pq_book.specs.Book.{Volume}
-use Rattle.desk_core.specs.Home.{home_of}
 use Rattle.desk_core.specs.Pen.{new_pen}
 use Rattle.desk_core.specs.Dealing.{IsReached}
-use Rattle.desk_core.specs.Desk.{Desk, Has, volume}
+use Rattle.desk_core.specs.Desk.{Desk, Has}
 use Rattle.desk_core.specs.Knows.{Knows}
 use Rattle.desk_core.specs.Layout.{lock_at, word_count}
 use Rattle.desk_core.specs.Rule.{MeetsRule}
@@ -24,7 +23,7 @@ use Rattle.announce_board.specs.declared.error.DeskError.{DeskError}
 use Rattle.announce_board.specs.declared.error.DeskError.TheVariants.{LinesOutOfRange, NoMemory}
 use Rattle.announce_board.specs.Rule.{Keeps, Seated, dealt_one, pen_dealt}
 use Rattle.announce_board.specs.declared.terms.Terms.{Terms}
-use Rattle.announce_board.specs.Slots.{MeetsTerms, Slotted, with_book}
+use Rattle.announce_board.specs.Slots.{MeetsTerms, Slotted, with_book, terms_of, first_limits}
 use Rattle.announce_board.specs.Steps.{pen_at}
 use Rattle.announce_board.specs.Tokens.{Running, AtDesk}
 
@@ -50,37 +49,38 @@ abbrev pub desk_code : DeskError → ℕ
 desk_code LinesOutOfRange = 5
 desk_code NoMemory = 6
 
--- the Book is the one at home at some desk with this room that is at the end of a run of the machine, and meets the rule
-pub record IsHomeBook (room : ℕ) (book : Volume) : Type 0 where
+-- the Book is the one at home at some desk that is at the end of a run of the machine from a Book with this room and these
+-- terms, and meets the rule
+pub record IsHomeBook (room : ℕ) (terms : Terms) (book : Volume) : Type 0 where
   pub desk : Desk
-  pub reached : IsReached desk.places room desk
+  pub reached : IsReached desk.places (first_limits room terms) desk
   pub meets : MeetsRule desk
-  pub at_home : desk.home ≡ Some (home_of book)
+  pub at_home : desk.home ≡ Some book
   pub room_is : book.room ≡ room
 
--- the lock is held at some such desk with this room
-pub record IsHeld (room : ℕ) : Type 0 where
+-- the lock is held at some such desk
+pub record IsHeld (room : ℕ) (terms : Terms) : Type 0 where
   pub desk : Desk
-  pub reached : IsReached desk.places room desk
+  pub reached : IsReached desk.places (first_limits room terms) desk
   pub meets : MeetsRule desk
   pub held : desk.held ≡ true
   pub room_is : desk.room ≡ room
 
 -- The same of a desk at which this pen has its seat: so what the pen last saw or stored in its own
 -- record still stands there.
-pub record IsHomeWith (room : ℕ) (pen : PenState) (book : Volume) : Type 0 where
+pub record IsHomeWith (room : ℕ) (terms : Terms) (pen : PenState) (book : Volume) : Type 0 where
   pub desk : Desk
-  pub reached : IsReached desk.places room desk
+  pub reached : IsReached desk.places (first_limits room terms) desk
   pub meets : MeetsRule desk
-  pub at_home : desk.home ≡ Some (home_of book)
+  pub at_home : desk.home ≡ Some book
   pub room_is : book.room ≡ room
   pub seat : ℕ
   pub has : Has desk.views seat pen
 
--- the lock is held at such a desk with this room, at which this pen has its seat
-pub record IsHeldWith (room : ℕ) (pen : PenState) : Type 0 where
+-- the lock is held at such a desk, at which this pen has its seat
+pub record IsHeldWith (room : ℕ) (terms : Terms) (pen : PenState) : Type 0 where
   pub desk : Desk
-  pub reached : IsReached desk.places room desk
+  pub reached : IsReached desk.places (first_limits room terms) desk
   pub meets : MeetsRule desk
   pub held : desk.held ≡ true
   pub room_is : desk.room ≡ room
@@ -97,12 +97,12 @@ pub record HasAll (places : ℕ) (pens : List PenState) (licences : ℕ) : Type 
   pub retired : OfEachOf pens (λ p. p.duty ≡ Retired)
   pub counted : length pens + licences ≡ places
 
--- the Book is the one at home at some such desk with this room, at which each of these pens has its seat
-pub record IsHomeWithAll (room : ℕ) (pens : List PenState) (book : Volume) : Type 0 where
+-- the Book is the one at home at some such desk, at which each of these pens has its seat
+pub record IsHomeWithAll (room : ℕ) (terms : Terms) (pens : List PenState) (book : Volume) : Type 0 where
   pub desk : Desk
-  pub reached : IsReached desk.places room desk
+  pub reached : IsReached desk.places (first_limits room terms) desk
   pub meets : MeetsRule desk
-  pub at_home : desk.home ≡ Some (home_of book)
+  pub at_home : desk.home ≡ Some book
   pub room_is : book.room ≡ room
   pub seated : OfEachOf pens (λ p. (seat : ℕ) × Has desk.views seat p)
 
@@ -123,7 +123,7 @@ pub record HavePlaces (places : ℕ) (pens : List PenState) : Type 0 where
 
 -- what is so of the Book of a desk with this room, these terms and so many places where a testimony of these pens has all
 pub record ClosedByAll (room : ℕ) (terms : Terms) (places : ℕ) (pens : List PenState) (book : Volume) : Type 0 where
-  pub home : IsHomeWithAll room pens book
+  pub home : IsHomeWithAll room terms pens book
   pub knows : AllKnow pens book
   pub only : LinesAreOfThese pens book.journal
   pub placed : HavePlaces places pens
@@ -131,7 +131,9 @@ pub record ClosedByAll (room : ℕ) (terms : Terms) (places : ℕ) (pens : List 
 
 -- the table of a desk before all steps, with a Book of its terms that has no lines, keeps the rule
 abbrev pub OpeningKept : Bool → (ℕ → Type 0) → Type 0
-OpeningKept wide roomy = (room : ℕ) (terms : Terms) (places : ℕ) (book : Volume) → room ≤ GREATEST_NUMBER → home_of book ≡ volume room [] → MeetsTerms terms book
+OpeningKept wide roomy =
+    (room : ℕ) (terms : Terms) (places : ℕ) (book : Volume) → room ≤ GREATEST_NUMBER → book.room ≡ room → book.journal ≡ []
+    → terms ≡ terms_of book
     → Keeps wide roomy room terms places (opening (replicate (word_count places) 0) (with_book book ∷ []) (Dealer 0 room))
 
 -- the dealer may give out the pen of its next place
@@ -145,12 +147,12 @@ DealingAllowed wide roomy = (room : ℕ) (terms : Terms) (places id place known 
 -- there is one place alone its pen leads. Where a testimony has all pens, the Book is in its slot.
 pub record Ends (room : ℕ) (terms : Terms) (places : ℕ) (s : State Slotted View) : Type 0 where
   pub free : slice_index s.words lock_at ≡ 0 → (book : Volume) × (get_elem? s.homes 0 ≡ some (some (with_book book)))
-      × (home : IsHomeBook room book) × (home.desk.views ≡ s.views)
+      × (home : IsHomeBook room terms book) × (home.desk.views ≡ s.views)
       × ((id : ℕ) (m : Seated) → m.0 ≡ Holder (pen_at m) → get_elem? s.views id ≡ some m.0
       → Knows (pen_at m).room (pen_at m) book.journal × ((pen_at m).leading ≡ false))
       × MeetsTerms terms book
   pub held : slice_index s.words lock_at ≢ 0
-      → (slice_index s.words lock_at ≡ 1) × (held : IsHeld room) × (held.desk.views ≡ s.views)
+      → (slice_index s.words lock_at ≡ 1) × (held : IsHeld room terms) × (held.desk.views ≡ s.views)
   pub alone : slice_index s.words lock_at ≢ 0 → places ≡ 1 → (id : ℕ) (m : Seated) → m.0 ≡ Holder (pen_at m)
       → get_elem? s.views id ≡ some m.0 → (pen_at m).leading ≡ true
   pub all : (id : ℕ) (pens : List PenState) (licences : ℕ) → get_elem? s.views id ≡ some (Testimony pens licences)

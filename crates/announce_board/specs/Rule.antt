@@ -9,7 +9,6 @@ use Rattle.pq_types.specs.declared.answer.Answer.TheVariants.{NoMemory}
 use Rattle.pq_types.specs.declared.control.Control.{Control}
 use Rattle.pq_types.specs.Control.{answered}
 use Rattle.pq_book.specs.Book.{Volume}
-use Rattle.desk_core.specs.Home.{Home, home_of}
 use Rattle.desk_core.specs.Pen.{new_pen}
 use Rattle.desk_core.specs.Dealing.{IsReached}
 use Rattle.desk_core.specs.Desk.{Desk}
@@ -21,17 +20,17 @@ use Rattle.desk_core.specs.declared.model.PenState.{PenState}
 use Rattle.desk_core.specs.declared.model.View.{View}
 use Rattle.desk_core.specs.declared.model.View.TheVariants.{Dealer, Holder, Note, Testimony}
 use Rattle.announce_board.specs.declared.terms.Terms.{Terms}
-use Rattle.announce_board.specs.Slots.{MeetsTerms, Slotted, with_book, says, out}
+use Rattle.announce_board.specs.Slots.{Slotted, with_book, says, out, first_limits}
 
--- what the machine sees of the Book in a slot, where it is at home
-abbrev pub book_in : home.Option (home.Option Slotted) → Option Home
+-- the Book in a slot, where it is at home
+abbrev pub book_in : home.Option (home.Option Slotted) → Option Volume
 book_in none = None
 book_in (some none) = None
-book_in (some (some (with_book book))) = Some (home_of book)
+book_in (some (some (with_book book))) = Some book
 book_in (some (some (says terms))) = None
 
 -- and of that in the slot of the table
-abbrev pub book_at_home : List (home.Option Slotted) → Option Home
+abbrev pub book_at_home : List (home.Option Slotted) → Option Volume
 book_at_home homes = book_in (get_elem? homes 0)
 
 -- the desk with this room and these places, lock, controls, item cells, slot and views
@@ -53,8 +52,7 @@ NoneIsRefused control = (place : ℕ) → control place ≢ answered NoMemory
 
 -- The words of the table show some lock, controls and item cells; there is one slot; and the desk
 -- of these, with the Book of the slot and the views of the seats, is at the end of some run of the
--- machine from its opening with a dealer, and so meets the rule of desks. Where
--- the Book is at home it has the desk's room, as that rule says, and meets the desk's terms. Retired pens stand in
+-- machine from its opening with a dealer and a Book of the desk's terms, and so meets the rule of desks. Retired pens stand in
 -- testimonies, and stay as they were; sleeping pens are as new. The pens that act, the retired ones and the licences are no
 -- more than the places. `roomy n` says that every store of the desk's kind has room for n items: where that is so of the
 -- journal's lines, no record says NoMemory. The items of the desk are wide or narrow.
@@ -64,12 +62,11 @@ pub record Keeps (wide : Bool) (roomy : ℕ → Type 0) (room : ℕ) (terms : Te
   pub cells : ℕ → Item
   pub words : AreWords wide places s.words held control cells
   pub slots : length s.homes ≡ 1
-  pub reached : IsReached places room (desk_of room places held control cells s.homes s.views)
+  pub reached : IsReached places (first_limits room terms) (desk_of room places held control cells s.homes s.views)
   pub meets : MeetsRule (desk_of room places held control cells s.homes s.views)
   pub duties : DutiesAreKept s.views
   pub weight : weight_of places s.views ≤ places
   pub memory : roomy room → NoneIsRefused control
-  pub bounded : (book : Volume) → get_elem? s.homes 0 ≡ some (some (with_book book)) → MeetsTerms terms book
 
 -- the pen for which a seat stands
 abbrev pub holder_of : View → PenState

@@ -1,12 +1,10 @@
 -- What holds of a running desk between any two atomic steps, of whatever threads.
 use Rattle.std.specs.Prelude.{◌≡◌, ℕ, ◌≤◌, Bool, List, slice_set}
-use mathlib.Core.Option.{some}
-use lib.ListN.{get_elem?}
 use Rattle.atomic_table.specs.Table.{State}
 use Rattle.pq_types.specs.Asked.{Line}
-use Rattle.pq_book.specs.Book.{Volume}
 use Rattle.announce_board.specs.declared.terms.Terms.{Terms}
-use Rattle.announce_board.specs.Slots.{MeetsTerms, Slotted, with_book}
+use Rattle.announce_board.specs.Slots.{Slotted, first_limits}
+use Rattle.desk_core.specs.Archiving.{HasLimits, archived_of, limits_after}
 use Rattle.desk_core.specs.Clauses.{LockClause}
 use Rattle.desk_core.specs.Dealing.{Move, DealtRun, dealt_history}
 use Rattle.desk_core.specs.Desk.{Desk, Has, acts_number, dealer_opening}
@@ -25,24 +23,26 @@ use Rattle.announce_board.specs.Rule.{Keeps, book_at_home}
 -- dealer. The journal, that of the Book at home or in the leader's hand, linearizes what the callers have seen of that run.
 -- The positions that the pens keep are those of their acts in this history; each of its positions is some pen's, and it has
 -- no other act of a pen than those. So of the calls that any two pens have read, of which one ended before the other began, it
--- has the earlier line. The looks of that run have their places in the same order. The Book at home meets
--- the desk's terms.
+-- has the earlier line. The looks of that run have their places in the same order. The Book, at home or in the leader's hand,
+-- has the desk's bound, and allows as many lines as the terms do, or a page more than the most that were said in that run to be
+-- archived, where that is more.
 pub record IsLinearized (wide : Bool) (room : ℕ) (terms : Terms) (places : ℕ) (s : State Slotted View) : Type 0 where
   pub desk : Desk
   pub words : AreWords wide places s.words desk.held desk.control desk.item
   pub home : desk.home ≡ book_at_home s.homes
   pub views : desk.views ≡ s.views
   pub moves : List Move
-  pub run : DealtRun (dealer_opening places room) moves desk
+  pub run : DealtRun (dealer_opening places (first_limits room terms)) moves desk
   pub journal : List Line
   pub lock : LockClause desk journal
-  pub linearizes : Linearizes room (dealt_history (dealer_opening places room) moves desk run) journal
-  pub looks : LinearizesLooks room (dealt_sights (dealer_opening places room) moves desk run) journal
-  pub timed : AreTimed s.views (dealt_history (dealer_opening places room) moves desk run)
+  pub linearizes : Linearizes room (dealt_history (dealer_opening places (first_limits room terms)) moves desk run) journal
+  pub looks : LinearizesLooks room (dealt_sights (dealer_opening places (first_limits room terms)) moves desk run) journal
+  pub timed : AreTimed s.views (dealt_history (dealer_opening places (first_limits room terms)) moves desk run)
   pub whole : (i : ℕ) (p : PenState) → Has s.views i p
-      → IsWhole (dealt_history (dealer_opening places room) moves desk run) (acts_number s.views) p
+      → IsWhole (dealt_history (dealer_opening places (first_limits room terms)) moves desk run) (acts_number s.views) p
   pub follow : CallsFollowTime desk
-  pub bounded : (book : Volume) → get_elem? s.homes 0 ≡ some (some (with_book book)) → MeetsTerms terms book
+  pub limited : HasLimits desk
+      (limits_after (first_limits room terms) (archived_of (dealer_opening places (first_limits room terms)) moves desk run))
 
 -- so it is of every table that keeps the rule of desks
 abbrev pub TablesAreLinearized : Bool → (ℕ → Type 0) → Type 0

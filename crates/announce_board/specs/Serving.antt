@@ -10,13 +10,11 @@ use Rattle.pq_types.specs.declared.control.Kind.TheVariants as kind
 use Rattle.pq_types.specs.declared.control.Control.{Control}
 use Rattle.pq_types.specs.Control.{kind_of, request_item, answer_item, posted, is_posted, is_answer}
 use Rattle.pq_types.specs.History.{journal_after, MayAnswer}
-use Rattle.pq_book.specs.Book.{Volume, limits_of}
+use Rattle.pq_book.specs.Book.{Volume}
 use Rattle.pq_types.specs.Mail.{IsSerial}
-use Rattle.desk_core.specs.Home.{home_of}
-use Rattle.desk_core.specs.Desk.{volume}
 use Rattle.desk_core.specs.Knows.{Knows}
 use Rattle.desk_core.specs.Layout.{item_at}
-use Rattle.desk_core.specs.Pen.{IsKept, due_to, with_known, after_lead, after_read, after_answer}
+use Rattle.desk_core.specs.Pen.{IsKept, due_to, with_known, after_lead, after_read, after_answer, book_with, book_in_hand, limits_in_hand}
 use Rattle.desk_core.specs.declared.model.Standing.TheVariants.{Waiting}
 use Rattle.desk_core.specs.declared.model.Due.{Due}
 use Rattle.desk_core.specs.declared.model.PenState.{PenState}
@@ -25,13 +23,13 @@ use Rattle.announce_board.specs.ItemWords.{read_by, laid_by}
 use Rattle.announce_board.specs.Rule.{Seated}
 use Rattle.announce_board.specs.Steps.{pen_at}
 
--- The pen has won the lock. It did not lead, and has this Book's journal in its hand, of which it
+-- The pen has won the lock. It did not lead, and has this Book in its hand, of whose journal it
 -- knows what each pen knows of the journal at home.
 pub record Wins (p : PenState) (book : Volume) (p' : PenState) : Type 0 where
   pub room : book.room ≡ p.room
   pub led_not : p.leading ≡ false
   pub knows : Knows p.room p book.journal
-  pub next : p' ≡ after_lead p book.journal
+  pub next : p' ≡ after_lead p book
 
 -- the leader has read this request posted at this place: the control, and then the item of a push,
 -- of so many words, a step for each
@@ -58,8 +56,8 @@ served_by words p place serial request answer =
     (due_of place serial request) request answer
 
 -- A request stood posted there, and has its answer.
--- The serial is above each of that place in the journal in hand; the answer is one that the Book,
--- of these limits, may give, and the Book has what the answer leaves. At the leader's own place the serial is its
+-- The serial is above each of that place in the journal in hand; the answer is one that the Book in
+-- hand may give, and the Book has what the answer leaves. At the leader's own place the serial is its
 -- last, and the request the one for which it waits.
 pub record ServesBy (words place : ℕ) (p : PenState) (p' : PenState) (book : Volume) : Type 0 where
   pub serial : ℕ
@@ -67,9 +65,9 @@ pub record ServesBy (words place : ℕ) (p : PenState) (p' : PenState) (book : V
   pub answer : Answer
   pub in_range : IsSerial serial
   pub above : AllByRecursion (λ l. place ≡ l.place → l.serial < serial) p.hand
-  pub may : MayAnswer (limits_of book) p.hand request answer
+  pub may : MayAnswer (limits_in_hand p) p.hand request answer
   pub next : p' ≡ served_by words p place serial request answer
-  pub book_is : home_of book ≡ volume p.room (journal_after p.hand place serial request answer)
+  pub book_is : book ≡ book_with p (journal_after p.hand place serial request answer)
   pub last : place ≡ p.place → serial ≡ p.posts
   pub own : (asked : Request) → place ≡ p.place → p.standing ≡ Waiting asked → (serial ≡ p.posts) × (request ≡ asked)
 
@@ -79,7 +77,7 @@ pub record Passes (place : ℕ) (p : PenState) (p' : PenState) (book : Volume) :
   pub control : Control
   pub not_posted : is_posted control ≡ false
   pub next : p' ≡ after_read p place control
-  pub book_is : home_of book ≡ volume p.room p.hand
+  pub book_is : book ≡ book_in_hand p
   pub own : (asked : Request) → place ≡ p.place → p.standing ≡ Waiting asked → is_answer control ≡ true
 
 abbrev pub ServesWhereBy : ℕ → Bool → ℕ → PenState → PenState → Volume → Type 0

@@ -1,6 +1,7 @@
 -- What lies in the slot of a desk's table, and the terms of the Book there.
 use Rattle.std.specs.Prelude.{◌≡◌, ◌≤◌, ◌+◌, ℕ, Option, Some, None}
-use Rattle.pq_book.specs.Book.{Volume}
+use Rattle.pq_types.specs.History.{Limits}
+use Rattle.pq_book.specs.Book.{Volume, limits}
 use Rattle.announce_board.specs.declared.terms.Terms.{Terms}
 
 -- the Book has the bound of these terms, and allows as many lines as they do, or more
@@ -10,6 +11,10 @@ MeetsTerms terms book = (book.bound ≡ terms.bound) × (terms.allowed ≤ book.
 -- the terms that it has now
 abbrev pub terms_of : Volume → Terms
 terms_of book = record { bound = book.bound; allowed = book.allowed }
+
+-- the limits of a queue that opens with this room and these terms
+abbrev pub first_limits : ℕ → Terms → Limits
+first_limits room terms = limits room terms.bound terms.allowed
 
 -- those of a queue without a bound that forgets
 abbrev pub plain_terms : ℕ → Terms

@@ -9,18 +9,16 @@ use Rattle.pq_types.specs.Asked.{Answer}
 use Rattle.pq_types.specs.declared.answer.Answer.TheVariants.{NoMemory}
 use Rattle.pq_types.specs.declared.control.Notice.{Notice}
 use Rattle.pq_types.specs.declared.control.Control.TheVariants.{Answered}
-use Rattle.pq_types.specs.Asked.{Line}
 use Rattle.pq_types.specs.Control.{kind_of, request_item, answer_item, posted, answered}
-use Rattle.pq_types.specs.History.{journal_by}
-use Rattle.desk_core.specs.Answering.{MayTellOf, MayTell}
+use Rattle.pq_types.specs.History.{journal_by, Limits, MayDo, MayAnswer}
 use Rattle.pq_types.specs.Mail.{IsProperControl, control_word}
 use Rattle.pq_book.specs.Book.{Volume}
-use Rattle.desk_core.specs.Home.{home_of}
 use Rattle.desk_core.specs.Pen.{IsKept, after_draft, after_post, after_lead, after_miss, after_read}
 use Rattle.desk_core.specs.Pen.{after_read_item, after_lay, after_answer, after_release}
-use Rattle.desk_core.specs.Pen.{after_apply, after_release_by, after_look, after_see, after_take}
+use Rattle.desk_core.specs.Pen.{after_apply, after_archive, after_release_by, after_look, after_see, after_take}
+use Rattle.desk_core.specs.Pen.{book_with, book_in_hand, limits_in_hand}
 use Rattle.desk_core.specs.Dealing.{IsReached}
-use Rattle.desk_core.specs.Desk.{Desk, Has, volume}
+use Rattle.desk_core.specs.Desk.{Desk, Has}
 use Rattle.desk_core.specs.Knows.{Knows, NoneAbove}
 use Rattle.desk_core.specs.Layout.{control_at, item_at}
 use Rattle.desk_core.specs.Words.{word_of, mixed}
@@ -35,7 +33,9 @@ use Rattle.announce_board.specs.Slots.{MeetsTerms, Slotted, with_book, says}
 
 -- the pen has a seat at a desk that is at the end of some run of the machine, and meets the rule
 pub record StandsAt (d : Desk) (p : PenState) : Type 0 where
-  pub reached : IsReached d.places d.room d
+  pub first : Limits
+  pub room : first.room ≡ d.room
+  pub reached : IsReached d.places first d
   pub meets : MeetsRule d
   pub seat : ℕ
   pub has : Has d.views seat p
@@ -86,7 +86,7 @@ pub record LockWon (terms : Terms) (before after : Seated) : Type 0 where
   pub bounded : MeetsTerms terms book
   pub knows : Knows (pen_at before).room (pen_at before) book.journal
   pub led_not : (pen_at before).leading ≡ false
-  pub next : ◌≡◌ {A = Seated} after (Holder (after_lead (pen_at before) book.journal), (0, with_book book) ∷ before.1)
+  pub next : ◌≡◌ {A = Seated} after (Holder (after_lead (pen_at before) book), (0, with_book book) ∷ before.1)
 
 abbrev pub LockTried : Step Slotted → Seated → ℕ → Seated → Type 0
 LockTried st before word after =
@@ -141,17 +141,14 @@ AnswerStored st before word after =
 abbrev pub Released : Step Slotted → Seated → ℕ → Seated → Type 0
 Released st before word after = ◌≡◌ {A = Seated} after (Holder (after_release (pen_at before)), rest before.1)
 
--- the slot that the pen holds, or gives back, has a Book of its room with this journal
-abbrev pub HasInSlot : Seated → List Line → List (ℕ × Slotted) → Type 0
-HasInSlot m journal others =
-    (book : Volume) × (home_of book ≡ volume (pen_at m).room journal)
-    × ◌≡◌ {A = List (ℕ × Slotted)} m.1 ((0, with_book book) ∷ others)
+-- the slot that the pen holds, or gives back, has this Book
+abbrev pub HasInSlot : Seated → Volume → List (ℕ × Slotted) → Type 0
+HasInSlot m book others = ◌≡◌ {A = List (ℕ × Slotted)} m.1 ((0, with_book book) ∷ others)
 
--- it has the Book with the journal that was in its hand and the line of its own operation, under its next serial, if this answer
--- entered it
+-- it has the Book that was in its hand, with the line of its own operation, under its next serial, if this answer entered it
 abbrev pub BringsHomeBy : Seated → Operation → Answer → List (ℕ × Slotted) → Type 0
 BringsHomeBy m operation answer others =
-    HasInSlot m (journal_by (pen_at m).hand (pen_at m).place ((pen_at m).posts + 1) operation answer) others
+    HasInSlot m (book_with (pen_at m) (journal_by (pen_at m).hand (pen_at m).place ((pen_at m).posts + 1) operation answer)) others
 
 -- the same with the line of its own request
 abbrev pub BringsHome : Seated → Request → Answer → List (ℕ × Slotted) → Type 0
@@ -161,16 +158,23 @@ BringsHome m request answer others = BringsHomeBy m (Asked request) answer other
 -- slot, which it keeps, tells which line, if any, is the last. It knew the journal in its hand.
 abbrev pub Applied : Step Slotted → Seated → ℕ → Seated → Type 0
 Applied st before word after =
-    (request : Request) (answer : Answer) → MayTellOf (pen_at before).room (pen_at before).hand request answer
+    (request : Request) (answer : Answer) → MayAnswer (limits_in_hand (pen_at before)) (pen_at before).hand request answer
     → BringsHome before request answer (rest before.1)
     → ((now : ℕ) × Becomes before (after_apply (pen_at before) request answer now) after)
     × Knows (pen_at before).room (pen_at before) (pen_at before).hand
+
+-- The leader heard that lines of its journal are archived, and loaded the lock: what stands in the slot, which it keeps, tells
+-- how many lines are allowed then.
+abbrev pub Archived : Step Slotted → Seated → ℕ → Seated → Type 0
+Archived st before word after =
+    (lines : ℕ) → HasInSlot before (book_in_hand (after_archive (pen_at before) lines)) (rest before.1)
+    → Becomes before (after_archive (pen_at before) lines) after
 
 -- The leader gave the slot back and freed the lock, with an operation of its own that was so answered:
 -- what stood in the slot tells which line, if any, is the last. The leader knew the journal in its hand.
 abbrev pub ReleasedWith : Step Slotted → Seated → ℕ → Seated → Type 0
 ReleasedWith st before word after =
-    (operation : Operation) (answer : Answer) → MayTell (pen_at before).room (pen_at before).hand operation answer
+    (operation : Operation) (answer : Answer) → MayDo (limits_in_hand (pen_at before)) (pen_at before).hand operation answer
     → BringsHomeBy before operation answer (rest before.1)
     → ((now : ℕ) × ◌≡◌ {A = Seated} after (Holder (after_release_by (pen_at before) operation answer now), rest before.1))
     × Knows (pen_at before).room (pen_at before) (pen_at before).hand

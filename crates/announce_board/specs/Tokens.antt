@@ -2,10 +2,8 @@
 use Rattle.std.specs.Prelude.{◌≡◌, ℕ, ◌+◌, ◌<◌, Bool, true, false, List, [], ◌∷◌}
 use Rattle.atomic_table.specs.Seated.{TableId}
 use Rattle.pq_book.specs.Book.{Volume}
-use Rattle.desk_core.specs.Home.{home_of}
-use Rattle.desk_core.specs.Desk.{volume}
 use Rattle.desk_core.specs.Knows.{NoneAbove}
-use Rattle.desk_core.specs.Pen.{new_pen}
+use Rattle.desk_core.specs.Pen.{new_pen, book_in_hand}
 use Rattle.desk_core.specs.Layout.{item_at, word_count}
 use Rattle.desk_core.specs.declared.model.Standing.{Standing}
 use Rattle.desk_core.specs.declared.model.Standing.TheVariants.{Idle, Waiting}
@@ -34,18 +32,14 @@ pub record Leading : Type 0 where
   pub place : ℕ
   pub book : Volume
 
--- the lead is that of this pen, which leads, and its Book has the journal that the pen has in its
--- hand; no line of its place there has a serial above its last
+-- the lead is that of this pen, which leads, and its Book is the one that the pen has in its hand; no line
+-- of its place there has a serial above its last
 pub record IsLeadOf (pen : AtDesk) (lead : Leading) : Type 0 where
   pub table : lead.table ≡ pen.table
   pub place : lead.place ≡ pen.state.place
   pub leads : pen.state.leading ≡ true
-  pub book : home_of lead.book ≡ volume pen.state.room pen.state.hand
+  pub book : lead.book ≡ book_in_hand pen.state
   pub used : NoneAbove pen.state.place pen.state.posts pen.state.hand
-
--- the lead whose Book allows so many lines until more are archived
-abbrev pub allowing : Leading → ℕ → Leading
-allowing lead lines = record lead { book = record lead.book { allowed = lines } }
 
 -- whether a pen waits for no answer
 abbrev pub is_idle : Standing → Bool

@@ -5,12 +5,10 @@ ghost use Rattle.pq_types.specs.declared.answer.Answer.TheVariants.{Entered};
 ghost use Rattle.pq_types.specs.declared.journal.TheConstants.{GREATEST_NUMBER};
 ghost use Rattle.pq_types.specs.History.{left, MayAnswer, journal_after};
 ghost use Rattle.pq_book.specs.Book.{AllHaveRoom, Volume, limits_of};
-ghost use Rattle.desk_core.specs.Home.{home_of};
 ghost use Rattle.desk_core.specs.declared.model.View.TheVariants.{Holder};
-ghost use Rattle.desk_core.specs.Desk.{volume};
 ghost use Rattle.desk_core.specs.Knows.{NoneAbove};
 ghost use Rattle.desk_core.specs.Layout.{lock_at};
-ghost use Rattle.desk_core.specs.Pen.{IsIdle, after_apply};
+ghost use Rattle.desk_core.specs.Pen.{IsIdle, after_apply, book_with, book_in_hand, limits_in_hand};
 ghost use Rattle.announce_board.specs.Asking.{IsAnswerTo, IsAboveAll, IsFullFor};
 ghost use Rattle.announce_board.specs.Slots.{with_book, out};
 ghost use Rattle.announce_board.specs.Steps.{pen_at};
@@ -22,14 +20,14 @@ use crate::laws::law_steps_are_allowed;
 use crate::rule::{Apply, Board, BoardSeat, Slot};
 use crate::tokens::{Lead, Pen};
 use crate::words::LOCK;
-use desk_core::laws::{law_books_deal, law_calls_are_lines};
+use desk_core::laws::law_calls_are_lines;
 use leftist_heap::Store;
 use pq_book::Entry;
 use pq_types::laws::law_request_is_proper;
 use pq_types::{Answer, Item, Part, Request};
 
 /// Takes the Book, which lies in the slot that the pen holds, out of it.
-fn take_back<S: Store<Entry<P>>, P: Part>(
+pub fn take_back<S: Store<Entry<P>>, P: Part>(
     board: &Board<S, P>,
     seat: &mut BoardSeat<S, P>,
 ) -> BoxedBook<S, P>
@@ -65,9 +63,9 @@ fn apply_own<S: Store<Entry<P>>, P: Part>(
     requires serial { serial ≡ (pen_at seat.old.me).posts + 1 }
     requires few { serial ≤ GREATEST_NUMBER }
     requires used { NoneAbove (pen_at seat.old.me).place (pen_at seat.old.me).posts (pen_at seat.old.me).hand }
-    requires book { home_of book ≡ volume (pen_at seat.old.me).room (pen_at seat.old.me).hand }
+    requires book { book ≡ book_in_hand (pen_at seat.old.me) }
     ensures table { seat.new.table_id ≡ seat.old.table_id }
-    ensures may { MayAnswer (limits_of book) (pen_at seat.old.me).hand request result.1 }
+    ensures may { MayAnswer (limits_in_hand (pen_at seat.old.me)) (pen_at seat.old.me).hand request result.1 }
     ensures answers { IsAnswerTo (pen_at seat.old.me).room request result.1 }
     ensures behind { (number : ℕ) (reply : Reply) → result.1 ≡ Entered number reply → IsAboveAll number (pen_at seat.old.me).mine }
     ensures full { result.1 ≡ Answer.BookFull → IsFullFor (pen_at seat.new.me) }
@@ -75,13 +73,12 @@ fn apply_own<S: Store<Entry<P>>, P: Part>(
     ensures memory { AllHaveRoom S.room (pen_at seat.old.me).room → result.1 ≢ Answer.NoMemory }
     ensures spare { AllHaveRoom S.room (length (left (pen_at seat.old.me).hand) + 1) → result.1 ≢ Answer.NoMemory }
     ensures limits { limits_of result.0 ≡ limits_of book }
-    ensures book { home_of result.0 ≡ volume (pen_at seat.old.me).room
+    ensures book { result.0 ≡ book_with (pen_at seat.old.me)
         (journal_after (pen_at seat.old.me).hand (pen_at seat.old.me).place ((pen_at seat.old.me).posts + 1) request result.1) }
     ensures after { (now : ℕ) × (seat.new.me ≡ (Holder (after_apply (pen_at seat.old.me) request result.1 now), (0, out) ∷ [])) }
 {
     law_steps_are_allowed::<S, P>();
     law_calls_are_lines();
-    law_books_deal();
     law_request_is_proper(&request);
     let mut book = book;
     let answer = book.boxed.apply(place, serial, request);
@@ -117,7 +114,7 @@ impl<S: Store<Entry<P>>, P: Part> Desk<S, P> {
         requires few { pen.old.state.posts < GREATEST_NUMBER }
         ensures lead { IsLeadOf pen.new result.0 }
         ensures limits { limits_of result.0.book ≡ limits_of lead.book }
-        ensures may { MayAnswer (limits_of lead.book) pen.old.state.hand request result.1 }
+        ensures may { MayAnswer (limits_in_hand pen.old.state) pen.old.state.hand request result.1 }
         ensures answers { IsAnswerTo pen.old.state.room request result.1 }
         ensures behind { (number : ℕ) (reply : Reply) → result.1 ≡ Entered number reply → IsAboveAll number pen.old.state.mine }
         ensures full { result.1 ≡ Answer.BookFull → IsFullFor pen.new.state }

@@ -5,16 +5,14 @@ ghost use Rattle.pq_types.specs.Asked.{Reply};
 ghost use Rattle.pq_types.specs.declared.answer.Answer.TheVariants.{Entered};
 ghost use Rattle.pq_types.specs.declared.journal.TheConstants.{GREATEST_NUMBER};
 ghost use Rattle.pq_types.specs.History.{left, MayDo};
-ghost use Rattle.pq_book.specs.Book.{AllHaveRoom, limits_of};
-ghost use Rattle.desk_core.specs.Home.{home_of};
+ghost use Rattle.pq_book.specs.Book.{AllHaveRoom};
 ghost use Rattle.pq_types.specs.Operation.{ByTicket};
 ghost use Rattle.desk_core.specs.declared.model.View.TheVariants.{Holder};
-ghost use Rattle.desk_core.specs.Desk.{volume};
 ghost use Rattle.desk_core.specs.Knows.{NoneAbove};
 ghost use Rattle.desk_core.specs.Layout.{lock_at};
-ghost use Rattle.desk_core.specs.Pen.{IsIdle, after_release_by_ticket};
+ghost use Rattle.desk_core.specs.Pen.{IsIdle, after_release_by_ticket, book_in_hand, limits_in_hand};
 ghost use Rattle.announce_board.specs.Asking.{IsAnswerBy, IsAboveAll, IsFullFor};
-ghost use Rattle.announce_board.specs.Slots.{MeetsTerms, out};
+ghost use Rattle.announce_board.specs.Slots.{out};
 ghost use Rattle.announce_board.specs.Steps.{pen_at};
 ghost use Rattle.announce_board.specs.Tokens.{IsLeadOf, is_idle};
 
@@ -24,7 +22,7 @@ use crate::laws::law_steps_are_allowed;
 use crate::rule::{Board, BoardSeat, ReleaseWith, Slot};
 use crate::tokens::{Lead, Pen};
 use crate::words::LOCK;
-use desk_core::laws::{law_books_deal, law_calls_are_lines};
+use desk_core::laws::law_calls_are_lines;
 use leftist_heap::TicketStore;
 use pq_book::Entry;
 use pq_types::laws::law_ticketed_is_proper;
@@ -50,10 +48,9 @@ fn put_home_by_ticket<S: TicketStore<Entry<P>>, P: Part>(
     requires serial { serial ≡ (pen_at seat.old.me).posts + 1 }
     requires few { serial ≤ GREATEST_NUMBER }
     requires used { NoneAbove (pen_at seat.old.me).place (pen_at seat.old.me).posts (pen_at seat.old.me).hand }
-    requires book { home_of book ≡ volume (pen_at seat.old.me).room (pen_at seat.old.me).hand }
-    requires terms { MeetsTerms board.now.key.terms book }
+    requires book { book ≡ book_in_hand (pen_at seat.old.me) }
     ensures table { seat.new.table_id ≡ seat.old.table_id }
-    ensures may { MayDo (limits_of book) (pen_at seat.old.me).hand (ByTicket ticketed) result }
+    ensures may { MayDo (limits_in_hand (pen_at seat.old.me)) (pen_at seat.old.me).hand (ByTicket ticketed) result }
     ensures answers { IsAnswerBy (pen_at seat.old.me).room (ByTicket ticketed) result }
     ensures behind { (number : ℕ) (reply : Reply) → result ≡ Entered number reply → IsAboveAll number (pen_at seat.old.me).mine }
     ensures full { result ≡ Answer.BookFull → IsFullFor (pen_at seat.new.me) }
@@ -64,7 +61,6 @@ fn put_home_by_ticket<S: TicketStore<Entry<P>>, P: Part>(
 {
     law_steps_are_allowed::<S, P>();
     law_calls_are_lines();
-    law_books_deal();
     law_ticketed_is_proper(&ticketed);
     let mut book = book;
     let answer = book.boxed.apply_by_ticket(place, serial, ticketed);
@@ -87,11 +83,10 @@ impl<S: TicketStore<Entry<P>>, P: Part> Desk<S, P> {
     ) -> Answer<Item<P>>
         requires table { pen.old.table ≡ self.now.table }
         requires lead { IsLeadOf pen.old lead }
-        requires terms { MeetsTerms self.now.terms lead.book }
         requires due { pen.old.state.due ≡ None }
         requires idle { is_idle pen.old.state.standing ≡ true }
         requires few { pen.old.state.posts < GREATEST_NUMBER }
-        ensures may { MayDo (limits_of lead.book) pen.old.state.hand (ByTicket ticketed) result }
+        ensures may { MayDo (limits_in_hand pen.old.state) pen.old.state.hand (ByTicket ticketed) result }
         ensures answers { IsAnswerBy pen.old.state.room (ByTicket ticketed) result }
         ensures behind { (number : ℕ) (reply : Reply) → result ≡ Entered number reply → IsAboveAll number pen.old.state.mine }
         ensures full { result ≡ Answer.BookFull → IsFullFor pen.new.state }

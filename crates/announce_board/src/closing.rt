@@ -37,9 +37,9 @@ impl<S: Store<Entry<P>>, P: Part> Desk<S, P> {
     /// Closes the desk, which no thread shares any more: the Book, if it is at home. `LockHeld`
     /// only where a pen leads, or kept the Book for good.
     pub fn close(self) -> Result<Book<S, Global, P>, LockHeld>
-        ensures ok { IfOk result (λ book. IsHomeBook self.room book) }
+        ensures ok { IfOk result (λ book. IsHomeBook self.room self.terms book) }
         ensures terms { IfOk result (λ book. MeetsTerms self.terms book) }
-        ensures err { IfErr result (λ _. IsHeld self.room) }
+        ensures err { IfErr result (λ _. IsHeld self.room self.terms) }
     {
         law_opening_and_end::<S, P>();
         let Desk {
@@ -61,11 +61,11 @@ impl<S: Store<Entry<P>>, P: Part> Desk<S, P> {
     /// place gets it wherever it doesn't lead.
     pub fn close_with(self, pen: Pen<S, P>) -> Result<Book<S, Global, P>, LockHeld>
         requires table { pen.table ≡ self.table }
-        ensures ok { IfOk result (λ book. IsHomeWith self.room pen.state book) }
+        ensures ok { IfOk result (λ book. IsHomeWith self.room self.terms pen.state book) }
         ensures terms { IfOk result (λ book. MeetsTerms self.terms book) }
         ensures knows { IfOk result (λ book. Knows pen.state.room pen.state book.journal) }
         ensures led_not { IfOk result (λ _. pen.state.leading ≡ false) }
-        ensures err { IfErr result (λ _. IsHeldWith self.room pen.state) }
+        ensures err { IfErr result (λ _. IsHeldWith self.room self.terms pen.state) }
         ensures alone { IfErr result (λ _. self.places ≡ 1 → pen.state.leading ≡ true) }
     {
         law_opening_and_end::<S, P>();
@@ -90,7 +90,7 @@ impl<S: Store<Entry<P>>, P: Part> Desk<S, P> {
     pub fn close_all(self, testimony: Testimony) -> Book<S, Global, P>
         requires table { testimony.table ≡ self.table }
         requires all { HasAll self.places testimony.pens testimony.licences }
-        ensures home { IsHomeWithAll self.room testimony.pens result }
+        ensures home { IsHomeWithAll self.room self.terms testimony.pens result }
         ensures terms { MeetsTerms self.terms result }
         ensures knows { AllKnow testimony.pens result }
         ensures only { LinesAreOfThese testimony.pens result.journal }

@@ -160,7 +160,6 @@ impl<S: Store<Entry<P>>, P: Part> Desk<S, P> {
     pub fn release(&self, pen: &mut Pen<S, P>, lead: Lead<S, P>)
         requires table { pen.old.table ≡ self.now.table }
         requires lead { IsLeadOf pen.old lead }
-        requires terms { MeetsTerms self.now.terms lead.book }
         ensures { pen.new ≡ record pen.old { state = after_release pen.old.state } }
     {
         put_home(&self.table.shared, &mut pen.seat, lead.into_boxed());

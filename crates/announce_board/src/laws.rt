@@ -3,13 +3,13 @@
 ghost use Rattle.pq_book.specs.Book.{AllHaveRoom};
 ghost use Rattle.announce_board.specs.Allowed.{DraftAllowed, PostAllowed, LockReadAllowed, TryAllowed, MailReadAllowed};
 ghost use Rattle.announce_board.specs.Allowed.{ItemReadAllowed, ItemLaidAllowed, AnswerAllowed, ApplyAllowed, ReleaseAllowed};
-ghost use Rattle.announce_board.specs.Allowed.{ReleaseWithAllowed, LookAllowed, SeeAllowed, TakeAllowed};
+ghost use Rattle.announce_board.specs.Allowed.{ArchiveAllowed, ReleaseWithAllowed, LookAllowed, SeeAllowed, TakeAllowed};
 ghost use Rattle.announce_board.specs.Opening.{OpeningKept, DealingAllowed, EndsAreTold};
 ghost use Rattle.announce_board.specs.Told.{WaitersAreTold, PostsAreNew, DuesStand, AboveTheLast, CellsStand};
 
 use crate::running::law_steps_are_moves;
 use desk_core::laws::{
-    law_calls_are_lines, law_dealt_runs_are_linearizable, law_desk_runs,
+    law_archiving, law_calls_are_lines, law_dealt_runs_are_linearizable, law_desk_runs,
     law_each_step_keeps_the_rule, law_lines_are_beyond, law_pens_know, law_reached_desks,
     law_times, law_words_show_the_desk,
 };
@@ -28,6 +28,7 @@ pub fn law_steps_are_allowed<S: Store<Entry<P>>, P: Part>()
     ensures lay_item { ItemLaidAllowed P.wide (AllHaveRoom S.room) }
     ensures answer { AnswerAllowed P.wide (AllHaveRoom S.room) }
     ensures apply { ApplyAllowed P.wide (AllHaveRoom S.room) }
+    ensures archive { ArchiveAllowed P.wide (AllHaveRoom S.room) }
     ensures release { ReleaseAllowed P.wide (AllHaveRoom S.room) }
     ensures release_with { ReleaseWithAllowed P.wide (AllHaveRoom S.room) }
     ensures look { LookAllowed P.wide (AllHaveRoom S.room) }
@@ -64,6 +65,7 @@ pub fn law_opening_and_end<S: Store<Entry<P>>, P: Part>()
     law_reached_desks();
     law_dealt_runs_are_linearizable();
     law_times();
+    law_archiving();
 }
 
 /// What a pen knows of an item cell still stands there.

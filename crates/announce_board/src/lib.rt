@@ -20,10 +20,11 @@
 //!   `Desk::release_by_ticket` frees it so with a removal or a move of an item by its ticket, and `Desk::release_shut`
 //!   with a shut of the queue.
 //! - The Book decides under the lock whether an operation is refused, and why. `Desk::serve`, `Desk::apply`
-//!   and the releases answer as the journal in hand and the limits of the lead's Book say. `serve` and
-//!   `apply` leave these limits; `Lead::archived` lets the Book allow more lines. The Book of each lead meets
-//!   the desk's terms: it has their bound, and allows as many lines as they do, or more
-//!   (`leading::law_leads_stay`).
+//!   and the releases answer as the journal and the limits that the pen has in hand say, a posted request too. All
+//!   of them leave these limits. `Desk::archive` alone, a step of its own, lets the Book allow more lines, by the lines
+//!   that it is told are archived. So the Book of each lead meets the desk's terms: it has their bound, and allows as
+//!   many lines as they do, or a page more than the most that were archived
+//!   (`running::law_running_desks_are_linearizable`).
 //! - `Desk::note` writes a note of the journal, which another pen of the desk may `Desk::hear`, in any thread: then each
 //!   later line of that pen is behind the journal that the note tells, which has all calls of the writer.
 //! - A pen that leads may draft, post and look meanwhile: its lead stays its own (`leading::law_leads_stay`).
@@ -44,6 +45,7 @@
 #![tactic(auto)]
 
 mod applying;
+mod archiving;
 mod asking;
 mod boxed_book;
 mod by_ticket;

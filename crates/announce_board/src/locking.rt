@@ -1,13 +1,11 @@
 // How a pen wins the lock of its desk and the Book with it, and gives both back.
 ghost use Rattle.std.specs.Prelude.{◌≡◌, ◌<◌, true, [], ◌∷◌, MatchOption};
 ghost use Rattle.desk_core.specs.declared.model.View.TheVariants.{Holder};
-ghost use Rattle.desk_core.specs.Home.{home_of};
-ghost use Rattle.desk_core.specs.Desk.{volume};
 ghost use Rattle.desk_core.specs.Layout.{lock_at};
-ghost use Rattle.desk_core.specs.Pen.{after_miss, after_release};
+ghost use Rattle.desk_core.specs.Pen.{after_miss, after_release, book_in_hand};
 ghost use Rattle.announce_board.specs.Steps.{pen_at, Becomes};
 ghost use Rattle.announce_board.specs.Loads.{TriesLock, WinsBook};
-ghost use Rattle.announce_board.specs.Slots.{MeetsTerms, out};
+ghost use Rattle.announce_board.specs.Slots.{out};
 
 use crate::boxed_book::BoxedBook;
 use crate::laws::law_steps_are_allowed;
@@ -71,8 +69,7 @@ pub fn put_home<S: Store<Entry<P>>, P: Part>(
     requires lock { lock_at < board.now.table_id.words }
     requires slot { seat.old.me.1 ≡ (0, out) ∷ [] }
     requires leads { (pen_at seat.old.me).leading ≡ true }
-    requires book { home_of book ≡ volume (pen_at seat.old.me).room (pen_at seat.old.me).hand }
-    requires terms { MeetsTerms board.now.key.terms book }
+    requires book { book ≡ book_in_hand (pen_at seat.old.me) }
     ensures table { seat.new.table_id ≡ seat.old.table_id }
     ensures after { seat.new.me ≡ (Holder (after_release (pen_at seat.old.me)), []) }
 {

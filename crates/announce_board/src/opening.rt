@@ -3,8 +3,6 @@ ghost use Rattle.std.specs.Prelude.{◌≡◌, ◌+◌, ◌<◌, ◌≤◌, ◌�
 ghost use Rattle.pq_types.specs.declared.journal.TheConstants.{GREATEST_NUMBER};
 ghost use Rattle.pq_book.specs.Book.{IsRoom, IsLongRoom};
 ghost use Rattle.pq_book.specs.Pages.{IsLongPage, room_keeping};
-ghost use Rattle.desk_core.specs.Home.{home_of};
-ghost use Rattle.desk_core.specs.Desk.{volume};
 ghost use Rattle.desk_core.specs.Layout.{word_count};
 ghost use Rattle.desk_core.specs.declared.model.View.TheVariants.{Dealer};
 ghost use Rattle.announce_board.specs.Opening.{Opens, ArePens, pen_of_place};
@@ -144,7 +142,8 @@ fn opened<S: Store<Entry<P>>, P: Part>(
     places: u16,
     lines: u64,
 ) -> Result<(Desk<S, P>, Vec<Pen<S, P>>), AllocError>
-    requires book { home_of book ≡ volume lines [] }
+    requires room { book.room ≡ lines }
+    requires empty { book.journal ≡ [] }
     requires lines { lines ≤ GREATEST_NUMBER }
     ensures ok { IfOk result (λ r. Opens places lines r.0 r.1.items) }
     ensures terms { IfOk result (λ r. r.0.terms ≡ terms_of book) }
@@ -168,7 +167,8 @@ pub fn laid_out<S: Store<Entry<P>>, A: Allocator + Copy, P: Part>(
     places: u16,
     lines: u64,
 ) -> Result<(DeskTable<S, A, P>, Vec<Pen<S, P>, A>), AllocError>
-    requires book { home_of book ≡ volume lines [] }
+    requires room { book.room ≡ lines }
+    requires empty { book.journal ≡ [] }
     requires lines { lines ≤ GREATEST_NUMBER }
     ensures desk { IfOk result (λ r. IsDesk r.0.shared.table_id r.0.shared.key.places r.0.shared.key.room r.0.shared.key.terms
         places lines (terms_of book)) }

@@ -4,7 +4,7 @@ ghost use Rattle.std.specs.Prelude.{◌≡◌};
 ghost use Rattle.announce_board.specs.Rule.{Keeps, dealt_one, pen_dealt};
 ghost use Rattle.announce_board.specs.Slots.{with_book, says, out, book_of};
 ghost use Rattle.announce_board.specs.Steps.{Drafted, PostStored, LockRead, LockTried, MailRead, ItemRead, ItemLaid};
-ghost use Rattle.announce_board.specs.Steps.{AnswerStored, Applied, Released, ReleasedWith, AnswerLooked, ItemSeen, ItemTaken};
+ghost use Rattle.announce_board.specs.Steps.{AnswerStored, Applied, Archived, Released, ReleasedWith, AnswerLooked, ItemSeen, ItemTaken};
 ghost use Rattle.desk_core.specs.declared.model.View.TheVariants.{Dealer};
 
 use crate::boxed_book::BoxedBook;
@@ -185,6 +185,13 @@ pub struct Apply;
 
 impl<S: Store<Entry<P>>, P: Part> Play<Slot<S, P>, View> for Apply {
     ghost then = { Applied };
+}
+
+/// The leader hears that lines are archived.
+pub struct Archive;
+
+impl<S: Store<Entry<P>>, P: Part> Play<Slot<S, P>, View> for Archive {
+    ghost then = { Archived };
 }
 
 /// The leader frees the lock.

@@ -4,13 +4,10 @@ ghost use Rattle.std.specs.Prelude.{◌≡◌, ◌≢◌, ℕ, ◌+◌, ◌<◌,
 ghost use Rattle.pq_types.specs.declared.control.Kind.TheVariants as kind;
 ghost use Rattle.pq_types.specs.Control.{kind_has_item, answer_item};
 ghost use Rattle.pq_types.specs.Mail.{IsProperAnswerOf};
-ghost use Rattle.pq_types.specs.History.{left};
+ghost use Rattle.pq_types.specs.History.{left, MayAnswer};
 ghost use Rattle.pq_book.specs.Book.{AllHaveRoom, limits_of};
-ghost use Rattle.desk_core.specs.Answering.{MayTellOf};
-ghost use Rattle.desk_core.specs.Home.{home_of};
 ghost use Rattle.desk_core.specs.declared.model.Due.{Due};
-ghost use Rattle.desk_core.specs.Desk.{volume};
-ghost use Rattle.desk_core.specs.Pen.{after_answer};
+ghost use Rattle.desk_core.specs.Pen.{after_answer, book_in_hand, limits_in_hand};
 ghost use Rattle.desk_core.specs.Words.{word_number};
 ghost use Rattle.announce_board.specs.Steps.{pen_at, Becomes};
 ghost use Rattle.announce_board.specs.ItemWords.{laid_by};
@@ -23,7 +20,6 @@ use crate::item_words::{lay_words, no_item, read_words};
 use crate::laws::{law_steps_are_allowed, law_steps_tell};
 use crate::rule::{Board, BoardSeat, ReadMail, StoreAnswer};
 use crate::words::{control_index, post_in_word};
-use desk_core::laws::law_books_deal;
 use leftist_heap::Store;
 use pq_book::{Book, Entry};
 use pq_types::{Answer, Control, Item, Kind, Part, Reply, Request};
@@ -90,7 +86,7 @@ pub fn store_answer<S: Store<Entry<P>>, P: Part>(
     requires pen { IsServing board.now.table_id board.now.key.places seat.old.me place }
     requires proper { IsProperAnswerOf P.wide answer }
     requires due { (due : Due) × IsDueFor (pen_at seat.old.me) place request answer due }
-    requires may { MayTellOf (pen_at seat.old.me).room (pen_at seat.old.me).hand request answer }
+    requires may { MayAnswer (limits_in_hand (pen_at seat.old.me)) (pen_at seat.old.me).hand request answer }
     requires memory { AllHaveRoom S.room (pen_at seat.old.me).room → answer ≢ Answer.NoMemory }
     ensures table { seat.new.table_id ≡ seat.old.table_id }
     ensures after { (due : Due) → IsDueFor (pen_at seat.old.me) place request answer due
@@ -147,7 +143,7 @@ pub fn give_answer<S: Store<Entry<P>>, P: Part>(
     requires pen { IsServing board.now.table_id board.now.key.places seat.old.me place }
     requires proper { IsProperAnswerOf P.wide answer }
     requires due { (serial : ℕ) × ((pen_at seat.old.me).due ≡ Some (due_of place serial request)) }
-    requires may { MayTellOf (pen_at seat.old.me).room (pen_at seat.old.me).hand request answer }
+    requires may { MayAnswer (limits_in_hand (pen_at seat.old.me)) (pen_at seat.old.me).hand request answer }
     requires memory { AllHaveRoom S.room (pen_at seat.old.me).room → answer ≢ Answer.NoMemory }
     ensures table { seat.new.table_id ≡ seat.old.table_id }
     ensures after { (serial : ℕ) → (pen_at seat.old.me).due ≡ Some (due_of place serial request)
@@ -187,7 +183,7 @@ pub fn serve_place<S: Store<Entry<P>>, P: Part>(
 ) -> bool
     requires here { seat.old.table_id ≡ board.now.table_id }
     requires pen { IsServing board.now.table_id board.now.key.places seat.old.me place }
-    requires book { home_of book.old ≡ volume (pen_at seat.old.me).room (pen_at seat.old.me).hand }
+    requires book { book.old ≡ book_in_hand (pen_at seat.old.me) }
     ensures table { seat.new.table_id ≡ seat.old.table_id }
     ensures stays { StaysSeated seat.old.me seat.new.me }
     ensures serves { ServesWhereBy (word_number P.wide) result place (pen_at seat.old.me) (pen_at seat.new.me) book.new }
@@ -195,11 +191,10 @@ pub fn serve_place<S: Store<Entry<P>>, P: Part>(
         → ServesOtherThanBy (word_number P.wide) Answer.NoMemory place (pen_at seat.old.me) (pen_at seat.new.me) book.new }
     ensures spare { AllHaveRoom S.room (length (left (pen_at seat.old.me).hand) + 1)
         → ServesOtherThanBy (word_number P.wide) Answer.NoMemory place (pen_at seat.old.me) (pen_at seat.new.me) book.new }
-    ensures hand { home_of book.new ≡ volume (pen_at seat.new.me).room (pen_at seat.new.me).hand }
+    ensures hand { book.new ≡ book_in_hand (pen_at seat.new.me) }
     ensures limits { limits_of book.new ≡ limits_of book.old }
 {
     law_steps_tell();
-    law_books_deal();
     let Some((serial, request)) = read_request(board, seat, place) else {
         return false;
     };

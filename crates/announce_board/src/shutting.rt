@@ -5,15 +5,12 @@ ghost use Rattle.pq_types.specs.declared.answer.Answer.TheVariants.{Entered};
 ghost use Rattle.pq_types.specs.declared.journal.TheConstants.{GREATEST_NUMBER};
 ghost use Rattle.pq_types.specs.History.{MayDo};
 ghost use Rattle.pq_types.specs.Operation.{Shuts};
-ghost use Rattle.pq_book.specs.Book.{limits_of};
-ghost use Rattle.desk_core.specs.Home.{home_of};
 ghost use Rattle.desk_core.specs.declared.model.View.TheVariants.{Holder};
-ghost use Rattle.desk_core.specs.Desk.{volume};
 ghost use Rattle.desk_core.specs.Knows.{NoneAbove};
 ghost use Rattle.desk_core.specs.Layout.{lock_at};
-ghost use Rattle.desk_core.specs.Pen.{IsIdle, after_release_by};
+ghost use Rattle.desk_core.specs.Pen.{IsIdle, after_release_by, book_in_hand, limits_in_hand};
 ghost use Rattle.announce_board.specs.Asking.{IsAnswerBy, IsAboveAll, IsFullFor};
-ghost use Rattle.announce_board.specs.Slots.{MeetsTerms, out};
+ghost use Rattle.announce_board.specs.Slots.{out};
 ghost use Rattle.announce_board.specs.Steps.{pen_at};
 ghost use Rattle.announce_board.specs.Tokens.{IsLeadOf, is_idle};
 
@@ -23,7 +20,7 @@ use crate::laws::law_steps_are_allowed;
 use crate::rule::{Board, BoardSeat, ReleaseWith, Slot};
 use crate::tokens::{Lead, Pen};
 use crate::words::LOCK;
-use desk_core::laws::{law_books_deal, law_calls_are_lines};
+use desk_core::laws::law_calls_are_lines;
 use leftist_heap::Store;
 use pq_book::Entry;
 use pq_types::{Answer, Item, Part};
@@ -47,10 +44,9 @@ fn put_home_shut<S: Store<Entry<P>>, P: Part>(
     requires serial { serial ≡ (pen_at seat.old.me).posts + 1 }
     requires few { serial ≤ GREATEST_NUMBER }
     requires used { NoneAbove (pen_at seat.old.me).place (pen_at seat.old.me).posts (pen_at seat.old.me).hand }
-    requires book { home_of book ≡ volume (pen_at seat.old.me).room (pen_at seat.old.me).hand }
-    requires terms { MeetsTerms board.now.key.terms book }
+    requires book { book ≡ book_in_hand (pen_at seat.old.me) }
     ensures table { seat.new.table_id ≡ seat.old.table_id }
-    ensures may { MayDo (limits_of book) (pen_at seat.old.me).hand Shuts result }
+    ensures may { MayDo (limits_in_hand (pen_at seat.old.me)) (pen_at seat.old.me).hand Shuts result }
     ensures answers { IsAnswerBy (pen_at seat.old.me).room Shuts result }
     ensures behind { (number : ℕ) (reply : Reply) → result ≡ Entered number reply → IsAboveAll number (pen_at seat.old.me).mine }
     ensures full { result ≡ Answer.BookFull → IsFullFor (pen_at seat.new.me) }
@@ -60,7 +56,6 @@ fn put_home_shut<S: Store<Entry<P>>, P: Part>(
 {
     law_steps_are_allowed::<S, P>();
     law_calls_are_lines();
-    law_books_deal();
     let mut book = book;
     let answer = book.boxed.apply_shut(place, serial);
     drop(board.exchange(seat, 0, Slot::with(book)));
@@ -77,11 +72,10 @@ impl<S: Store<Entry<P>>, P: Part> Desk<S, P> {
     pub fn release_shut(&self, pen: &mut Pen<S, P>, lead: Lead<S, P>) -> Answer<Item<P>>
         requires table { pen.old.table ≡ self.now.table }
         requires lead { IsLeadOf pen.old lead }
-        requires terms { MeetsTerms self.now.terms lead.book }
         requires due { pen.old.state.due ≡ None }
         requires idle { is_idle pen.old.state.standing ≡ true }
         requires few { pen.old.state.posts < GREATEST_NUMBER }
-        ensures may { MayDo (limits_of lead.book) pen.old.state.hand Shuts result }
+        ensures may { MayDo (limits_in_hand pen.old.state) pen.old.state.hand Shuts result }
         ensures answers { IsAnswerBy pen.old.state.room Shuts result }
         ensures behind { (number : ℕ) (reply : Reply) → result ≡ Entered number reply → IsAboveAll number pen.old.state.mine }
         ensures full { result ≡ Answer.BookFull → IsFullFor pen.new.state }

@@ -1,11 +1,11 @@
 // What a thread holds of a desk: a pen, which asks; a pen put away; and a lead, while its pen
 // leads.
-ghost use Rattle.std.specs.Prelude.{◌≡◌, ◌↔◌, ◌+◌, ◌<◌, ◌≤◌, ◌++◌, false, length, drop, max, min, OnOk, OnErr, IsErrOf};
+ghost use Rattle.std.specs.Prelude.{◌≡◌, ◌↔◌, ◌+◌, ◌<◌, ◌≤◌, ◌++◌, false, length, drop, OnOk, OnErr, IsErrOf};
 ghost use Rattle.pq_book.specs.Pages.{page_of};
 ghost use Rattle.pq_book.specs.Peak.{IsPeak, KeepsBound};
 ghost use Rattle.pq_types.specs.History.{left, is_shut};
 ghost use Rattle.leftist_heap.specs.Store.{first_of};
-ghost use Rattle.announce_board.specs.Tokens.{is_idle, allowing};
+ghost use Rattle.announce_board.specs.Tokens.{is_idle};
 
 use crate::boxed_book::BoxedBook;
 use crate::rule::BoardSeat;
@@ -127,16 +127,6 @@ impl<S: Store<Entry<P>>, P: Part> Lead<S, P> {
         ensures kept { length self.now.book.journal ≤ result }
     {
         self.book.boxed.allowed()
-    }
-
-    /// The first so many lines of the journal are archived, or all where it has fewer. From now on it may
-    /// have as many more as memory keeps. Nothing else changes, and no step is made: the lead stays its pen's
-    /// own (`leading::law_leads_stay`).
-    pub fn archived(&mut self, lines: u64)
-        ensures { self.new ≡ allowing self.old (max self.old.book.allowed
-            (min lines (length self.old.book.journal) + page_of self.old.book.room)) }
-    {
-        self.book.boxed.archived(lines);
     }
 
     /// Copies the lines of the journal behind the first so many, which the archive has already, to its

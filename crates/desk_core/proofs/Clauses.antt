@@ -19,15 +19,15 @@ use Rattle.pq_types.specs.Queue.{IsPush}
 use Rattle.desk_core.specs.Answering.{IsBarred}
 use Rattle.pq_types.specs.Control.{kind_of, request_item, reply_item, answer_with, posted, answered, Carries, is_posted, is_answer}
 use Rattle.pq_types.specs.History.{line}
-use Rattle.desk_core.specs.Home.{Home}
+use Rattle.pq_book.specs.Book.{Volume}
 use Rattle.desk_core.specs.declared.model.Call.{Call}
 use Rattle.desk_core.specs.declared.model.Standing.{Standing}
 use Rattle.desk_core.specs.declared.model.Standing.TheVariants.{Idle, Waiting}
 use Rattle.desk_core.specs.declared.model.PenState.{PenState}
 use Rattle.desk_core.specs.Calls.{call, calls_of}
 use Rattle.desk_core.specs.Pen.{IsIdle}
-use Rattle.desk_core.specs.Desk.{Desk, Has, volume, put}
-use Rattle.desk_core.specs.Steps.{Drafts, Posts, Tries, Reads, ReadsItem, LaysItem, Answers, Applies, Releases, ReleasesBy, Looks, SeesItem, TakesItem}
+use Rattle.desk_core.specs.Desk.{Desk, Has, put}
+use Rattle.desk_core.specs.Steps.{Drafts, Posts, Tries, Reads, ReadsItem, LaysItem, Answers, Applies, Archives, Releases, ReleasesBy, Looks, SeesItem, TakesItem}
 use Rattle.desk_core.specs.Rule.{PenRule, RuleAt, Stands, fresh, idle, unanswered, entered, full, refused, barred, above_mine}
 use Rattle.desk_core.specs.Clauses.{HasNo, AnswerClause, ItemsClause, Clauses, RuleGivesClauses, EveryRunMeetsClauses, ItemsAreStored}
 use Rattle.desk_core.specs.Knows.{Knows, NoneAbove, LeadersKnow, HomeIsKnown}
@@ -222,20 +222,21 @@ pub rule_gives_clauses : RuleGivesClauses
 rule_gives_clauses d m = (m.0, clauses_hold d m.0 m.1 m.2)
 
 pub clauses_meet : QueueLaws → EveryRunMeetsClauses
-clauses_meet laws places room events d small run = rule_gives_clauses d (runs_meet laws places room events d small run)
+clauses_meet laws places limits events d small run = rule_gives_clauses d (runs_meet laws places limits events d small run)
 
 pub leaders_know : LeadersKnow
 leaders_know d seat p m a leads = subst (Knows d.room p) (sym (m.2.led seat p a leads).2) (knows d m.0 m.1 m.2 seat p a)
 
 pub home_is_known : HomeIsKnown
-home_is_known d seat p journal m a at_home =
+home_is_known d seat p book m a at_home =
     ⊎_elim
     (λ t.
-    (let e : Some (volume d.room m.0) ≡ Some (volume d.room journal) = sym t.1 ∙ at_home in
-    let g : volume d.room m.0 ≡ volume d.room journal = cc in
-    let f : m.0 ≡ journal = ap (λ (b : Home). b.journal) g in
-    subst (Knows d.room p) f (knows d m.0 m.1 m.2 seat p a)))
-    (λ t. absurd (let e : None ≡ Some (volume d.room journal) = sym t.1 ∙ at_home in cc))
+    (let e : Some t.1.book ≡ Some book = sym t.1.is ∙ at_home in
+    let f : t.1.book ≡ book = cc in (
+      ap (λ (b : Volume). b.room) (sym f) ∙ t.1.room_is,
+      subst (Knows d.room p) (sym t.1.journal_is ∙ ap (λ (b : Volume). b.journal) f) (knows d m.0 m.1 m.2 seat p a),
+    )))
+    (λ t. absurd (let e : None ≡ Some book = sym t.1 ∙ at_home in cc))
     m.2.lock
 
 -- an item cell changes where its idle pen drafts, or the leader lays
@@ -255,6 +256,7 @@ items_are_stored d e (Reads i k) place m (p, a, leads, inside, same) = inl (ap (
 items_are_stored d e (ReadsItem i) place m (p, due, a, leads, is_due, push, same) = inl (ap (λ (y : Desk). y.item place) same)
 items_are_stored d e (Answers i x) place m (p, due, q, a, leads, is_due, is_kind, known, laid, may, same) = inl (ap (λ (y : Desk). y.item place) same)
 items_are_stored d e (Applies i q x) place m (p, a, leads, free, few, proper, may, same) = inl (ap (λ (y : Desk). y.item place) same)
+items_are_stored d e (Archives i n) place m (p, a, leads, same) = inl (ap (λ (y : Desk). y.item place) same)
 items_are_stored d e (Releases i) place m (p, a, leads, same) = inl (ap (λ (y : Desk). y.item place) same)
 items_are_stored d e (ReleasesBy i q x) place m (p, a, leads, none, free, few, proper, may, same) = inl (ap (λ (y : Desk). y.item place) same)
 items_are_stored d e (Looks i) place m (p, q, a, waits, same) = inl (ap (λ (y : Desk). y.item place) same)

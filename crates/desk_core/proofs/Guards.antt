@@ -18,15 +18,15 @@ use Rattle.pq_types.specs.Item.{item}
 use Rattle.pq_types.specs.Control.{posted, answered, is_answer, request_item}
 use Rattle.pq_types.specs.Operation.{request_of}
 use Rattle.pq_types.specs.History.{line, SerialsRise}
-use Rattle.desk_core.specs.Home.{Home}
+use Rattle.pq_book.specs.Book.{Volume}
 use Rattle.desk_core.specs.Calls.{call, calls_of}
 use Rattle.desk_core.specs.Clauses.{LockClause, AnswerClause, CallsClause}
-use Rattle.desk_core.specs.Desk.{Desk, Has, volume, with_control, with_cell, locked, freed, with_pen, opening}
+use Rattle.desk_core.specs.Desk.{Desk, Has, volume, with_control, with_cell, locked, freed, with_pen, plain, opening}
 use Rattle.desk_core.specs.declared.model.Call.{Call}
 use Rattle.desk_core.specs.declared.model.PenState.{PenState}
 use Rattle.desk_core.specs.declared.model.Standing.TheVariants.{Idle, Waiting}
 use Rattle.desk_core.specs.declared.model.View.TheVariants.{Holder}
-use Rattle.desk_core.specs.Pen.{IsIdle, new_pen, after_draft, after_post, after_lead, due_to, after_read, after_read_item, after_lay, after_answer, after_release, after_look, after_see, after_take}
+use Rattle.desk_core.specs.Pen.{IsIdle, new_pen, after_draft, after_post, after_lead, due_to, after_read, after_read_item, after_lay, after_answer, after_release, after_look, after_see, after_take, book_with, book_in_hand}
 use Rattle.desk_core.specs.Guards.{AskingNeedsGuards, LeadingNeedsGuards}
 
 same_pen : (d : Desk) (i j : ℕ) (p q : PenState) → Has d.views i p → Has d.views j q → i ≡ j → p ≡ q
@@ -57,14 +57,14 @@ in_hand d journal seat p held has leads (inl (free, home, none)) = absurd (true�
 in_hand d journal seat p held has leads (inr (locked, out, (i, q, there, q_leads, hand, only))) =
     ap (λ (x : PenState). x.hand) (same_pen d seat i p q has there (only seat p has leads)) ∙ hand
 
-abbrev journal_in : Option Home → List Line
+abbrev journal_in : Option Volume → List Line
 journal_in None = []
 journal_in (Some book) = book.journal
 
 -- while it is free the journal is that of the Book at home
-at_home : (d : Desk) (journal now : List Line) → d.held ≡ false → d.home ≡ Some (volume d.room now) → LockClause d journal → now ≡ journal
-at_home d journal now free home (inl (is_free, book, none)) = ap journal_in (sym home ∙ book)
-at_home d journal now free home (inr (locked, out, more)) = absurd (true≢false (sym locked ∙ free))
+at_home : (d : Desk) (journal : List Line) (book : Volume) → d.held ≡ false → d.home ≡ Some book → LockClause d journal → book.journal ≡ journal
+at_home d journal book free home (inl (is_free, there, none)) = ap journal_in (sym home ∙ there.is) ∙ there.journal_is
+at_home d journal book free home (inr (locked, out, more)) = absurd (true≢false (sym locked ∙ free))
 
 -- a pen that posted again has no call of its first post, which the journal has
 lost_answer : (journal : List Line) (p : PenState) → p.place ≡ 0 → p.mine ≡ [] → p.standing ≡ Waiting Least → line 0 1 Pop Empty ∷ [] ≡ journal → CallsClause journal (posted 2 Least) p → ⊥
@@ -137,7 +137,7 @@ abbrev pushed : PenState
 pushed = after_post drafted (Push (item 5 7)) 0
 
 abbrev push_led : PenState
-push_led = after_lead pushed []
+push_led = after_lead pushed (volume (plain 4) [])
 
 abbrev push_read : PenState
 push_read = after_read push_led 0 (posted 1 (Push (item 5 7)))
@@ -147,7 +147,7 @@ abbrev popped : PenState
 popped = after_post (new_pen 4 0) Pop 0
 
 abbrev pop_led : PenState
-pop_led = after_lead popped []
+pop_led = after_lead popped (volume (plain 4) [])
 
 abbrev pop_read : PenState
 pop_read = after_read pop_led 0 (posted 1 Pop)
@@ -163,7 +163,7 @@ pop_over = after_look pop_released Pop (answered (Entered 1 Empty)) 1
 
 -- the pen at 1 leads, reads that pop and answers it
 abbrev other_led : PenState
-other_led = after_lead (new_pen 4 1) []
+other_led = after_lead (new_pen 4 1) (volume (plain 4) [])
 
 abbrev other_read : PenState
 other_read = after_read other_led 0 (posted 1 Pop)
@@ -172,7 +172,7 @@ abbrev other_answered : PenState
 other_answered = after_answer other_read (due_to 0 1 kind.Pop None) Pop (Entered 1 Empty)
 
 abbrev led_after : PenState
-led_after = after_lead popped (line 0 1 Pop Empty ∷ [])
+led_after = after_lead popped (volume (plain 4) (line 0 1 Pop Empty ∷ []))
 
 -- it answers that pop again
 abbrev other_again : PenState
@@ -189,7 +189,7 @@ abbrev popped_then : PenState
 popped_then = after_post (new_pen 4 0) Pop 1
 
 abbrev led_then : PenState
-led_then = after_lead popped_then []
+led_then = after_lead popped_then (volume (plain 4) [])
 
 abbrev first_read : PenState
 first_read = after_read led_then 1 (posted 1 (Push (item 5 7)))
@@ -208,7 +208,7 @@ second_answered = after_answer second_read (due_to 0 1 kind.Pop None) Pop (Enter
 
 -- the desks to which the runs and the wrong steps lead
 abbrev asked_pop : Desk
-asked_pop = with_pen (with_control (opening 2 4) 0 (posted 1 Pop)) 0 popped
+asked_pop = with_pen (with_control (opening 2 (plain 4)) 0 (posted 1 Pop)) 0 popped
 
 abbrev other_is_done : Desk
 other_is_done = with_pen (with_control (with_pen (with_pen (locked asked_pop) 1 other_led) 1 other_read) 0 (answered (Entered 1 Empty))) 1 other_answered
@@ -230,7 +230,7 @@ abbrev called_falsely : Desk
 called_falsely = with_pen asked_pop 0 got_nothing
 
 abbrev asked_push : Desk
-asked_push = with_pen (with_control (with_pen (with_cell (opening 2 4) 0 (item 5 7)) 0 drafted) 0 (posted 1 (Push (item 5 7)))) 0 pushed
+asked_push = with_pen (with_control (with_pen (with_cell (opening 2 (plain 4)) 0 (item 5 7)) 0 drafted) 0 (posted 1 (Push (item 5 7)))) 0 pushed
 
 abbrev seen_push : Desk
 seen_push = with_pen (with_pen (locked asked_push) 0 push_led) 0 push_read
@@ -243,7 +243,7 @@ entered_falsely = with_pen (with_control seen_push 0 (answered (Entered 1 Pushed
 
 abbrev both_asked : Desk
 both_asked =
-    with_pen (with_control (with_pen (with_control (with_pen (with_cell (opening 2 4) 1 (item 5 7)) 1 other_drafted) 1 (posted 1 (Push (item 5 7)))) 1 other_pushed) 0 (posted 1 Pop)) 0 popped_then
+    with_pen (with_control (with_pen (with_control (with_pen (with_cell (opening 2 (plain 4)) 1 (item 5 7)) 1 other_drafted) 1 (posted 1 (Push (item 5 7)))) 1 other_pushed) 0 (posted 1 Pop)) 0 popped_then
 
 abbrev first_done : Desk
 first_done = with_pen (with_control (with_pen (with_pen (with_pen (locked both_asked) 0 led_then) 0 first_read) 0 first_item) 1 (answered (Entered 1 Pushed))) 0 first_answered
@@ -255,13 +255,13 @@ abbrev pop_is_done : Desk
 pop_is_done = with_pen (with_control (with_pen (with_pen (locked asked_pop) 0 pop_led) 0 pop_read) 0 (answered (Entered 1 Empty))) 0 pop_answered
 
 abbrev left_empty : Desk
-left_empty = with_pen (freed pop_is_done []) 0 pop_released
+left_empty = with_pen (freed pop_is_done (book_with pop_answered [])) 0 pop_released
 
 abbrev read_unnoted : PenState
 read_unnoted = record (after_read led_after 0 (answered (Entered 1 Empty))) { own = led_after.own }
 
 abbrev not_noted : Desk
-not_noted = with_pen (with_pen (locked (with_pen (freed other_is_done (line 0 1 Pop Empty ∷ [])) 1 (after_release other_answered))) 0 led_after) 0 read_unnoted
+not_noted = with_pen (with_pen (locked (with_pen (freed other_is_done (book_in_hand other_answered)) 1 (after_release other_answered))) 0 led_after) 0 read_unnoted
 
 knows_not : (p q : PenState) → p ≡ q → q.posts ≡ 1 → q.standing ≡ Waiting Pop → is_answer q.own ≡ false → (1 < p.posts) ⊎ (IsIdle p.standing ⊎ (is_answer p.own ≡ true)) → ⊥
 knows_not p q e posts waits own (inl more) = let f = ap (λ (x : PenState). x.posts) e in omega (arith, f, posts, more)
@@ -284,7 +284,7 @@ asking_needs =
         (
           _,
           (new_pen 4 1, refl, inl (refl, (_, refl, refl))),
-          (_, (other_led, refl, refl, lit< tt, refl), (_, (other_read, due_to 0 1 kind.Pop None, Pop, refl, refl, refl, refl, tt, tt, (lit< tt, refl, refl, λ ends. refl), refl), refl)),
+          (_, (other_led, refl, refl, lit< tt, refl), (_, (other_read, due_to 0 1 kind.Pop None, Pop, refl, refl, refl, refl, tt, tt, (record { space = lit< tt; kept = lit< tt; heard = λ ends. refl; below = λ adds. lit< tt }, refl, refl), refl), refl)),
         ),
       );
       post = (popped, refl, lit< tt, tt, refl);
@@ -311,7 +311,7 @@ asking_needs =
             (pop_led, refl, refl, lit< tt, refl),
             (
               _,
-              (pop_read, due_to 0 1 kind.Pop None, Pop, refl, refl, refl, refl, tt, tt, (lit< tt, refl, refl, λ ends. refl), refl),
+              (pop_read, due_to 0 1 kind.Pop None, Pop, refl, refl, refl, refl, tt, tt, (record { space = lit< tt; kept = lit< tt; heard = λ ends. refl; below = λ adds. lit< tt }, refl, refl), refl),
               (_, (pop_answered, refl, refl, refl), (_, (pop_released, Pop, refl, refl, refl), refl)),
             ),
           ),
@@ -324,7 +324,7 @@ asking_needs =
       ask = (_, (new_pen 4 0, None, refl, refl, lit< tt, tt, tt, refl), refl);
       take = (popped, Pop, notice.Entered 1 outcome.Got, refl, refl, refl, refl);
       call_made_up = λ journal lock h.
-          made_up journal got_nothing refl refl refl (at_home called_falsely journal [] refl refl lock) (h 0 got_nothing refl);
+          made_up journal got_nothing refl refl refl (at_home called_falsely journal (volume (plain 4) []) refl refl lock) (h 0 got_nothing refl);
       seen = _;
       changed = _;
       see = (popped, Pop, notice.Entered 1 outcome.Got, refl, refl, refl, refl);
@@ -346,7 +346,7 @@ leading_needs =
         (new_pen 4 1, refl, (None, refl), (lit< tt, lit< tt), refl),
         (_, (other_drafted, Some (item 5 7), refl, refl, lit< tt, (lit< tt, lit< tt), refl, refl), (_, (new_pen 4 0, refl, inl (refl, (_, refl, refl))), refl)),
       );
-      lay = (after_lead (new_pen 4 0) [], due_to 1 1 kind.Pop None, refl, refl, (lit< tt, lit< tt), refl);
+      lay = (after_lead (new_pen 4 0) (volume (plain 4) []), due_to 1 1 kind.Pop None, refl, refl, (lit< tt, lit< tt), refl);
       item_lost = λ journal lock h. not_same ((h 1 other_pushed refl).posted (Push (item 5 7)) refl refl);
       read = _;
       laid_at_push = _;
@@ -363,7 +363,7 @@ leading_needs =
       pushed_item_lost = λ journal lock h.
           not_same ((h 0 (after_lay push_read (due_to 0 1 kind.Push None) (item 9 9)) refl).posted (Push (item 5 7)) refl refl);
       entered = _;
-      answer_unread = (push_read, due_to 0 1 kind.Push None, Push (item 9 9), refl, refl, refl, refl, tt, (lit< tt, refl, refl, λ ends. refl), refl);
+      answer_unread = (push_read, due_to 0 1 kind.Push None, Push (item 9 9), refl, refl, refl, refl, tt, (record { space = lit< tt; kept = lit< tt; heard = λ ends. refl; below = λ adds. lit< tt }, refl, refl), refl);
       other_entered = λ journal lock h.
           (let hand = in_hand entered_falsely journal 0 answered_falsely refl refl refl lock in
           ⊎_elim
@@ -395,7 +395,7 @@ leading_needs =
                   (first_read, due_to 1 1 kind.Push None, refl, refl, refl, refl, refl),
                   (
                     _,
-                    (first_item, due_to 1 1 kind.Push (Some (item 5 7)), Push (item 5 7), refl, refl, refl, refl, refl, tt, (lit< tt, refl, refl, λ ends. refl), refl),
+                    (first_item, due_to 1 1 kind.Push (Some (item 5 7)), Push (item 5 7), refl, refl, refl, refl, refl, tt, (record { space = lit< tt; kept = lit< tt; heard = λ ends. refl; below = λ adds. lit< tt }, refl, refl), refl),
                     (_, (first_answered, refl, refl, lit< tt, refl), refl),
                   ),
                 ),
@@ -404,7 +404,7 @@ leading_needs =
           ),
         ),
       );
-      answer_unlaid = (second_read, due_to 0 1 kind.Pop None, Pop, refl, refl, refl, refl, tt, (lit< tt, refl, refl, λ ends. refl), refl);
+      answer_unlaid = (second_read, due_to 0 1 kind.Pop None, Pop, refl, refl, refl, refl, tt, (record { space = lit< tt; kept = lit< tt; heard = λ ends. refl; below = λ adds. lit< tt }, refl, refl), refl);
       other_shown = λ journal lock h.
           (let hand = in_hand shown_falsely journal 0 second_answered refl refl refl lock in
           let at : slice_get journal 1 ≡ Some (line 0 1 Pop (Got (item 5 7))) = ap (λ (j : List Line). slice_get j 1) (sym hand) in
@@ -419,7 +419,7 @@ leading_needs =
           (λ t. let e : answered NoMemory ≡ posted 1 Pop = t in cc)
           (λ t. not_refused t.0 4 journal (after_answer pop_read (due_to 0 1 kind.Pop None) Pop NoMemory) t.1 t.2)
           ((h 0 (after_answer pop_read (due_to 0 1 kind.Pop None) Pop NoMemory) refl).waits Pop refl);
-      answer_and_owe = (pop_read, due_to 0 1 kind.Pop None, Pop, refl, refl, refl, refl, tt, tt, (lit< tt, refl, refl, λ ends. refl), refl);
+      answer_and_owe = (pop_read, due_to 0 1 kind.Pop None, Pop, refl, refl, refl, refl, tt, tt, (record { space = lit< tt; kept = lit< tt; heard = λ ends. refl; below = λ adds. lit< tt }, refl, refl), refl);
       due_twice = λ h.
           (let e : answered (Entered 1 Empty) ≡ posted 1 Pop = (h 0 (record pop_answered { due = Some (due_to 0 1 kind.Pop None) }) refl (due_to 0 1 kind.Pop None) refl).1 in cc);
       answered = _;
@@ -430,10 +430,10 @@ leading_needs =
         (
           _,
           (new_pen 4 1, refl, inl (refl, (_, refl, refl))),
-          (_, (other_led, refl, refl, lit< tt, refl), (_, (other_read, due_to 0 1 kind.Pop None, Pop, refl, refl, refl, refl, tt, tt, (lit< tt, refl, refl, λ ends. refl), refl), refl)),
+          (_, (other_led, refl, refl, lit< tt, refl), (_, (other_read, due_to 0 1 kind.Pop None, Pop, refl, refl, refl, refl, tt, tt, (record { space = lit< tt; kept = lit< tt; heard = λ ends. refl; below = λ adds. lit< tt }, refl, refl), refl), refl)),
         ),
       );
-      answer_again = (other_answered, popped, 0, Pop, refl, refl, refl, refl, refl, (lit< tt, refl, refl, λ ends. refl), refl);
+      answer_again = (other_answered, popped, 0, Pop, refl, refl, refl, refl, refl, (record { space = lit< tt; kept = lit< tt; heard = λ ends. refl; below = λ adds. lit< tt }, refl, refl), refl);
       call_missed = λ journal lock h. missed_call journal popped refl refl (in_hand done_again journal 1 other_again refl refl refl lock) (h 0 popped refl);
       serial_repeated = λ journal lock h. same_serial journal (in_hand done_again journal 1 other_again refl refl refl lock) h.rise;
       led = _;
@@ -449,7 +449,7 @@ leading_needs =
             (other_led, refl, refl, lit< tt, refl),
             (
               _,
-              (other_read, due_to 0 1 kind.Pop None, Pop, refl, refl, refl, refl, tt, tt, (lit< tt, refl, refl, λ ends. refl), refl),
+              (other_read, due_to 0 1 kind.Pop None, Pop, refl, refl, refl, refl, tt, tt, (record { space = lit< tt; kept = lit< tt; heard = λ ends. refl; below = λ adds. lit< tt }, refl, refl), refl),
               (_, (other_answered, refl, refl, refl), (_, (popped, refl, inl (refl, (_, refl, refl))), refl)),
             ),
           ),
@@ -461,8 +461,8 @@ leading_needs =
       leads = _;
       bookless = _;
       try = (_, (new_pen 4 0, refl, inl (refl, (_, refl, refl))), refl);
-      leave_out = (after_lead (new_pen 4 0) [], refl, refl, refl);
-      book_gone = λ journal lock. ⊎_elim (λ t. let e : None ≡ Some (volume 4 journal) = t.1 in cc) (λ t. let e : false ≡ true = t.0 in cc) lock;
+      leave_out = (after_lead (new_pen 4 0) (volume (plain 4) []), refl, refl, refl);
+      book_gone = λ journal lock. ⊎_elim (λ t. let e : None ≡ Some t.1.book = t.1.is in cc) (λ t. let e : false ≡ true = t.0 in cc) lock;
       done = _;
       emptied = _;
       answers = (
@@ -474,13 +474,13 @@ leading_needs =
           (
             _,
             (pop_led, refl, refl, lit< tt, refl),
-            (_, (pop_read, due_to 0 1 kind.Pop None, Pop, refl, refl, refl, refl, tt, tt, (lit< tt, refl, refl, λ ends. refl), refl), refl),
+            (_, (pop_read, due_to 0 1 kind.Pop None, Pop, refl, refl, refl, refl, tt, tt, (record { space = lit< tt; kept = lit< tt; heard = λ ends. refl; below = λ adds. lit< tt }, refl, refl), refl), refl),
           ),
         ),
       );
       empty = (pop_answered, refl, refl, refl);
       line_gone = λ journal lock h.
-          (let none = at_home left_empty journal [] refl refl lock in
+          (let none = at_home left_empty journal (volume (plain 4) []) refl refl lock in
           ⊎_elim
           (λ t. let e : answered (Entered 1 Empty) ≡ posted 1 Pop = t in cc)
           (λ t.

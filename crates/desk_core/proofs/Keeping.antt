@@ -7,21 +7,22 @@ use Rattle.pq_types.specs.Mail.{IsSerial, IsLineNumber, IsProperAnswerOf, IsProp
 use Rattle.desk_core.specs.declared.model.Standing.TheVariants.{Waiting}
 use Rattle.pq_types.specs.Control.{kind_of, request_item, answered, Carries}
 use Rattle.pq_types.specs.History.{left}
-use Rattle.desk_core.specs.Answering.{MayTellOf}
 use Rattle.pq_types.specs.Asked.{Answer}
 use Rattle.pq_types.specs.declared.answer.Answer.TheVariants.{Entered, BookFull, NoMemory, Refused}
 use Rattle.pq_types.specs.Asked.{Line}
 use Rattle.pq_types.specs.declared.journal.TheConstants.{GREATEST_NUMBER}
 use Rattle.desk_core.specs.declared.model.Due.{Due}
 use Rattle.desk_core.specs.declared.model.PenState.{PenState}
-use Rattle.desk_core.specs.Pen.{IsKept}
-use Rattle.desk_core.specs.Desk.{Desk, Has, volume}
+use Rattle.pq_types.specs.Operation.{Asked}
+use Rattle.desk_core.specs.Pen.{IsKept, limits_in_hand}
+use Rattle.desk_core.specs.Desk.{Desk, Has}
 use Rattle.desk_core.specs.Rule.{MeetsRule}
-use Rattle.desk_core.specs.Keeping.{DraftKeeps, PostKeeps, LeadKeeps, MissKeeps, ReadKeeps, ReadItemKeeps, LayItemKeeps, AnswerKeeps, ApplyKeeps, ReleaseKeeps, ReleaseByKeeps, LookKeeps, SeeItemKeeps, TakeItemKeeps, PensAreSeated, IsNew, DueIsNew}
+use Rattle.desk_core.specs.Keeping.{DraftKeeps, PostKeeps, LeadKeeps, MissKeeps, ReadKeeps, ReadItemKeeps, LayItemKeeps, AnswerKeeps, ApplyKeeps, ArchiveKeeps, ReleaseKeeps, ReleaseByKeeps, LookKeeps, SeeItemKeeps, TakeItemKeeps, PensAreSeated, IsNew, DueIsNew}
+use Rattle.desk_core.proofs.Loose.{MayTellOf, loosely}
 use Rattle.desk_core.proofs.Records.{kept_carries, same_request}
 use Rattle.desk_core.proofs.Journals.{QueueLaws}
 use Rattle.desk_core.proofs.Views.{same_pen}
-use Rattle.desk_core.proofs.StepFacts.{not_both_locks, draft_keeps, post_keeps, lead_keeps, miss_keeps, read_keeps, read_item_keeps, lay_keeps, answer_keeps, apply_keeps, release_keeps, release_by_keeps, look_keeps, see_keeps, take_keeps, poster, hand_below}
+use Rattle.desk_core.proofs.StepFacts.{not_both_locks, draft_keeps, post_keeps, lead_keeps, miss_keeps, read_keeps, read_item_keeps, lay_keeps, answer_keeps, apply_keeps, archive_keeps, release_keeps, release_by_keeps, look_keeps, see_keeps, take_keeps, poster, hand_below}
 
 pub draft : DraftKeeps
 draft d i p m a x free = (m.0, m.1, draft_keeps d m.0 m.1 m.2 i p a x free)
@@ -31,8 +32,8 @@ post d i p m a q draft now free few proper drafted = (m.0, m.1, post_keeps d m.0
 
 pub lead : LeadKeeps
 lead d i p m a free =
-    let at_home = ⊎_elim (λ t. t.1) (λ t. absurd (not_both_locks d.held free t.0)) m.2.lock in
-    (m.0, at_home, (m.0, i, lead_keeps d m.0 m.1 m.2 i p a (volume d.room m.0) free at_home))
+    let t = ⊎_elim (λ t. t.1) (λ t. absurd (not_both_locks d.held free t.0)) m.2.lock in
+    (t.book, t.is, t.room_is, (m.0, i, lead_keeps d m.0 m.1 m.2 i p a t.book free t.is))
 
 pub miss : MissKeeps
 miss d i p m a = (m.0, m.1, miss_keeps d m.0 m.1 m.2 i p a)
@@ -51,6 +52,9 @@ answer laws d i p m a due q x is_due is_kind known laid may = (_, m.1, answer_ke
 
 pub apply : QueueLaws → ApplyKeeps
 apply laws d i p m a q x now leads free few proper may = (_, m.1, apply_keeps d m.0 m.1 m.2 i p a now laws q x leads free few proper may)
+
+pub archive : ArchiveKeeps
+archive d i p m a n leads = (m.0, m.1, archive_keeps d m.0 m.1 m.2 i p a n)
 
 pub release : ReleaseKeeps
 release d i p m a leads = (m.0, m.1, release_keeps d m.0 m.1 m.2 i p a leads)
@@ -104,7 +108,7 @@ module _ (d : Desk) (i : ℕ) (p : PenState) (m : MeetsRule d) (a : Has d.views 
             (let there : o.0 ≡ i = m.2.seated.apart o.0 i v p o.2 a (o.3 ∙ e) in
             sym u.serial ∙ ap (λ (y : PenState). y.posts) (same_pen d.views i v p (subst (λ n. Has d.views n v) there o.2) a));
         proper = λ q is_kind known. (who_waits q is_kind known).6;
-        answers = λ q x may. may_proper laws d.room p.hand q x m.2.room_in_range (subst (λ js. AreItemsOf true (left js)) (sym (m.2.led i p a t.0).2) m.2.lawful.items) may;
+        answers = λ q x may. may_proper laws d.room p.hand q x m.2.room_in_range (subst (λ js. AreItemsOf true (left js)) (sym (m.2.led i p a t.0).2) m.2.lawful.items) (loosely (limits_in_hand p) d.room p.hand (Asked q) x (m.2.pens i p a).told may);
       }
 
 pub due_is_new : QueueLaws → DueIsNew

@@ -9,7 +9,7 @@ use Rattle.pq_types.specs.declared.control.Control.{Control}
 use Rattle.pq_types.specs.declared.control.Control.TheVariants.{Nothing, Posted}
 use Rattle.pq_types.specs.Asked.{Line}
 use Rattle.pq_types.specs.Control.{Carries}
-use Rattle.desk_core.specs.Home.{Home}
+use Rattle.pq_book.specs.Book.{Volume}
 use Rattle.desk_core.specs.declared.model.PenState.{PenState}
 use Rattle.desk_core.specs.declared.model.View.{View}
 use Rattle.desk_core.specs.declared.model.View.TheVariants.{Holder}
@@ -39,7 +39,7 @@ pub record Owes (d : Desk) (was : List Line) (after : Desk) (journal : List Line
 
 module _ (d : Desk) (journal : List Line) (chief : ℕ) (r : RuleAt d journal chief) (i : ℕ) (p : PenState) (a : Has d.views i p) where
   -- any step
-  pub keeps : (held : Bool) (control : ℕ → Control) (item : ℕ → Item) (home : Option Home) (js : List Line) (c : ℕ) (w : PenState)
+  pub keeps : (held : Bool) (control : ℕ → Control) (item : ℕ → Item) (home : Option Volume) (js : List Line) (c : ℕ) (w : PenState)
       → Owes d journal (becomes d held control item home i w) js c i p w
       → RuleAt (becomes d held control item home i w) js c
   keeps held control item home js c w o =

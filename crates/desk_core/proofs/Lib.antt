@@ -37,3 +37,5 @@ pub mod Guards
 pub mod Looking
 pub mod WorkedLooks
 pub mod Shut
+pub mod Loose
+pub mod Archiving

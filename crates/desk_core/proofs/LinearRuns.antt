@@ -8,7 +8,8 @@ use Rattle.pq_types.specs.Asked.{Answer}
 use Rattle.pq_types.specs.declared.control.Control.TheVariants.{Nothing}
 use Rattle.pq_types.specs.Asked.{Line}
 use Rattle.pq_types.specs.Control.{kind_of, posted}
-use Rattle.desk_core.specs.Home.{Home}
+use Rattle.pq_book.specs.Book.{Volume}
+use Rattle.pq_types.specs.History.{Limits}
 use Rattle.desk_core.specs.CallLines.{IsLineOf}
 use Rattle.desk_core.specs.Clauses.{HasNo, LockClause}
 use Rattle.desk_core.specs.Desk.{Desk, Has, volume, fresh_desk, pens_from, opening}
@@ -72,19 +73,19 @@ run_stands laws (x ∷ xs) d e old journal at run =
     }
 
 -- before all moves nobody has begun, and the journal is empty
-module _ (places room : ℕ) (views : List View) (meets : MeetsRule (fresh_desk places room views)) where
+module _ (places : ℕ) (limits : Limits) (views : List View) (meets : MeetsRule (fresh_desk places limits views)) where
   no_line : (place : ℕ) (c : Call) → IsLineOf [] place c → ⊥
   no_line place c u = let a = u.some in let b = u.within in omega (arith, a, b)
 
-  nobody_waits : (journal : List Line) (chief : ℕ) → RuleAt (fresh_desk places room views) journal chief → (i : ℕ) (p : PenState)
-      → Has (fresh_desk places room views).views i p → (q : Request) → p.standing ≡ Waiting q → ⊥
+  nobody_waits : (journal : List Line) (chief : ℕ) → RuleAt (fresh_desk places limits views) journal chief → (i : ℕ) (p : PenState)
+      → Has (fresh_desk places limits views).views i p → (q : Request) → p.standing ≡ Waiting q → ⊥
   nobody_waits journal chief r i p a q waits =
       ⊎_elim
       (λ u. (let f : Nothing ≡ posted p.posts q = u in not_nothing Nothing p.posts (kind_of q) f refl))
       (λ u. (let f : false ≡ true = u in cc))
-      (waiting_there room journal Nothing ((fresh_desk places room views).item p.place) p.place p.posts p.mine p.standing q waits (r.pens i p a).stands)
+      (waiting_there limits.room journal Nothing ((fresh_desk places limits views).item p.place) p.place p.posts p.mine p.standing q waits (r.pens i p a).stands)
 
-  opening_at : (journal : List Line) → journal ≡ [] → (chief : ℕ) → RuleAt (fresh_desk places room views) journal chief → At (fresh_desk places room views) [] journal
+  opening_at : (journal : List Line) → journal ≡ [] → (chief : ℕ) → RuleAt (fresh_desk places limits views) journal chief → At (fresh_desk places limits views) [] journal
   opening_at journal empty chief r =
       record {
         chief = chief;
@@ -98,28 +99,28 @@ module _ (places room : ℕ) (views : List View) (meets : MeetsRule (fresh_desk 
         waits = λ i p a q waits. absurd (nobody_waits journal chief r i p a q waits);
       }
 
-  starts_empty : (journal : List Line) (chief : ℕ) → RuleAt (fresh_desk places room views) journal chief → journal ≡ []
+  starts_empty : (journal : List Line) (chief : ℕ) → RuleAt (fresh_desk places limits views) journal chief → journal ≡ []
   starts_empty journal chief r =
       ⊎_elim
       (λ t.
-      (let e : Some (volume room []) ≡ Some (volume room journal) = t.1 in
-      let f : volume room [] ≡ volume room journal = cc in
-      sym (ap (λ (b : Home). b.journal) f)))
+      (let e : Some (volume limits []) ≡ Some t.1.book = t.1.is in
+      let f : volume limits [] ≡ t.1.book = cc in
+      sym (ap (λ (b : Volume). b.journal) f ∙ t.1.journal_is)))
       (λ t. absurd (let e : false ≡ true = t.0 in cc))
       r.lock
 
-  pub begins_at : (journal : List Line) × At (fresh_desk places room views) [] journal
+  pub begins_at : (journal : List Line) × At (fresh_desk places limits views) [] journal
   begins_at = (meets.0, opening_at meets.0 (starts_empty meets.0 meets.1 meets.2) meets.1 meets.2)
 
-  turns_at : QueueLaws → (moves : List Move) (d : Desk) → (run : DealtRun (fresh_desk places room views) moves d)
-      → TakeTurns (λ _. 0) (λ _. false) (dealt_history (fresh_desk places room views) moves d run)
-  turns_at laws moves d run = take_turns laws (fresh_desk places room views) moves d meets run (nobody_waits meets.0 meets.1 meets.2)
+  turns_at : QueueLaws → (moves : List Move) (d : Desk) → (run : DealtRun (fresh_desk places limits views) moves d)
+      → TakeTurns (λ _. 0) (λ _. false) (dealt_history (fresh_desk places limits views) moves d run)
+  turns_at laws moves d run = take_turns laws (fresh_desk places limits views) moves d meets run (nobody_waits meets.0 meets.1 meets.2)
 
   -- where any run stands
-  pub stands_at : QueueLaws → (moves : List Move) (d : Desk) → (run : DealtRun (fresh_desk places room views) moves d)
-      → (journal : List Line) × At d (dealt_history (fresh_desk places room views) moves d run) journal × (d.room ≡ room)
+  pub stands_at : QueueLaws → (moves : List Move) (d : Desk) → (run : DealtRun (fresh_desk places limits views) moves d)
+      → (journal : List Line) × At d (dealt_history (fresh_desk places limits views) moves d run) journal × (d.room ≡ limits.room)
   stands_at laws moves d run =
-      let t = run_stands laws moves (fresh_desk places room views) d [] begins_at.0 begins_at.1 run in (t.now, t.at, t.room)
+      let t = run_stands laws moves (fresh_desk places limits views) d [] begins_at.0 begins_at.1 run in (t.now, t.at, t.room)
 
 pub at_lock : (d : Desk) (history : List Act) (journal : List Line) → At d history journal → LockClause d journal
 at_lock d history journal at = (clauses_hold d journal at.chief at.rule).lock
@@ -130,23 +131,23 @@ linearizes d history journal at turns =
     record { turns = turns; legal = at.rule.lawful.legal; once = at.rule.lawful.rise; heeds = at.rule.lawful.heeds; begun = at.kept.begun; ended = at.kept.ended; order = at.kept.order }
 
 -- so all runs from a fresh desk are linearizable
-module _ (laws : QueueLaws) (places room : ℕ) (views : List View) (meets : MeetsRule (fresh_desk places room views)) where
-  pub linearized : (moves : List Move) (d : Desk) → (run : DealtRun (fresh_desk places room views) moves d)
-      → (journal : List Line) × LockClause d journal × Linearizes room (dealt_history (fresh_desk places room views) moves d run) journal
+module _ (laws : QueueLaws) (places : ℕ) (limits : Limits) (views : List View) (meets : MeetsRule (fresh_desk places limits views)) where
+  pub linearized : (moves : List Move) (d : Desk) → (run : DealtRun (fresh_desk places limits views) moves d)
+      → (journal : List Line) × LockClause d journal × Linearizes limits.room (dealt_history (fresh_desk places limits views) moves d run) journal
   linearized moves d run =
-      let t = stands_at places room views meets laws moves d run in
-      let seen = dealt_history (fresh_desk places room views) moves d run in
-      (t.0, at_lock d seen t.0 t.1, subst (λ n. Linearizes n seen t.0) t.2 (linearizes d seen t.0 t.1 (turns_at places room views meets laws moves d run)))
+      let t = stands_at places limits views meets laws moves d run in
+      let seen = dealt_history (fresh_desk places limits views) moves d run in
+      (t.0, at_lock d seen t.0 t.1, subst (λ n. Linearizes n seen t.0) t.2 (linearizes d seen t.0 t.1 (turns_at places limits views meets laws moves d run)))
 
-  module _ (before after : List Move) (m d : Desk) (journal journal' : List Line) (past : DealtRun (fresh_desk places room views) before m) (here : LockClause m journal) (rest : DealtRun m after d)
+  module _ (before after : List Move) (m d : Desk) (journal journal' : List Line) (past : DealtRun (fresh_desk places limits views) before m) (here : LockClause m journal) (rest : DealtRun m after d)
       (there : LockClause d journal') where
     old : List Act
-    old = dealt_history (fresh_desk places room views) before m past
+    old = dealt_history (fresh_desk places limits views) before m past
 
     at_m : At m old journal
     unfolding old
     at_m =
-        let t = stands_at places room views meets laws before m past in
+        let t = stands_at places limits views meets laws before m past in
         subst (At m old) (one_journal m t.0 journal (at_lock m old t.0 t.1) here) t.1
 
     further : Further m old journal d (dealt_history m after d rest)
@@ -159,7 +160,7 @@ module _ (laws : QueueLaws) (places room : ℕ) (views : List View) (meets : Mee
     longer = subst (λ js. StartsWith js journal) same_end further.starts
 
     pub ends_before : (place : ℕ) (c : Call) → IsLineOf journal' place c → (answer : Answer)
-        → IsIn (dealt_history (fresh_desk places room views) before m past) (Ends place c.serial answer) → c.number ≤ length journal
+        → IsIn (dealt_history (fresh_desk places limits views) before m past) (Ends place c.serial answer) → c.number ≤ length journal
     unfolding old
     ends_before place c l answer u =
         (further.was place c (at_m.kept.over place c.serial answer u) (subst (λ js. IsLineOf js place c) (sym same_end) l)).within
@@ -175,17 +176,17 @@ module _ (laws : QueueLaws) (places room : ℕ) (views : List View) (meets : Mee
 -- of a desk that opens with a dealer
 module _ (laws : QueueLaws) where
   pub every_dealt_run_is_linearizable : EveryDealtRunIsLinearizable
-  every_dealt_run_is_linearizable places room moves d small run = linearized laws places room (Dealer 0 room ∷ []) (openings_meet.dealer places room small) moves d run
+  every_dealt_run_is_linearizable places limits moves d small run = linearized laws places limits (Dealer 0 limits.room ∷ []) (openings_meet.dealer places limits small) moves d run
 
   pub dealt_order_stays : DealtOrderStays
-  dealt_order_stays places room before after m d journal journal' small past here rest there =
-      longer laws places room (Dealer 0 room ∷ []) (openings_meet.dealer places room small) before after m d journal journal' past here rest there
+  dealt_order_stays places limits before after m d journal journal' small past here rest there =
+      longer laws places limits (Dealer 0 limits.room ∷ []) (openings_meet.dealer places limits small) before after m d journal journal' past here rest there
 
   pub dealt_lines_are_within_calls : DealtLinesAreWithinCalls
-  dealt_lines_are_within_calls places room before after m d journal journal' small past here rest there place c l =
-      let meets = openings_meet.dealer places room small in (
-        ends_before laws places room (Dealer 0 room ∷ []) meets before after m d journal journal' past here rest there place c l,
-        begins_behind laws places room (Dealer 0 room ∷ []) meets before after m d journal journal' past here rest there place c l,
+  dealt_lines_are_within_calls places limits before after m d journal journal' small past here rest there place c l =
+      let meets = openings_meet.dealer places limits small in (
+        ends_before laws places limits (Dealer 0 limits.room ∷ []) meets before after m d journal journal' past here rest there place c l,
+        begins_behind laws places limits (Dealer 0 limits.room ∷ []) meets before after m d journal journal' past here rest there place c l,
       )
 
 -- steps alone are such a run, of which callers see the same
@@ -206,27 +207,27 @@ same_history d (x ∷ xs) e run = ap (λ more. acts d x run.0 run.1 ++ more) (sa
 -- of one whose pens are all out
 module _ (laws : QueueLaws) where
   pub every_run_is_linearizable : EveryRunIsLinearizable
-  every_run_is_linearizable places room events d small run =
-      let t = linearized laws places room (pens_from room places 0) (openings_meet.pens places room small) (taken events) d (taken_run (opening places room) events d run) in
-      (t.0, t.1, subst (λ seen. Linearizes room seen t.0) (same_history (opening places room) events d run) t.2)
+  every_run_is_linearizable places limits events d small run =
+      let t = linearized laws places limits (pens_from limits.room places 0) (openings_meet.pens places limits small) (taken events) d (taken_run (opening places limits) events d run) in
+      (t.0, t.1, subst (λ seen. Linearizes limits.room seen t.0) (same_history (opening places limits) events d run) t.2)
 
   pub order_stays : OrderStays
-  order_stays places room before after m d journal journal' small past here rest there =
-      longer laws places room (pens_from room places 0) (openings_meet.pens places room small) (taken before) (taken after) m d journal journal'
-      (taken_run (opening places room) before m past)
+  order_stays places limits before after m d journal journal' small past here rest there =
+      longer laws places limits (pens_from limits.room places 0) (openings_meet.pens places limits small) (taken before) (taken after) m d journal journal'
+      (taken_run (opening places limits) before m past)
       here
       (taken_run m after d rest)
       there
 
   pub lines_are_within_calls : LinesAreWithinCalls
-  lines_are_within_calls places room before after m d journal journal' small past here rest there place c l =
-      let meets = openings_meet.pens places room small in
-      let first = taken_run (opening places room) before m past in
+  lines_are_within_calls places limits before after m d journal journal' small past here rest there place c l =
+      let meets = openings_meet.pens places limits small in
+      let first = taken_run (opening places limits) before m past in
       let second = taken_run m after d rest in (
         λ answer u.
-            ends_before laws places room (pens_from room places 0) meets (taken before) (taken after) m d journal journal' first here second there place c l answer
-            (subst (λ seen. IsIn seen (Ends place c.serial answer)) (sym (same_history (opening places room) before m past)) u),
+            ends_before laws places limits (pens_from limits.room places 0) meets (taken before) (taken after) m d journal journal' first here second there place c l answer
+            (subst (λ seen. IsIn seen (Ends place c.serial answer)) (sym (same_history (opening places limits) before m past)) u),
         λ operation u.
-            begins_behind laws places room (pens_from room places 0) meets (taken before) (taken after) m d journal journal' first here second there place c l operation
+            begins_behind laws places limits (pens_from limits.room places 0) meets (taken before) (taken after) m d journal journal' first here second there place c l operation
             (subst (λ seen. IsIn seen (Begins place c.serial operation)) (sym (same_history m after d rest)) u),
       )

@@ -14,13 +14,12 @@ use Rattle.pq_types.specs.declared.control.Control.TheVariants.{Answered}
 use Rattle.pq_types.specs.Asked.{Line}
 use Rattle.pq_types.specs.Control.{answer_with, request_item, answer_item, answered, Carries, is_answer}
 use Rattle.pq_types.specs.History.{line_of, journal_by, journal_after}
-use Rattle.desk_core.specs.Answering.{MayTellOf, MayTell}
 use Rattle.desk_core.specs.Calls.{call, calls_of, gained}
 use Rattle.desk_core.specs.CallLines.{IsLineOf}
 use Rattle.desk_core.specs.Clauses.{HasNo}
-use Rattle.desk_core.specs.Pen.{IsIdle, told_by, standing_told, after_draft, after_post, after_lead, after_miss, after_read, after_read_item, after_lay, after_answer, after_release, after_release_by, after_look, after_see, after_take, after_apply}
+use Rattle.desk_core.specs.Pen.{IsIdle, told_by, standing_told, after_draft, after_post, after_lead, after_miss, after_read, after_read_item, after_lay, after_answer, after_release, after_release_by, after_look, after_see, after_take, after_apply, after_archive}
 use Rattle.desk_core.specs.Desk.{Desk, Has, time}
-use Rattle.desk_core.specs.Steps.{Event, Drafts, Posts, Tries, Reads, ReadsItem, LaysItem, Answers, Releases, ReleasesBy, Looks, SeesItem, TakesItem, Step, Applies}
+use Rattle.desk_core.specs.Steps.{Event, Drafts, Posts, Tries, Reads, ReadsItem, LaysItem, Answers, Releases, ReleasesBy, Looks, SeesItem, TakesItem, Step, Applies, Archives}
 use Rattle.desk_core.specs.Rule.{StartsWith, RuleAt, above_mine}
 use Rattle.desk_core.specs.Notes.{after_catch_up, after_writing, after_hearing}
 use Rattle.desk_core.specs.Linearizable.{Act, Begins, Ends, IsIn, Precedes, IsTrueOf, told, acts}
@@ -31,12 +30,13 @@ use Rattle.desk_core.specs.declared.model.Duty.TheVariants.{Asleep, Retired}
 use Rattle.desk_core.specs.declared.model.PenState.{PenState}
 use Rattle.desk_core.specs.declared.model.View.{View}
 use Rattle.desk_core.specs.declared.model.View.TheVariants.{Holder, Note, Testimony}
+use Rattle.desk_core.proofs.Loose.{MayTell}
 use Rattle.desk_core.proofs.Records.{kept_carries, same_request, told_is, with_cell_answer, notice_back}
 use Rattle.desk_core.proofs.Journals.{QueueLaws, all_weaker, get_last, lines_below}
 use Rattle.desk_core.proofs.Splits.{split_keeps, each_dealt, stays_out}
 use Rattle.desk_core.proofs.Views.{has_here, has_else, each_after, same_pen}
 use Rattle.desk_core.proofs.Stand.{barred_stands, own_bars, not_idle, full_stands, answered_stands}
-use Rattle.desk_core.proofs.StepFacts.{draft_keeps, post_keeps, lead_keeps, miss_keeps, read_keeps, read_item_keeps, lay_keeps, answer_keeps, release_keeps, release_by_keeps, look_keeps, see_keeps, take_keeps, poster, apply_keeps}
+use Rattle.desk_core.proofs.StepFacts.{draft_keeps, post_keeps, lead_keeps, miss_keeps, read_keeps, read_item_keeps, lay_keeps, answer_keeps, release_keeps, release_by_keeps, look_keeps, see_keeps, take_keeps, poster, apply_keeps, archive_keeps, may_answer}
 use Rattle.desk_core.proofs.Clauses.{knows}
 use Rattle.desk_core.proofs.CallLines.{calls_are_lines}
 use Rattle.desk_core.specs.Testimonies.{after_retiring, after_sleeping, after_waking}
@@ -379,7 +379,7 @@ module _ (laws : QueueLaws) (d : Desk) (old : List Act) (journal : List Line) (a
   step_at (Tries i) e (p, a, c) =
       ⊎_elim
       (λ u.
-      asks_on e i p (after_lead p u.1.0.journal) i a (ap (λ (y : Desk). y.views) u.1.2) (ap (λ (y : Desk). y.room) u.1.2) refl refl refl
+      asks_on e i p (after_lead p u.1.0) i a (ap (λ (y : Desk). y.views) u.1.2) (ap (λ (y : Desk). y.room) u.1.2) refl refl refl
       (subst (λ y. RuleAt y journal i) (sym u.1.2) (lead_keeps d journal at.chief at.rule i p a u.1.0 u.0 u.1.1)))
       (λ u.
       asks_on e i p (after_miss p) at.chief a (ap (λ (y : Desk). y.views) u.1) (ap (λ (y : Desk). y.room) u.1) refl refl refl
@@ -426,7 +426,7 @@ module _ (laws : QueueLaws) (d : Desk) (old : List Act) (journal : List Line) (a
       let k = p.place in
       let s = p.posts + 1 in
       let w = after_apply p q x (time d) in
-      let may : MayTellOf d.room journal q x = subst (λ js. MayTellOf d.room js q x) (r.led i p a leads).2 may_hand in
+      let may = may_answer d journal at.chief r i p a (Asked q) x leads may_hand in
       let js = journal_after journal k s q x in
       let new = Begins k s (Asked q) ∷ Ends k s x ∷ [] in
       let t : Steps d e i p w = record { has = a; views = ap (λ (y : Desk). y.views) same; room = ap (λ (y : Desk). y.room) same; place = refl; posts = omega arith; idle = λ u. inl (omega arith) } in
@@ -439,6 +439,9 @@ module _ (laws : QueueLaws) (d : Desk) (old : List Act) (journal : List Line) (a
       (own_true d journal at.chief r i p a (Asked q) x may)
       (unused d journal at.chief r i p a))
       (λ y z. absurd (never_waits None y z))
+  step_at (Archives i n) e (p, a, leads, same) =
+      asks_on e i p (after_archive p n) at.chief a (ap (λ (y : Desk). y.views) same) (ap (λ (y : Desk). y.room) same) refl refl refl
+      (subst (λ y. RuleAt y journal at.chief) (sym same) (archive_keeps d journal at.chief at.rule i p a n))
   step_at (Releases i) e (p, a, leads, same) =
       asks_on e i p (after_release p) at.chief a (ap (λ (y : Desk). y.views) same) (ap (λ (y : Desk). y.room) same) refl refl refl
       (subst (λ y. RuleAt y journal at.chief) (sym same) (release_keeps d journal at.chief at.rule i p a leads))
@@ -447,7 +450,7 @@ module _ (laws : QueueLaws) (d : Desk) (old : List Act) (journal : List Line) (a
       let k = p.place in
       let s = p.posts + 1 in
       let w = after_release_by p q x (time d) in
-      let may : MayTell d.room journal q x = subst (λ js. MayTell d.room js q x) (r.led i p a leads).2 may_hand in
+      let may = may_answer d journal at.chief r i p a q x leads may_hand in
       let js = journal_by journal k s q x in
       let new = Begins k s q ∷ Ends k s x ∷ [] in
       let t : Steps d e i p w = record { has = a; views = ap (λ (y : Desk). y.views) same; room = ap (λ (y : Desk). y.room) same; place = refl; posts = omega arith; idle = λ u. inl (omega arith) } in

@@ -5,6 +5,7 @@ use Rattle.std.proofs.Math.Seq.{take-append_seam}
 use Rattle.pq_types.specs.Asked.{Operation}
 use Rattle.pq_types.specs.Asked.{Answer}
 use Rattle.pq_types.specs.Asked.{Line}
+use Rattle.pq_types.specs.History.{Limits}
 use Rattle.desk_core.specs.CallLines.{IsLineOf}
 use Rattle.desk_core.specs.Clauses.{LockClause}
 use Rattle.desk_core.specs.Desk.{Desk, fresh_desk, pens_from, opening}
@@ -132,22 +133,22 @@ module _ (place : ℕ) (found : List Line) where
   cut d e (x ∷ xs) run i is = later d e x xs run refl (λ j u. cut run.0 e xs run.2 j u) i is
 
 -- of all runs from a fresh desk
-module _ (laws : QueueLaws) (places room : ℕ) (views : List View) (meets : MeetsRule (fresh_desk places room views)) where
+module _ (laws : QueueLaws) (places : ℕ) (limits : Limits) (views : List View) (meets : MeetsRule (fresh_desk places limits views)) where
   -- the journal at a look is what it finds
-  found_there : (before : List Move) (m next : Desk) (seat : ℕ) → DealtRun (fresh_desk places room views) before m → (step : StepsRelease m seat next)
+  found_there : (before : List Move) (m next : Desk) (seat : ℕ) → DealtRun (fresh_desk places limits views) before m → (step : StepsRelease m seat next)
       → LockClause m step.0.hand
   found_there before m next seat past step =
-      let t = stands_at places room views meets laws before m past in
-      subst (LockClause m) (sym (t.1.rule.led seat step.0 step.1 step.2).2) (at_lock m (dealt_history (fresh_desk places room views) before m past) t.0 t.1)
+      let t = stands_at places limits views meets laws before m past in
+      subst (LockClause m) (sym (t.1.rule.led seat step.0 step.1 step.2).2) (at_lock m (dealt_history (fresh_desk places limits views) before m past) t.0 t.1)
 
-  module _ (moves : List Move) (d : Desk) (run : DealtRun (fresh_desk places room views) moves d) (journal : List Line) (lock : LockClause d journal) (i place : ℕ) (found : List Line)
-      (c : Cut (fresh_desk places room views) d moves run i place found) where
+  module _ (moves : List Move) (d : Desk) (run : DealtRun (fresh_desk places limits views) moves d) (journal : List Line) (lock : LockClause d journal) (i place : ℕ) (found : List Line)
+      (c : Cut (fresh_desk places limits views) d moves run i place found) where
     abbrev seen : List Sight
-    seen = dealt_sights (fresh_desk places room views) moves d run
+    seen = dealt_sights (fresh_desk places limits views) moves d run
 
     -- before the look, and after it
     abbrev old : List Sight
-    old = dealt_sights (fresh_desk places room views) c.before c.m c.past
+    old = dealt_sights (fresh_desk places limits views) c.before c.m c.past
 
     abbrev more : List Sight
     more = dealt_sights c.next c.after d c.rest
@@ -164,20 +165,20 @@ module _ (laws : QueueLaws) (places room : ℕ) (views : List View) (meets : Mee
         ∙ (ap (λ n. take n (old ++ Looked place found ∷ more)) (sym c.counted)
         ∙ take-append_seam old (Looked place found ∷ more))
 
-    past_linearizes : Linearizes room (acts_among (take i seen)) found
+    past_linearizes : Linearizes limits.room (acts_among (take i seen)) found
     past_linearizes =
-        let t = linearized laws places room views meets c.before c.m c.past in
-        subst (λ (s : List Sight). Linearizes room (acts_among s) found) (sym past_alone)
-        (subst (λ (s : List Act). Linearizes room s found) (sym (same_acts (fresh_desk places room views) c.m c.before c.past))
-        (subst (Linearizes room (dealt_history (fresh_desk places room views) c.before c.m c.past)) (one_journal c.m t.0 found t.1 here) t.2))
+        let t = linearized laws places limits views meets c.before c.m c.past in
+        subst (λ (s : List Sight). Linearizes limits.room (acts_among s) found) (sym past_alone)
+        (subst (λ (s : List Act). Linearizes limits.room s found) (sym (same_acts (fresh_desk places limits views) c.m c.before c.past))
+        (subst (Linearizes limits.room (dealt_history (fresh_desk places limits views) c.before c.m c.past)) (one_journal c.m t.0 found t.1 here) t.2))
 
     ended_there : (end k : ℕ) (answer : Answer) (b : Call) → end < i → slice_get seen end ≡ Some (Called (Ends k b.serial answer)) → IsLineOf journal k b → b.number ≤ length found
     ended_there end k answer b lt is line =
         let counted = c.counted in
         ⊎_elim
         (λ t.
-        ends_before laws places room views meets c.before (Takes (Releases c.seat) ∷ c.after) c.m d found journal c.past here goes_on lock k b line answer
-        (subst (λ (s : List Act). IsIn s (Ends k b.serial answer)) (same_acts (fresh_desk places room views) c.m c.before c.past)
+        ends_before laws places limits views meets c.before (Takes (Releases c.seat) ∷ c.after) c.m d found journal c.past here goes_on lock k b line answer
+        (subst (λ (s : List Act). IsIn s (Ends k b.serial answer)) (same_acts (fresh_desk places limits views) c.m c.before c.past)
         (act_in old end (Ends k b.serial answer) t.1)))
         (λ t. absurd (let e = t.1 in omega (arith, lt, e, counted)))
         (get_cases old (Looked place found ∷ more) end (Called (Ends k b.serial answer))
@@ -191,44 +192,44 @@ module _ (laws : QueueLaws) (places room : ℕ) (views : List View) (meets : Mee
         ⊎_elim
         (λ t. absurd (let e = t.0 in omega (arith, lt, e, counted)))
         (λ t.
-        begins_behind laws places room views meets c.before (Takes (Releases c.seat) ∷ c.after) c.m d found journal c.past here goes_on lock k b line operation
+        begins_behind laws places limits views meets c.before (Takes (Releases c.seat) ∷ c.after) c.m d found journal c.past here goes_on lock k b line operation
         (subst (λ (s : List Act). IsIn s (Begins k b.serial operation)) (same_acts c.next d c.after c.rest)
         (act_in (Looked place found ∷ more) t.0 (Begins k b.serial operation) t.2)))
         (get_cases old (Looked place found ∷ more) begin (Called (Begins k b.serial operation))
         (subst (λ (s : List Sight). slice_get s begin ≡ Some (Called (Begins k b.serial operation))) c.parts is))
 
-    placed : IsPlaced room (dealt_sights (fresh_desk places room views) moves d run) journal i found
+    placed : IsPlaced limits.room (dealt_sights (fresh_desk places limits views) moves d run) journal i found
     placed =
         record {
-          starts = longer laws places room views meets c.before (Takes (Releases c.seat) ∷ c.after) c.m d found journal c.past here goes_on lock;
+          starts = longer laws places limits views meets c.before (Takes (Releases c.seat) ∷ c.after) c.m d found journal c.past here goes_on lock;
           linearizes = past_linearizes;
           ended = ended_there;
           begun = begun_there;
         }
 
-  rises : (moves : List Move) (d : Desk) (run : DealtRun (fresh_desk places room views) moves d) (i j place place' : ℕ) (found found' : List Line) → i < j
-      → slice_get (dealt_sights (fresh_desk places room views) moves d run) i ≡ Some (Looked place found)
-      → slice_get (dealt_sights (fresh_desk places room views) moves d run) j ≡ Some (Looked place' found')
+  rises : (moves : List Move) (d : Desk) (run : DealtRun (fresh_desk places limits views) moves d) (i j place place' : ℕ) (found found' : List Line) → i < j
+      → slice_get (dealt_sights (fresh_desk places limits views) moves d run) i ≡ Some (Looked place found)
+      → slice_get (dealt_sights (fresh_desk places limits views) moves d run) j ≡ Some (Looked place' found')
       → StartsWith found' found
   rises moves d run i j place place' found found' lt is is' =
-      let c = cut place' found' (fresh_desk places room views) d moves run j is' in
+      let c = cut place' found' (fresh_desk places limits views) d moves run j is' in
       let counted = c.counted in
       let here = subst (LockClause c.m) c.hand (found_there c.before c.m c.next c.seat c.past c.step) in
       ⊎_elim
-      (λ t. (placed c.before c.m c.past found' here i place found (cut place found (fresh_desk places room views) c.m c.before c.past i t.1)).starts)
+      (λ t. (placed c.before c.m c.past found' here i place found (cut place found (fresh_desk places limits views) c.m c.before c.past i t.1)).starts)
       (λ t. absurd (let e = t.1 in omega (arith, lt, e, counted)))
-      (get_cases (dealt_sights (fresh_desk places room views) c.before c.m c.past) (Looked place' found' ∷ dealt_sights c.next c.after d c.rest) i (Looked place found)
+      (get_cases (dealt_sights (fresh_desk places limits views) c.before c.m c.past) (Looked place' found' ∷ dealt_sights c.next c.after d c.rest) i (Looked place found)
       (subst (λ (s : List Sight). slice_get s i ≡ Some (Looked place found)) c.parts is))
 
-  looks_linearized : (moves : List Move) (d : Desk) → (run : DealtRun (fresh_desk places room views) moves d)
-      → (journal : List Line) × LockClause d journal × LinearizesLooks room (dealt_sights (fresh_desk places room views) moves d run) journal
+  looks_linearized : (moves : List Move) (d : Desk) → (run : DealtRun (fresh_desk places limits views) moves d)
+      → (journal : List Line) × LockClause d journal × LinearizesLooks limits.room (dealt_sights (fresh_desk places limits views) moves d run) journal
   looks_linearized moves d run =
-      let t = linearized laws places room views meets moves d run in (
+      let t = linearized laws places limits views meets moves d run in (
         t.0,
         t.1,
         record {
-          calls = subst (λ (s : List Act). Linearizes room s t.0) (sym (same_acts (fresh_desk places room views) d moves run)) t.2;
-          looks = λ i place found is. placed moves d run t.0 t.1 i place found (cut place found (fresh_desk places room views) d moves run i is);
+          calls = subst (λ (s : List Act). Linearizes limits.room s t.0) (sym (same_acts (fresh_desk places limits views) d moves run)) t.2;
+          looks = λ i place found is. placed moves d run t.0 t.1 i place found (cut place found (fresh_desk places limits views) d moves run i is);
           rise = rises moves d run;
         },
       )
@@ -257,11 +258,11 @@ looks_are_more =
 
 module _ (laws : QueueLaws) where
   pub every_dealt_run_linearizes_looks : EveryDealtRunLinearizesLooks
-  every_dealt_run_linearizes_looks places room moves d small run =
-      looks_linearized laws places room (Dealer 0 room ∷ []) (openings_meet.dealer places room small) moves d run
+  every_dealt_run_linearizes_looks places limits moves d small run =
+      looks_linearized laws places limits (Dealer 0 limits.room ∷ []) (openings_meet.dealer places limits small) moves d run
 
   pub every_run_linearizes_looks : EveryRunLinearizesLooks
-  every_run_linearizes_looks places room events d small run =
+  every_run_linearizes_looks places limits events d small run =
       let t =
-      looks_linearized laws places room (pens_from room places 0) (openings_meet.pens places room small) (taken events) d (taken_run (opening places room) events d run) in
-      (t.0, t.1, subst (λ (s : List Sight). LinearizesLooks room s t.0) (same_sights (opening places room) events d run) t.2)
+      looks_linearized laws places limits (pens_from limits.room places 0) (openings_meet.pens places limits small) (taken events) d (taken_run (opening places limits) events d run) in
+      (t.0, t.1, subst (λ (s : List Sight). LinearizesLooks limits.room s t.0) (same_sights (opening places limits) events d run) t.2)

@@ -6,12 +6,12 @@ use native.Mathlib.Decide.{ℕ_discrete}
 use Rattle.pq_types.specs.Item.{Item}
 use Rattle.pq_types.specs.declared.control.Control.{Control}
 use Rattle.pq_types.specs.Control.{posted, answered, is_answer}
-use Rattle.desk_core.specs.Home.{Home}
+use Rattle.pq_book.specs.Book.{Volume}
 use Rattle.desk_core.specs.declared.model.PenState.{PenState}
 use Rattle.desk_core.specs.declared.model.View.TheVariants.{Holder}
-use Rattle.desk_core.specs.Pen.{IsIdle, after_draft, after_post, after_lead, after_miss, after_read, after_read_item, after_lay, after_answer, after_apply, after_release, after_release_by, after_look, after_see, after_take}
+use Rattle.desk_core.specs.Pen.{IsIdle, after_draft, after_post, after_lead, after_miss, after_read, after_read_item, after_lay, after_answer, after_apply, after_archive, after_release, after_release_by, after_look, after_see, after_take}
 use Rattle.desk_core.specs.Desk.{Desk, time, Has, put}
-use Rattle.desk_core.specs.Steps.{Event, Drafts, Posts, Tries, Reads, ReadsItem, LaysItem, Answers, Applies, Releases, ReleasesBy, Looks, SeesItem, TakesItem, actor, Step}
+use Rattle.desk_core.specs.Steps.{Event, Drafts, Posts, Tries, Reads, ReadsItem, LaysItem, Answers, Applies, Archives, Releases, ReleasesBy, Looks, SeesItem, TakesItem, actor, Step}
 use Rattle.desk_core.specs.Rule.{MeetsRule}
 use Rattle.desk_core.specs.Leads.{HasPosted, IsAnswered, HasAnswer, AnswersStay}
 use Rattle.desk_core.proofs.Records.{put_else, no_post}
@@ -31,7 +31,7 @@ pub record Moved (d d' : Desk) (seat : ℕ) : Type 0 where
   pub own : (serial : ℕ) → serial ≤ before.posts → IsAnswered d before serial → IsAnswered d' after serial
 
 -- a step that is no post, and takes no answer away
-still : (d : Desk) (held : Bool) (control : ℕ → Control) (item : ℕ → Item) (home : Option Home) (seat : ℕ) (p w : PenState) → Has d.views seat p
+still : (d : Desk) (held : Bool) (control : ℕ → Control) (item : ℕ → Item) (home : Option Volume) (seat : ℕ) (p w : PenState) → Has d.views seat p
     → w.place ≡ p.place → w.posts ≡ p.posts → (IsIdle p.standing → IsIdle w.standing)
     → ((place : ℕ) → is_answer (d.control place) ≡ true → is_answer (control place) ≡ true) → Moved d (becomes d held control item home seat w) seat
 still d held control item home seat p w a place posts free stay =
@@ -51,7 +51,7 @@ still d held control item home seat p w a place posts free stay =
     }
 
 -- a step that stores in no control, and leaves the pen idle if it was
-same_controls : (d : Desk) (held : Bool) (item : ℕ → Item) (home : Option Home) (seat : ℕ) (p w : PenState) → Has d.views seat p → w.place ≡ p.place
+same_controls : (d : Desk) (held : Bool) (item : ℕ → Item) (home : Option Volume) (seat : ℕ) (p w : PenState) → Has d.views seat p → w.place ≡ p.place
     → w.posts ≡ p.posts → (IsIdle p.standing → IsIdle w.standing)
     → Moved d (becomes d held d.control item home seat w) seat
 same_controls d held item home seat p w a place posts free = still d held d.control item home seat p w a place posts free (λ k h. h)
@@ -73,7 +73,7 @@ moves d (Posts i q) e m (p, draft, a, free, few, proper, drafted, same) =
     }
 moves d (Tries i) e m (p, a, t) =
     ⊎_elim
-    (λ u. subst (λ y. Moved d y i) (sym u.1.2) (same_controls d true d.item None i p (after_lead p u.1.0.journal) a refl refl (λ f. f)))
+    (λ u. subst (λ y. Moved d y i) (sym u.1.2) (same_controls d true d.item None i p (after_lead p u.1.0) a refl refl (λ f. f)))
     (λ u. subst (λ y. Moved d y i) (sym u.1) (same_controls d d.held d.item d.home i p (after_miss p) a refl refl (λ f. f)))
     t
 moves d (Reads i k) e m (p, a, leads, inside, same) =
@@ -101,6 +101,8 @@ moves d (Applies i q x) e m (p, a, leads, free, few, proper, may, same) =
       others = λ k ne h. h;
       own = λ serial le h. inl (omega (arith, le));
     }
+moves d (Archives i n) e m (p, a, leads, same) =
+    subst (λ y. Moved d y i) (sym same) (same_controls d d.held d.item d.home i p (after_archive p n) a refl refl (λ f. f))
 moves d (Releases i) e m (p, a, leads, same) =
     subst (λ y. Moved d y i) (sym same) (same_controls d false d.item _ i p (after_release p) a refl refl (λ f. f))
 moves d (ReleasesBy i q x) e m (p, a, leads, none, free, few, proper, may, same) =

@@ -8,14 +8,15 @@ use Rattle.pq_types.specs.declared.control.Kind.TheVariants as kind
 use Rattle.pq_types.specs.declared.control.Control.TheVariants.{Nothing, Posted}
 use Rattle.pq_types.specs.Control.{posted, is_answer}
 use Rattle.desk_core.specs.declared.model.PenState.{PenState}
+use Rattle.desk_core.specs.Desk.{volume, plain}
 use Rattle.desk_core.specs.Pen.{new_pen, due_to, after_post, after_lead, after_read, after_release_with}
 use Rattle.desk_core.specs.Needs.{OwnRequestNeeds}
 
 abbrev leads_waiting : PenState
-leads_waiting = after_lead (after_post (new_pen 4 0) Pop 0) []
+leads_waiting = after_lead (after_post (new_pen 4 0) Pop 0) (volume (plain 4) [])
 
 abbrev leads_owing : PenState
-leads_owing = after_read (after_lead (new_pen 4 0) []) 1 (posted 1 Pop)
+leads_owing = after_read (after_lead (new_pen 4 0) (volume (plain 4) [])) 1 (posted 1 Pop)
 
 pub own_request_needs : OwnRequestNeeds
 own_request_needs =
@@ -34,7 +35,7 @@ own_request_needs =
       owes = (
         _,
         (new_pen 4 1, None, refl, refl, lit< tt, tt, tt, refl),
-        (_, (new_pen 4 0, refl, inl (refl, (_, refl, refl))), (_, (after_lead (new_pen 4 0) [], refl, refl, lit< tt, refl), refl)),
+        (_, (new_pen 4 0, refl, inl (refl, (_, refl, refl))), (_, (after_lead (new_pen 4 0) (volume (plain 4) []), refl, refl, lit< tt, refl), refl)),
       );
       while_due = (leads_owing, refl, refl, refl);
       due = λ h.

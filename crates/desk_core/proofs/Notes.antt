@@ -10,9 +10,9 @@ use Rattle.atomic_table.proofs.Lists.{at_set, set_else, set_again, at_longer, at
 use Rattle.pq_types.specs.Item.{Item}
 use Rattle.pq_types.specs.declared.control.Control.{Control}
 use Rattle.pq_types.specs.Asked.{Line}
-use Rattle.desk_core.specs.Home.{Home}
+use Rattle.pq_book.specs.Book.{Volume}
 use Rattle.desk_core.specs.Clauses.{LockClause}
-use Rattle.desk_core.specs.Desk.{Desk, Has, volume}
+use Rattle.desk_core.specs.Desk.{Desk, Has}
 use Rattle.desk_core.specs.Notes.{after_catch_up, after_writing, with_told, after_hearing, CatchUpKeeps, WritingKeeps, HearingKeeps, CopyingKeeps}
 use Rattle.desk_core.specs.Testimonies.{after_waking}
 use Rattle.desk_core.specs.Rule.{StartsWith, IsLed, IsDue, PenRule, RuleAt}
@@ -268,9 +268,9 @@ one_journal d a b u v =
     (λ s.
     ⊎_elim
     (λ t.
-    (let e : Some (volume d.room a) ≡ Some (volume d.room b) = sym s.1 ∙ t.1 in
-    let f : volume d.room a ≡ volume d.room b = cc in
-    ap (λ (y : Home). y.journal) f))
+    (let e : Some s.1.book ≡ Some t.1.book = sym s.1.is ∙ t.1.is in
+    let f : s.1.book ≡ t.1.book = cc in
+    sym s.1.journal_is ∙ (ap (λ (y : Volume). y.journal) f ∙ t.1.journal_is)))
     (λ t. absurd (not_both_locks d.held s.0 t.0))
     v)
     (λ s.

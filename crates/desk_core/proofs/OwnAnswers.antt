@@ -7,9 +7,9 @@ use Rattle.pq_types.specs.Asked.{Answer}
 use Rattle.pq_types.specs.declared.control.Control.{Control}
 use Rattle.pq_types.specs.Control.{answered, is_posted, is_answer}
 use Rattle.desk_core.specs.declared.model.PenState.{PenState}
-use Rattle.desk_core.specs.Pen.{IsIdle, after_draft, after_post, after_lead, after_miss, after_read, after_read_item, after_lay, after_answer, after_apply, after_release, after_release_by, after_look, after_see, after_take}
+use Rattle.desk_core.specs.Pen.{IsIdle, after_draft, after_post, after_lead, after_miss, after_read, after_read_item, after_lay, after_answer, after_apply, after_archive, after_release, after_release_by, after_look, after_see, after_take}
 use Rattle.desk_core.specs.Desk.{Desk, time, Has}
-use Rattle.desk_core.specs.Steps.{Event, Drafts, Posts, Tries, Reads, ReadsItem, LaysItem, Answers, Applies, Releases, ReleasesBy, Looks, SeesItem, TakesItem, actor, Step}
+use Rattle.desk_core.specs.Steps.{Event, Drafts, Posts, Tries, Reads, ReadsItem, LaysItem, Answers, Applies, Archives, Releases, ReleasesBy, Looks, SeesItem, TakesItem, actor, Step}
 use Rattle.desk_core.specs.Rule.{MeetsRule}
 use Rattle.desk_core.specs.Leads.{KnowsAnswer, AnswersStayKnown, LeadersKnowTheirAnswers}
 use Rattle.desk_core.proofs.Views.{has_here, same_pen}
@@ -62,7 +62,7 @@ knows_self d (Posts i q) e serial m (p, draft, a, free, few, proper, drafted, sa
     subst (λ y. KnowsAnswer y i serial) (sym same) (after_post p q (time d), has_here d.views i p (after_post p q (time d)) a, omega (arith, le'), inl (omega (arith, le')))
 knows_self d (Tries i) e serial m (p, a, t) v b le h =
     ⊎_elim
-    (λ u. (let w = after_lead p u.1.0.journal in knows_then d e _ i serial v p w a b u.1.2 (has_here d.views i p w a) refl (λ f. f) (λ o. o) le h))
+    (λ u. (let w = after_lead p u.1.0 in knows_then d e _ i serial v p w a b u.1.2 (has_here d.views i p w a) refl (λ f. f) (λ o. o) le h))
     (λ u. knows_then d e _ i serial v p (after_miss p) a b u.1 (has_here d.views i p (after_miss p) a) refl (λ f. f) (λ o. o) le h)
     t
 knows_self d (Reads i k) e serial m (p, a, leads, inside, same) v b le h =
@@ -83,6 +83,7 @@ knows_self d (Applies i q x) e serial m (p, a, leads, free, few, proper, may, sa
     let le' : serial ≤ p.posts = subst (λ (y : PenState). serial ≤ y.posts) (same_pen d.views i v p b a) le in
     let w = after_apply p q x (time d) in
     subst (λ y. KnowsAnswer y i serial) (sym same) (w, has_here d.views i p w a, omega (arith, le'), inl (omega (arith, le')))
+knows_self d (Archives i n) e serial m (p, a, leads, same) v b le h = knows_then d e _ i serial v p (after_archive p n) a b same (has_here d.views i p (after_archive p n) a) refl (λ f. f) (λ o. o) le h
 knows_self d (Releases i) e serial m (p, a, leads, same) v b le h = knows_then d e _ i serial v p (after_release p) a b same (has_here d.views i p (after_release p) a) refl (λ f. f) (λ o. o) le h
 knows_self d (ReleasesBy i q x) e serial m (p, a, leads, none, free, few, proper, may, same) v b le h =
     let le' : serial ≤ p.posts = subst (λ (y : PenState). serial ≤ y.posts) (same_pen d.views i v p b a) le in

@@ -120,9 +120,9 @@ whole_later old new p n long w =
     }
 
 pub every_run_is_whole : QueueLaws → EveryDealtRunIsWhole
-every_run_is_whole laws places room moves d small run i p a =
-    whole d.views (dealt_history (dealer_opening places room) moves d run) (every_run_is_timed places room moves d run)
-    (reached_meet laws places room d small (moves, run)).2.seated.apart i p a
+every_run_is_whole laws places limits moves d small run i p a =
+    whole d.views (dealt_history (dealer_opening places limits) moves d run) (every_run_is_timed places limits moves d run)
+    (reached_meet laws places limits d small (moves, run)).2.seated.apart i p a
 
 -- a call that begins has a serial above the last of its place
 rises : (place serial : ℕ) (operation : Operation) (last : ℕ → ℕ) (open_at : ℕ → Bool) (history : List Act) (n : ℕ)
@@ -288,14 +288,14 @@ module _ (views : List View) (i : ℕ) (p w : PenState) (history longer : List A
   keeps_the_next le = record { old = old le; new = new; others = others; begins = begins_next; ends = ends_next; both = both_next }
 
 pub positions_are_forced : QueueLaws → PositionsAreForced
-positions_are_forced laws places room d d' i p w small (moves, run) (moves', run') a same le =
-    let history = dealt_history (dealer_opening places room) moves d run in
-    let longer = dealt_history (dealer_opening places room) moves' d' run' in
-    let apart = (reached_meet laws places room d small (moves, run)).2.seated.apart in
-    let apart' = (reached_meet laws places room d' small (moves', run')).2.seated.apart in
-    let turns = (every_dealt_run_is_linearizable laws places room moves' d' small run').2.turns in
-    let t' : AreTimed (set d.views i (Holder w)) longer = subst (λ (vs : List View). AreTimed vs longer) same (every_run_is_timed places room moves' d' run') in
+positions_are_forced laws places limits d d' i p w small (moves, run) (moves', run') a same le =
+    let history = dealt_history (dealer_opening places limits) moves d run in
+    let longer = dealt_history (dealer_opening places limits) moves' d' run' in
+    let apart = (reached_meet laws places limits d small (moves, run)).2.seated.apart in
+    let apart' = (reached_meet laws places limits d' small (moves', run')).2.seated.apart in
+    let turns = (every_dealt_run_is_linearizable laws places limits moves' d' small run').2.turns in
+    let t' : AreTimed (set d.views i (Holder w)) longer = subst (λ (vs : List View). AreTimed vs longer) same (every_run_is_timed places limits moves' d' run') in
     let number : time d' ≡ acts_number (set d.views i (Holder w)) = ap acts_number same in
     subst (λ n. KeepsTheNext (time d) n p w) (sym number)
-    (keeps_the_next d.views i p w history longer a (every_run_is_timed places room moves d run) t' apart
+    (keeps_the_next d.views i p w history longer a (every_run_is_timed places limits moves d run) t' apart
     (subst (λ (vs : List View). Apart vs) same apart') turns (subst (λ n. time d ≤ n) number le))

@@ -13,11 +13,11 @@ dealt_more o [] d x e run move = (e, subst (λ (y : Desk). Happens y x e) run mo
 dealt_more o (y ∷ ys) d x e run move = (run.0, run.1, dealt_more run.0 ys d x e run.2 move)
 
 pub moves_reach : MovesReach
-moves_reach places room d e x (moves, run) move = (moves ++ x ∷ [], dealt_more (dealer_opening places room) moves d x e run move)
+moves_reach places limits d e x (moves, run) move = (moves ++ x ∷ [], dealt_more (dealer_opening places limits) moves d x e run move)
 
 run_meets : QueueLaws → (o : Desk) (xs : List Move) (d : Desk) → MeetsRule o → DealtRun o xs d → MeetsRule d
 run_meets laws o [] d m run = subst MeetsRule (sym run) m
 run_meets laws o (x ∷ xs) d m run = run_meets laws run.0 xs d (moves_keep laws o x run.0 m run.1) run.2
 
 pub reached_meet : QueueLaws → ReachedMeetRule
-reached_meet laws places room d small (moves, run) = run_meets laws (dealer_opening places room) moves d (openings_meet.dealer places room small) run
+reached_meet laws places limits d small (moves, run) = run_meets laws (dealer_opening places limits) moves d (openings_meet.dealer places limits small) run

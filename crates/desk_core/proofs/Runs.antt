@@ -5,15 +5,16 @@ use mathlib.Core.Option.{some, some-ne-none, some-injective}
 use lib.ListN.{get_elem?}
 use Rattle.pq_types.specs.declared.journal.TheConstants.{GREATEST_NUMBER}
 use Rattle.pq_types.specs.Control.{is_answer}
+use Rattle.pq_types.specs.History.{Limits}
 use Rattle.desk_core.specs.declared.model.PenState.{PenState}
 use Rattle.desk_core.specs.declared.model.View.{View}
 use Rattle.desk_core.specs.declared.model.View.TheVariants.{Dealer, Holder, Note}
 use Rattle.desk_core.specs.Pen.{new_pen}
-use Rattle.desk_core.specs.Desk.{Desk, Has, time, pens_from, opening, dealer_opening}
-use Rattle.desk_core.specs.Steps.{Event, Drafts, Posts, Tries, Reads, ReadsItem, LaysItem, Answers, Applies, Releases, ReleasesBy, Looks, SeesItem, TakesItem, Step, Run}
+use Rattle.desk_core.specs.Desk.{Desk, Has, time, volume, pens_from, opening, dealer_opening}
+use Rattle.desk_core.specs.Steps.{Event, Drafts, Posts, Tries, Reads, ReadsItem, LaysItem, Answers, Applies, Archives, Releases, ReleasesBy, Looks, SeesItem, TakesItem, Step, Run}
 use Rattle.desk_core.specs.Rule.{PenRule, fresh, MeetsRule, OpeningsMeetRule, EveryRunMeetsRule, EveryStepKeepsRule}
 use Rattle.desk_core.proofs.Journals.{QueueLaws}
-use Rattle.desk_core.proofs.StepFacts.{draft_keeps, post_keeps, lead_keeps, miss_keeps, read_keeps, read_item_keeps, lay_keeps, answer_keeps, apply_keeps, release_keeps, release_by_keeps, look_keeps, see_keeps, take_keeps}
+use Rattle.desk_core.proofs.StepFacts.{draft_keeps, post_keeps, lead_keeps, miss_keeps, read_keeps, read_item_keeps, lay_keeps, answer_keeps, apply_keeps, archive_keeps, release_keeps, release_by_keeps, look_keeps, see_keeps, take_keeps}
 
 step_keeps : QueueLaws → (d : Desk) (x : Event) (e : Desk) → MeetsRule d → Step d x e → MeetsRule e
 step_keeps laws d (Drafts i x) e m (p, a, free, item, same) = subst MeetsRule (sym same) (m.0, m.1, draft_keeps d m.0 m.1 m.2 i p a x free)
@@ -30,6 +31,7 @@ step_keeps laws d (Answers i x) e m (p, due, q, a, leads, is_due, is_kind, known
     subst MeetsRule (sym same) (_, m.1, answer_keeps d m.0 m.1 m.2 i p a laws due q x is_due is_kind known laid may)
 step_keeps laws d (Applies i q x) e m (p, a, leads, free, few, proper, may, same) =
     subst MeetsRule (sym same) (_, m.1, apply_keeps d m.0 m.1 m.2 i p a (time d) laws q x leads free few proper may)
+step_keeps laws d (Archives i n) e m (p, a, leads, same) = subst MeetsRule (sym same) (m.0, m.1, archive_keeps d m.0 m.1 m.2 i p a n)
 step_keeps laws d (Releases i) e m (p, a, leads, same) = subst MeetsRule (sym same) (m.0, m.1, release_keeps d m.0 m.1 m.2 i p a leads)
 step_keeps laws d (ReleasesBy i q x) e m (p, a, leads, none, free, few, proper, may, same) =
     subst MeetsRule (sym same) (_, m.1, release_by_keeps d m.0 m.1 m.2 i p a (time d) laws q x leads none free few proper may)
@@ -53,8 +55,9 @@ pen_at room (suc n) k (suc i) v e =
     let f : k + 1 + i ≡ k + suc i = omega arith in
     (t.0 ∙ ap (λ (j : ℕ). Holder (new_pen room j)) f, let lt = t.1 in omega arith)
 
-opening_meets : (places room : ℕ) → room ≤ GREATEST_NUMBER → MeetsRule (opening places room)
-opening_meets places room small =
+opening_meets : (places : ℕ) (limits : Limits) → limits.room ≤ GREATEST_NUMBER → MeetsRule (opening places limits)
+opening_meets places limits small =
+    let room = limits.room in
     let views = pens_from room places 0 in
     let one : (i : ℕ) (p : PenState) → Has views i p → (p ≡ new_pen room i) × (i < places) =
     λ i p a. (let t = pen_at room places 0 i (Holder p) a in let e : 0 + i ≡ i = omega arith in (let f : Holder p ≡ Holder (new_pen room (0 + i)) = t.0 in let g : p ≡ new_pen room (0 + i) = cc in g ∙ ap (new_pen room) e, t.1)) in (
@@ -62,7 +65,7 @@ opening_meets places room small =
       0,
       record {
         room_in_range = small;
-        lock = inl (refl, refl);
+        lock = inl (refl, record { book = volume limits []; is = refl; room_is = refl; journal_is = refl });
         led = λ i p a l. absurd (let e : false ≡ true = ap (λ (v : PenState). v.leading) (sym (one i p a).0) ∙ l in cc);
         due = λ i p a due e. absurd (let f : None ≡ Some due = ap (λ (v : PenState). v.due) (sym (one i p a).0) ∙ e in cc);
         seated = record {
@@ -73,7 +76,7 @@ opening_meets places room small =
         dealers = λ i m u e. absurd (let t = pen_at room places 0 i (Dealer m u) e in let f : Dealer m u ≡ Holder (new_pen room (0 + i)) = t.0 in cc);
         lawful = record { legal = tt; rise = tt; heeds = tt; within = zero-le; items = tt };
         pens = λ i p a.
-            subst (λ (v : PenState). PenRule room [] ((opening places room).control v.place) ((opening places room).item v.place) v) (sym (one i p a).0)
+            subst (λ (v : PenState). PenRule room [] ((opening places limits).control v.place) ((opening places limits).item v.place) v) (sym (one i p a).0)
             record {
               told = refl;
               counted = omega arith;
@@ -95,14 +98,15 @@ only_dealer : (room i : ℕ) (v : View) → get_elem? (Dealer 0 room ∷ []) i �
 only_dealer room zero v e = (some-injective (Dealer 0 room) v e, refl)
 only_dealer room (suc i) v e = absurd (some-ne-none v (sym e))
 
-dealer_meets : (places room : ℕ) → room ≤ GREATEST_NUMBER → MeetsRule (dealer_opening places room)
-dealer_meets places room small =
+dealer_meets : (places : ℕ) (limits : Limits) → limits.room ≤ GREATEST_NUMBER → MeetsRule (dealer_opening places limits)
+dealer_meets places limits small =
+    let room = limits.room in
     let nobody : (i : ℕ) (p : PenState) → Has (Dealer 0 room ∷ []) i p → ⊥ = λ i p a. (let t = only_dealer room i (Holder p) a in let e : Dealer 0 room ≡ Holder p = t.0 in cc) in (
       [],
       0,
       record {
         room_in_range = small;
-        lock = inl (refl, refl);
+        lock = inl (refl, record { book = volume limits []; is = refl; room_is = refl; journal_is = refl });
         led = λ i p a l. absurd (nobody i p a);
         due = λ i p a due e. absurd (nobody i p a);
         seated = record {
@@ -127,4 +131,4 @@ pub openings_meet : OpeningsMeetRule
 openings_meet = record { pens = opening_meets; dealer = dealer_meets }
 
 pub runs_meet : QueueLaws → EveryRunMeetsRule
-runs_meet laws places room events d small r = run_keeps laws (opening places room) events d (opening_meets places room small) r
+runs_meet laws places limits events d small r = run_keeps laws (opening places limits) events d (opening_meets places limits small) r

@@ -1,22 +1,10 @@
--- What a Book may answer is what the machine's combiner may; and a shut ends pushes.
-use Rattle.std.proofs.Common.{◌≡◌, ℕ, zero, suc, ◌+◌, ◌-◌, ◌<◌, true, List, [], ◌∷◌, sym, ap, subst, ◌∙◌, arith}
+-- A shut ends pushes.
+use Rattle.std.proofs.Common.{◌≡◌, ℕ, zero, suc, ◌-◌, ◌<◌, true, List, [], ◌∷◌, ap, subst, ◌∙◌, arith}
 use Rattle.std.specs.Prelude.{Some, slice_get}
 use Rattle.std.specs.List.{AllByRecursion}
 use Rattle.pq_types.specs.Asked.{Line}
-use Rattle.pq_types.specs.Operation.{Shuts}
-use Rattle.pq_types.specs.declared.answer.Answer.TheVariants.{Entered, BookFull, NoMemory, Refused}
-use Rattle.pq_types.specs.declared.answer.Refusal.TheVariants.{Shut, Unarchived, Full}
 use Rattle.pq_types.specs.History.{line_of, shuts, HeedsShut, EndsAtShut}
-use Rattle.desk_core.specs.Answering.{BooksDeal}
 use Rattle.desk_core.specs.Linearizable.{ShutEndsPushes}
-
-pub books_deal : BooksDeal
-books_deal limits lines o (Entered n r) may = (may.0.space, may.1, may.2, may.0.heard)
-books_deal limits lines o BookFull may = may
-books_deal limits lines o NoMemory may = (may.0.space, may.1, may.0.heard)
-books_deal limits lines o (Refused Shut) may = may
-books_deal limits lines o (Refused Unarchived) may = (may.0, may.2)
-books_deal limits lines o (Refused Full) may = (may.0, may.2, may.4)
 
 all_get : (P : Line → Type 0) (ls : List Line) (i : ℕ) (l : Line) → AllByRecursion P ls → slice_get ls i ≡ Some l → P l
 all_get P [] i l h e = absurd (cc e)

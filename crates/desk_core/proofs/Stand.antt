@@ -23,7 +23,7 @@ use Rattle.pq_types.specs.History.{line, line_of, left, entries_of, journal_by, 
 use Rattle.pq_types.specs.History.{shuts, is_shut}
 use Rattle.pq_types.specs.declared.answer.Refusal.{Refusal}
 use Rattle.pq_types.specs.declared.answer.Refusal.TheVariants.{Shut, Unarchived, Full}
-use Rattle.desk_core.specs.Answering.{MayTellOf, MayTell, Bars, IsBarred}
+use Rattle.desk_core.specs.Answering.{Bars, IsBarred}
 use Rattle.pq_types.specs.Laws.{RepliesAreProper}
 use Rattle.desk_core.specs.declared.model.Call.{Call}
 use Rattle.desk_core.specs.declared.model.Standing.{Standing}
@@ -31,6 +31,7 @@ use Rattle.desk_core.specs.declared.model.Standing.TheVariants.{Idle, Waiting}
 use Rattle.desk_core.specs.Calls.{call, call_of, calls_of, gained, gained_by}
 use Rattle.desk_core.specs.Pen.{IsIdle, told_full_by}
 use Rattle.desk_core.specs.Rule.{Stands, fresh, idle, unanswered, entered, full, refused, barred, StartsWith, Lawful}
+use Rattle.desk_core.proofs.Loose.{MayTellOf, MayTell}
 use Rattle.desk_core.proofs.Records.{no_post, not_both, no_item, same_answer}
 use Rattle.desk_core.proofs.Journals.{QueueLaws, all_more, all_weaker, calls_here, calls_elsewhere, get_last, get_more, lines_below}
 

@@ -21,18 +21,18 @@ use Rattle.pq_types.specs.Asked.{Line}
 use Rattle.pq_types.specs.declared.journal.TheConstants.{GREATEST_NUMBER}
 use Rattle.pq_types.specs.Queue.{IsProperRequestOf}
 use Rattle.pq_types.specs.Control.{kind_of, request_item, answer_item, answer_with, posted, answered, Carries, is_posted, is_answer}
-use Rattle.pq_types.specs.History.{journal_by, journal_after}
-use Rattle.desk_core.specs.Answering.{MayTellOf, MayTell}
-use Rattle.desk_core.specs.Home.{Home}
+use Rattle.pq_types.specs.History.{journal_by, journal_after, MayDo, MayAnswer}
+use Rattle.pq_book.specs.Book.{Volume}
 use Rattle.desk_core.specs.declared.model.Call.{Call}
 use Rattle.desk_core.specs.declared.model.Standing.{Standing}
 use Rattle.desk_core.specs.declared.model.Standing.TheVariants.{Idle, Waiting}
 use Rattle.desk_core.specs.declared.model.Due.{Due}
 use Rattle.desk_core.specs.declared.model.PenState.{PenState}
 use Rattle.desk_core.specs.Calls.{calls_of, gained}
-use Rattle.desk_core.specs.Pen.{IsIdle, IsKept, after_draft, after_post, after_lead, after_miss, due_at, after_read, with_known, after_read_item, after_lay, after_answer, after_apply, after_release, after_release_by, told_by, standing_told, mine_told, full_told, after_look, after_see, after_take}
-use Rattle.desk_core.specs.Desk.{Desk, Has, volume, put, with_control, with_cell, locked, freed, with_pen}
+use Rattle.desk_core.specs.Pen.{IsIdle, IsKept, after_draft, after_post, after_lead, after_miss, due_at, after_read, with_known, after_read_item, after_lay, after_answer, after_apply, after_archive, after_release, after_release_by, book_with, book_in_hand, limits_in_hand, told_by, standing_told, mine_told, full_told, after_look, after_see, after_take}
+use Rattle.desk_core.specs.Desk.{Desk, Has, put, with_control, with_cell, locked, freed, with_pen}
 use Rattle.desk_core.specs.Rule.{PenRule, RuleAt, Stands, idle, unanswered, above_mine}
+use Rattle.desk_core.proofs.Loose.{MayTell, loosely}
 use Rattle.desk_core.proofs.Records.{put_here, put_else, no_post, not_nothing, kept_carries, same_request, with_cell_answer, notice_back, told_is}
 use Rattle.desk_core.proofs.Journals.{QueueLaws, lines_below}
 use Rattle.desk_core.proofs.Views.{has_here}
@@ -134,18 +134,18 @@ module _ (d : Desk) (journal : List Line) (chief : ℕ) (r : RuleAt d journal ch
       record { told = mine.told; counted = mine.counted; stands = mine.stands; looked = mine.looked; known = mine.known; own = mine.own; blank = mine.blank; filled = mine.filled; barred = mine.barred; seen = mine.seen }
 
   -- it wins the lock
-  pub lead_keeps : (book : Home) → d.held ≡ false → d.home ≡ Some book → RuleAt (with_pen (locked d) i (after_lead p book.journal)) journal i
+  pub lead_keeps : (book : Volume) → d.held ≡ false → d.home ≡ Some book → RuleAt (with_pen (locked d) i (after_lead p book)) journal i
   lead_keeps book free at_home =
       let mine = r.pens i p a in
-      let js = book.journal in
-      let same : js ≡ journal =
+      let w = after_lead p book in
+      let same : book.journal ≡ journal =
       ⊎_elim
-      (λ t. let e : Some book ≡ Some (volume d.room journal) = sym at_home ∙ t.1 in let f : book ≡ volume d.room journal = cc in ap (λ (b : Home). b.journal) f)
+      (λ t. let e : Some book ≡ Some t.1.book = sym at_home ∙ t.1.is in let f : book ≡ t.1.book = cc in ap (λ (b : Volume). b.journal) f ∙ t.1.journal_is)
       (λ t. absurd (not_both_locks d.held free t.0)) r.lock in
-      keeps d journal chief r i p a true d.control d.item None journal i (after_lead p js) record {
+      keeps d journal chief r i p a true d.control d.item None journal i w record {
         place = refl;
         owned = r.seated.owned;
-        lock = inr (refl, refl, (after_lead p js, has_here d.views i p (after_lead p js) a, refl));
+        lock = inr (refl, refl, (w, has_here d.views i p w a, refl));
         led = λ _. (refl, refl, same);
         led_others = λ j q ne b l. absurd (not_both_locks d.held free (r.led j q b l).1);
         due = λ due e. absurd (cc e);
@@ -251,15 +251,27 @@ module _ (d : Desk) (journal : List Line) (chief : ℕ) (r : RuleAt d journal ch
         pen_others = λ j q ne b. pen q (r.pens j q b);
       }
 
+  -- what the Book in its hand may answer, the rule allows
+  pub may_answer : (q : Operation) (x : Answer) → p.leading ≡ true → MayDo (limits_in_hand p) p.hand q x → MayTell d.room journal q x
+  may_answer q x leads may =
+      subst (λ js. MayTell d.room js q x) (r.led i p a leads).2 (loosely (limits_in_hand p) d.room p.hand q x (r.pens i p a).told may)
+
+  -- it hears that lines are archived
+  pub archive_keeps : (n : ℕ) → RuleAt (with_pen d i (after_archive p n)) journal chief
+  archive_keeps n =
+      let mine = r.pens i p a in
+      same_cells d journal chief r i p a (after_archive p n) refl refl refl (λ due e. r.due i p a due e)
+      record { told = mine.told; counted = mine.counted; stands = mine.stands; looked = mine.looked; known = mine.known; own = mine.own; blank = mine.blank; filled = mine.filled; barred = mine.barred; seen = mine.seen }
+
   -- it releases the lock
-  pub release_keeps : p.leading ≡ true → RuleAt (with_pen (freed d p.hand) i (after_release p)) journal chief
+  pub release_keeps : p.leading ≡ true → RuleAt (with_pen (freed d (book_in_hand p)) i (after_release p)) journal chief
   release_keeps leads =
       let mine = r.pens i p a in
       let t = r.led i p a leads in
-      keeps d journal chief r i p a false d.control d.item (Some (volume d.room p.hand)) journal chief (after_release p) record {
+      keeps d journal chief r i p a false d.control d.item (Some (book_in_hand p)) journal chief (after_release p) record {
         place = refl;
         owned = r.seated.owned;
-        lock = inl (refl, ap (λ h. Some (volume d.room h)) t.2);
+        lock = inl (refl, record { book = book_in_hand p; is = refl; room_is = mine.told; journal_is = t.2 });
         led = λ l. absurd (cc l);
         led_others = λ j q ne b l. absurd (ne ((r.led j q b l).0 ∙ sym t.0));
         due = λ due e. absurd (cc e);
@@ -284,14 +296,14 @@ module _ (d : Desk) (journal : List Line) (chief : ℕ) (r : RuleAt d journal ch
 
   -- it applies a request of its own, and goes on leading
   pub apply_keeps : (now : ℕ) → QueueLaws → (q : Request) (x : Answer) → p.leading ≡ true → IsIdle p.standing → p.posts < GREATEST_NUMBER
-      → IsProperRequestOf true q → MayTellOf d.room p.hand q x
+      → IsProperRequestOf true q → MayAnswer (limits_in_hand p) p.hand q x
       → RuleAt (with_pen d i (after_apply p q x now)) (journal_after journal p.place (p.posts + 1) q x) chief
   apply_keeps now laws q x leads free few proper may_hand =
       let mine = r.pens i p a in
       let t = r.led i p a leads in
       let k = p.place in
       let s = p.posts + 1 in
-      let may : MayTellOf d.room journal q x = subst (λ js. MayTellOf d.room js q x) t.2 may_hand in
+      let may = may_answer (Asked q) x leads may_hand in
       let js = journal_after journal k s q x in
       let w = after_apply p q x now in
       keeps d journal chief r i p a d.held d.control d.item d.home js chief w record {
@@ -338,21 +350,21 @@ module _ (d : Desk) (journal : List Line) (chief : ℕ) (r : RuleAt d journal ch
 
   -- it releases the lock with an operation of its own
   pub release_by_keeps : (now : ℕ) → QueueLaws → (q : Operation) (x : Answer) → p.leading ≡ true → p.due ≡ None → IsIdle p.standing → p.posts < GREATEST_NUMBER
-      → IsProperOperationOf true q → MayTell d.room p.hand q x
-      → RuleAt (with_pen (freed d (journal_by p.hand p.place (p.posts + 1) q x)) i (after_release_by p q x now)) (journal_by journal p.place (p.posts + 1) q x) chief
+      → IsProperOperationOf true q → MayDo (limits_in_hand p) p.hand q x
+      → RuleAt (with_pen (freed d (book_with p (journal_by p.hand p.place (p.posts + 1) q x))) i (after_release_by p q x now)) (journal_by journal p.place (p.posts + 1) q x) chief
   release_by_keeps now laws q x leads none free few proper may_hand =
       let mine = r.pens i p a in
       let t = r.led i p a leads in
       let k = p.place in
       let s = p.posts + 1 in
-      let may : MayTell d.room journal q x = subst (λ js. MayTell d.room js q x) t.2 may_hand in
+      let may = may_answer q x leads may_hand in
       let js = journal_by journal k s q x in
       let hand = journal_by p.hand k s q x in
       let same : hand ≡ js = ap (λ h. journal_by h k s q x) t.2 in
-      keeps d journal chief r i p a false d.control d.item (Some (volume d.room hand)) js chief (after_release_by p q x now) record {
+      keeps d journal chief r i p a false d.control d.item (Some (book_with p hand)) js chief (after_release_by p q x now) record {
         place = refl;
         owned = r.seated.owned;
-        lock = inl (refl, ap (λ h. Some (volume d.room h)) same);
+        lock = inl (refl, record { book = book_with p hand; is = refl; room_is = mine.told; journal_is = same });
         led = λ l. absurd (cc l);
         led_others = λ j v ne b l. absurd (ne ((r.led j v b l).0 ∙ sym t.0));
         due = λ due e. absurd (let f : None ≡ Some due = sym none ∙ e in cc);
@@ -508,7 +520,7 @@ module _ (d : Desk) (journal : List Line) (chief : ℕ) (r : RuleAt d journal ch
 
   -- it answers what is due
   pub answer_keeps : QueueLaws → (due : Due) (q : Request) (x : Answer) → p.due ≡ Some due → kind_of q ≡ due.kind → IsKept (request_item q) due.item
-      → IsKept (answer_item x) due.item → MayTellOf d.room p.hand q x
+      → IsKept (answer_item x) due.item → MayAnswer (limits_in_hand p) p.hand q x
       → RuleAt (with_pen (with_control d due.place (answered x)) i (after_answer p due q x)) (journal_after journal due.place due.serial q x) chief
   answer_keeps laws due q x is_due is_kind known laid may_hand =
       let k = due.place in
@@ -517,7 +529,7 @@ module _ (d : Desk) (journal : List Line) (chief : ℕ) (r : RuleAt d journal ch
       let dd = r.due i p a due is_due in
       let leads = dd.0 in
       let t = r.led i p a leads in
-      let may : MayTellOf d.room journal q x = subst (λ js. MayTellOf d.room js q x) t.2 may_hand in
+      let may = may_answer (Asked q) x leads may_hand in
       let asked : Carries (request_item q) (d.item k) = kept_carries (request_item q) due.item (d.item k) known dd.2 in
       let gives : Carries (answer_item x) (d.item k) = kept_carries (answer_item x) due.item (d.item k) laid dd.2 in
       let js = journal_after journal k s q x in

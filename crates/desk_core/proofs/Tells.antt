@@ -18,21 +18,21 @@ use Rattle.pq_types.specs.declared.control.Control.{Control}
 use Rattle.pq_types.specs.declared.control.Control.TheVariants.{Nothing, Posted, Answered}
 use Rattle.pq_types.specs.Asked.{Line}
 use Rattle.pq_types.specs.Control.{kind_of, request_item, notice_has_item, answer_item, reply_item, answer_with, answered, Carries, is_posted, is_answer, has_item}
-use Rattle.pq_types.specs.History.{EndsAtShut, IsHeard, is_shut}
+use Rattle.pq_types.specs.History.{EndsAtShut, is_shut, MayDo}
 use Rattle.pq_types.specs.declared.answer.Refusal.TheVariants.{Shut, Unarchived, Full}
-use Rattle.desk_core.specs.Answering.{MayTell}
-use Rattle.desk_core.specs.Home.{Home}
+use Rattle.pq_book.specs.Book.{Volume}
 use Rattle.desk_core.specs.declared.model.Call.{Call}
 use Rattle.desk_core.specs.declared.model.Standing.TheVariants.{Waiting}
 use Rattle.desk_core.specs.declared.model.Due.{Due}
 use Rattle.desk_core.specs.declared.model.Word.TheVariants as word
 use Rattle.desk_core.specs.declared.model.PenState.{PenState}
-use Rattle.desk_core.specs.Pen.{due_at, told_by, standing_told, mine_told, after_draft, after_post, after_lead, after_miss, after_read, after_read_item, after_lay, after_answer, after_apply, after_release, after_release_by, after_look, after_see, after_take}
+use Rattle.desk_core.specs.Pen.{due_at, told_by, standing_told, mine_told, after_draft, after_post, after_lead, after_miss, after_read, after_read_item, after_lay, after_answer, after_apply, after_archive, after_release, limits_in_hand, after_release_by, after_look, after_see, after_take}
 use Rattle.desk_core.specs.Calls.{gained}
-use Rattle.desk_core.specs.Desk.{Desk, time, Has, volume, with_pen}
-use Rattle.desk_core.specs.Steps.{Event, actor, Drafts, Posts, Tries, Reads, ReadsItem, LaysItem, Answers, Applies, Releases, ReleasesBy, Looks, SeesItem, TakesItem, Step}
+use Rattle.desk_core.specs.Desk.{Desk, time, Has, with_pen}
+use Rattle.desk_core.specs.Steps.{Event, actor, Drafts, Posts, Tries, Reads, ReadsItem, LaysItem, Answers, Applies, Archives, Releases, ReleasesBy, Looks, SeesItem, TakesItem, Step}
 use Rattle.desk_core.specs.Rule.{MeetsRule, above_mine}
-use Rattle.desk_core.specs.Tells.{SameAsker, AfterDraft, AfterPost, AfterTry, AfterRead, AfterReadItem, AfterLay, AfterAnswer, AfterApply, AfterRelease, AfterReleaseBy, AfterLook, AfterSee, AfterTake, Acted, DraftTells, PostTells, TryTells, ReadTells, ReadItemTells, LayItemTells, AnswerTells, ApplyTells, ReleaseTells, ReleaseByTells, LookTells, SeeItemTells, TakeItemTells}
+use Rattle.desk_core.specs.Tells.{SameAsker, AfterDraft, AfterPost, AfterTry, AfterRead, AfterReadItem, AfterLay, AfterAnswer, AfterApply, AfterArchive, AfterRelease, AfterReleaseBy, AfterLook, AfterSee, AfterTake, Acted, DraftTells, PostTells, TryTells, ReadTells, ReadItemTells, LayItemTells, AnswerTells, ApplyTells, ArchiveTells, ReleaseTells, ReleaseByTells, LookTells, SeeItemTells, TakeItemTells}
+use Rattle.desk_core.proofs.Loose.{MayTell, loosely}
 use Rattle.desk_core.proofs.Records.{put_here}
 use Rattle.desk_core.proofs.Views.{has_here}
 use Rattle.desk_core.proofs.OwnControls.{Notes, read_notes, answer_notes}
@@ -49,6 +49,7 @@ After (ReadsItem seat) d d' p p' = AfterReadItem d d' p p'
 After (LaysItem seat x) d d' p p' = AfterLay d d' x p p'
 After (Answers seat answer) d d' p p' = AfterAnswer d d' answer p p'
 After (Applies seat request answer) d d' p p' = AfterApply d d' request answer p p'
+After (Archives seat lines) d d' p p' = AfterArchive d d' lines p p'
 After (Releases seat) d d' p p' = AfterRelease d d' p p'
 After (ReleasesBy seat operation answer) d d' p p' = AfterReleaseBy d d' operation answer p p'
 After (Looks seat) d d' p p' = AfterLook d d' p p'
@@ -90,6 +91,10 @@ when_shut room hand q NoMemory may = (λ e. absurd (cc e), λ e. absurd (both_wa
 when_shut room hand q (Refused Shut) may = (λ e. may, λ e. refl)
 when_shut room hand q (Refused Unarchived) may = (λ e. absurd (cc e), λ e. absurd (both_ways e.2 (may.1 e.1)))
 when_shut room hand q (Refused Full) may = (λ e. absurd (cc e), λ e. absurd (both_ways e.2 (may.2 e.1)))
+
+-- a pen knows the desk's room
+may_here : (d : Desk) (i : ℕ) (p : PenState) → MeetsRule d → Has d.views i p → (q : Operation) (x : Answer) → MayDo (limits_in_hand p) p.hand q x → MayTell d.room p.hand q x
+may_here d i p m a q x may = loosely (limits_in_hand p) d.room p.hand q x (m.2.pens i p a).told may
 
 -- an item that the pen knows whole is one that it does not wait for
 told_nothing : (c : Control) → is_answer c ≡ false → told_by c ≡ None
@@ -236,14 +241,14 @@ steps_tell d e (Tries i) m (p, a, t) =
     ⊎_elim
     (λ u.
     (let book = u.1.0 in
-    let w = after_lead p book.journal in
+    let w = after_lead p book in
     subst (Told (Tries i) d) (sym u.1.2) (
       p,
       w,
       a,
       has_here d.views i p w a,
       record {
-        won = λ _. (refl, ⊎_elim (λ t. (let f : Some book ≡ Some (volume d.room m.0) = sym u.1.1 ∙ t.1 in let g : book ≡ volume d.room m.0 = cc in u.1.1 ∙ ap Some (g ∙ ap (λ (b : Home). volume d.room b.journal) (sym g)))) (λ t. absurd (not_both_locks d.held u.0 t.0)) m.2.lock, refl, refl, refl);
+        won = λ _. (refl, u.1.1 ∙ ap (λ n. Some (record book { room = n })) (⊎_elim (λ t. (let f : Some book ≡ Some t.1.book = sym u.1.1 ∙ t.1.is in let g : book ≡ t.1.book = cc in ap (λ (b : Volume). b.room) g ∙ (t.1.room_is ∙ sym (m.2.pens i p a).told))) (λ t. absurd (not_both_locks d.held u.0 t.0)) m.2.lock), refl, refl, refl);
         missed = λ h. absurd (not_both_locks d.held u.0 h);
         held = refl;
         read = ap (λ b. Some (word.Lock b)) (sym u.0);
@@ -339,8 +344,9 @@ steps_tell d e (Answers i x) m (p, due, q, a, leads, is_due, is_kind, known, lai
         request = q;
         was = is_due;
         waits = (o.0, o.1, o.2, o.3, o.4, o.5);
-        full = when_full d.room p.hand (Asked q) x may;
-        shut = when_shut d.room p.hand (Asked q) x may;
+        may = may;
+        full = when_full d.room p.hand (Asked q) x (may_here d i p m a (Asked q) x may);
+        shut = when_shut d.room p.hand (Asked q) x (may_here d i p m a (Asked q) x may);
         stands = put_here d.control due.place (answered x);
         hand = refl;
         done = refl;
@@ -362,8 +368,9 @@ steps_tell d e (Applies i q x) m (p, a, leads, free, few, proper, may, same) =
       record {
         leading = leads;
         hand = refl;
-        full = when_full d.room p.hand (Asked q) x may;
-        shut = when_shut d.room p.hand (Asked q) x may;
+        may = may;
+        full = when_full d.room p.hand (Asked q) x (may_here d i p m a (Asked q) x may);
+        shut = when_shut d.room p.hand (Asked q) x (may_here d i p m a (Asked q) x may);
         posts = refl;
         mine = refl;
         below = subst (λ o. AllByRecursion (λ (c : Call). c.serial < above_mine p.posts o) p.mine) free.1 (m.2.pens i p a).looked;
@@ -376,6 +383,22 @@ steps_tell d e (Applies i q x) m (p, a, leads, free, few, proper, may, same) =
         home = refl;
         control = refl;
         cell = refl;
+      },
+    )
+steps_tell d e (Archives i n) m (p, a, leads, same) =
+    let w = after_archive p n in
+    subst (Told (Archives i n) d) (sym same) (
+      p,
+      w,
+      a,
+      has_here d.views i p w a,
+      record {
+        book = refl;
+        lead = record { leading = refl; hand = refl; dealt = refl; due = refl; known = refl };
+        asker = record { posts = refl; standing = refl; mine = refl };
+        own = refl;
+        held = refl;
+        home = refl;
       },
     )
 steps_tell d e (Releases i) m (p, a, leads, same) =
@@ -408,8 +431,9 @@ steps_tell d e (ReleasesBy i q x) m (p, a, leads, none, free, few, proper, may, 
         held = refl;
         known = refl;
         home = refl;
-        full = when_full d.room p.hand q x may;
-        shut = when_shut d.room p.hand q x may;
+        may = may;
+        full = when_full d.room p.hand q x (may_here d i p m a q x may);
+        shut = when_shut d.room p.hand q x (may_here d i p m a q x may);
         posts = refl;
         mine = refl;
         below = subst (λ o. AllByRecursion (λ (c : Call). c.serial < above_mine p.posts o) p.mine) free.1 (m.2.pens i p a).looked;
@@ -456,6 +480,9 @@ answer_tells d d' seat answer m step = steps_tell d d' (Answers seat answer) m s
 
 pub apply_tells : ApplyTells
 apply_tells d d' seat request answer m step = steps_tell d d' (Applies seat request answer) m step
+
+pub archive_tells : ArchiveTells
+archive_tells d d' seat lines m step = steps_tell d d' (Archives seat lines) m step
 
 pub release_tells : ReleaseTells
 release_tells d d' seat m step = steps_tell d d' (Releases seat) m step

@@ -17,9 +17,9 @@ use Rattle.desk_core.specs.declared.model.Call.{Call}
 use Rattle.desk_core.proofs.CallLines.{calls_are_lines}
 use Rattle.desk_core.proofs.Clauses.{knows, clauses_hold}
 use Rattle.desk_core.proofs.Reached.{reached_meet}
-use Rattle.desk_core.specs.Pen.{new_pen, told_by, ends_told, after_draft, after_post, after_lead, after_miss, after_read, after_read_item, after_lay, after_answer, after_release, after_release_by, after_look, after_see, after_take, after_apply}
+use Rattle.desk_core.specs.Pen.{new_pen, told_by, ends_told, after_draft, after_post, after_lead, after_miss, after_read, after_read_item, after_lay, after_answer, after_release, after_release_by, after_look, after_see, after_take, after_apply, after_archive}
 use Rattle.desk_core.specs.Desk.{Desk, Has, acts_in, acts_number, time, dealer_opening}
-use Rattle.desk_core.specs.Steps.{Event, Drafts, Posts, Tries, Reads, ReadsItem, LaysItem, Answers, Applies, Releases, ReleasesBy, Looks, SeesItem, TakesItem, Step}
+use Rattle.desk_core.specs.Steps.{Event, Drafts, Posts, Tries, Reads, ReadsItem, LaysItem, Answers, Applies, Archives, Releases, ReleasesBy, Looks, SeesItem, TakesItem, Step}
 use Rattle.desk_core.specs.Notes.{after_catch_up, after_writing, after_hearing}
 use Rattle.desk_core.specs.Linearizable.{Act, Begins, Ends, told, acts}
 use Rattle.desk_core.specs.Dealing.{Move, Deals, Takes, CatchesUp, Writes, Hears, Copies, Testifies, Retires, Sleeps, Wakes, Gathers, Happens, DealtRun, acts_of, dealt_history}
@@ -317,7 +317,7 @@ module _ (d : Desk) (old : List Act) (t : AreTimed d.views old) where
       leads_to e _ (Begins p.place (p.posts + 1) (Asked q) ∷ []) same (begins_timed d.views i p (after_post p q (time d)) old q a t refl refl refl)
   step_timed (Tries i) e (p, a, c) =
       ⊎_elim
-      (λ u. leads_to e _ [] u.1.2 (quiet d.views i p (after_lead p u.1.0.journal) old a t refl refl refl))
+      (λ u. leads_to e _ [] u.1.2 (quiet d.views i p (after_lead p u.1.0) old a t refl refl refl))
       (λ u. leads_to e _ [] u.1 (quiet d.views i p (after_miss p) old a t refl refl refl))
       c
   step_timed (Reads i k) e (p, a, leads, inside, same) = leads_to e _ [] same (quiet d.views i p (after_read p k (d.control k)) old a t refl refl refl)
@@ -328,6 +328,7 @@ module _ (d : Desk) (old : List Act) (t : AreTimed d.views old) where
       leads_to e _ [] same (quiet d.views i p (after_answer p due q x) old a t refl refl refl)
   step_timed (Applies i q x) e (p, a, leads, free, few, proper, may, same) =
       leads_to e _ (Begins p.place (p.posts + 1) (Asked q) ∷ Ends p.place (p.posts + 1) x ∷ []) same (both_timed d.views i p (after_apply p q x (time d)) old (Asked q) x a t refl refl refl)
+  step_timed (Archives i n) e (p, a, leads, same) = leads_to e _ [] same (quiet d.views i p (after_archive p n) old a t refl refl refl)
   step_timed (Releases i) e (p, a, leads, same) = leads_to e _ [] same (quiet d.views i p (after_release p) old a t refl refl refl)
   step_timed (ReleasesBy i q x) e (p, a, leads, none, free, few, proper, may, same) =
       leads_to e _ (Begins p.place (p.posts + 1) q ∷ Ends p.place (p.posts + 1) x ∷ []) same (both_timed d.views i p (after_release_by p q x (time d)) old q x a t refl refl refl)
@@ -401,7 +402,7 @@ run_timed (x ∷ xs) d e old t run =
     subst (AreTimed e.views) (append_assoc old (acts_of d x run.0 run.1) (dealt_history run.0 xs e run.2))
     (run_timed xs run.0 e (old ++ acts_of d x run.0 run.1) (move_timed d old t x run.0 run.1) run.2)
 
-no_pen : (room j : ℕ) (q : PenState) → get_elem? (Dealer 0 room ∷ []) j ≡ some (Holder q) → ⊥
+pub no_pen : (room j : ℕ) (q : PenState) → get_elem? (Dealer 0 room ∷ []) j ≡ some (Holder q) → ⊥
 no_pen room zero q e = let f : Dealer 0 room ≡ Holder q = some-injective (Dealer 0 room) (Holder q) e in cc
 no_pen room (suc j) q e = some-ne-none (Holder q) (sym e)
 
@@ -409,7 +410,7 @@ pub starts_timed : (room : ℕ) → AreTimed (Dealer 0 room ∷ []) []
 starts_timed room = record { counted = refl; pens = λ j q b. absurd (no_pen room j q b); kept = λ n lt. absurd (omega (arith, lt)) }
 
 pub every_run_is_timed : EveryDealtRunIsTimed
-every_run_is_timed places room moves d run = run_timed moves (dealer_opening places room) d [] (starts_timed room) run
+every_run_is_timed places limits moves d run = run_timed moves (dealer_opening places limits) d [] (starts_timed limits.room) run
 
 -- a call that a pen has read is a line of the journal
 pub read_line : (journal : List Line) (p : PenState) (room k : ℕ) (b : Call) → Knows room p journal → slice_get p.mine k ≡ Some b → IsLineOf journal p.place b
@@ -422,10 +423,10 @@ read_line journal p room k b h at =
 
 -- and so the lines of calls follow them
 pub times_order_calls : QueueLaws → TimesOrderCalls
-times_order_calls laws places room moves d small run i j p q k l b c end begin a a' at at' ends begins before =
-    let z = every_dealt_run_is_linearizable laws places room moves d small run in
-    let t = every_run_is_timed places room moves d run in
-    let m = reached_meet laws places room d small (moves, run) in
+times_order_calls laws places limits moves d small run i j p q k l b c end begin a a' at at' ends begins before =
+    let z = every_dealt_run_is_linearizable laws places limits moves d small run in
+    let t = every_run_is_timed places limits moves d run in
+    let m = reached_meet laws places limits d small (moves, run) in
     let same : z.0 ≡ m.0 = one_journal d z.0 m.0 z.1 (clauses_hold d m.0 m.1 m.2).lock in
     let e = (t.pens i p a).ended b.serial end ends in
     let f = (t.pens j q a').begun c.serial begin begins in

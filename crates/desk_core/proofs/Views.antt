@@ -13,12 +13,12 @@ use Rattle.pq_types.specs.Item.{Item}
 use Rattle.pq_types.specs.declared.control.Control.{Control}
 use Rattle.pq_types.specs.declared.control.Control.TheVariants.{Nothing}
 use Rattle.pq_types.specs.Asked.{Line}
-use Rattle.desk_core.specs.Home.{Home}
+use Rattle.pq_book.specs.Book.{Volume}
 use Rattle.desk_core.specs.Desk.{Desk, Has}
 use Rattle.desk_core.specs.Rule.{Places}
 
 -- the desk with these cells and this home Book, and with this pen at the seat
-abbrev pub becomes : Desk → Bool → (ℕ → Control) → (ℕ → Item) → Option Home → ℕ → PenState → Desk
+abbrev pub becomes : Desk → Bool → (ℕ → Control) → (ℕ → Item) → Option Volume → ℕ → PenState → Desk
 becomes d held control item home i w = record d { held = held; control = control; item = item; home = home; views = set d.views i (Holder w) }
 
 pub same_pen : (views : List View) (i : ℕ) (p q : PenState) → Has views i p → Has views i q → p ≡ q
@@ -52,7 +52,7 @@ owner_stays views i k p w a same j q b e =
     (λ ne. (j, q, has_else views i j w q ne b, e))
 
 -- each pen keeps its place
-pub places_keep : (d : Desk) (held : Bool) (control : ℕ → Control) (item : ℕ → Item) (home : Option Home) (i : ℕ) (p w : PenState) → Places d
+pub places_keep : (d : Desk) (held : Bool) (control : ℕ → Control) (item : ℕ → Item) (home : Option Volume) (i : ℕ) (p w : PenState) → Places d
     → Has d.views i p → w.place ≡ p.place
     → ((k : ℕ) → control k ≢ Nothing → (j : ℕ) × (q : PenState) × Has d.views j q × (q.place ≡ k))
     → Places (becomes d held control item home i w)

@@ -255,17 +255,17 @@ no_testimony room i p (suc j, pens, n, a, at) = absurd (some-ne-none (Testimony 
 
 pub testimonies_are_true : QueueLaws → TestimoniesAreTrue
 unfolding Gave
-testimonies_are_true laws places room moves d small run i pens n at =
-    let meets = openings_meet.dealer places room small in
-    let o = begins_at places room (Dealer 0 room ∷ []) meets in
-    let s = run_stood laws room moves (dealer_opening places room) d [] o.0
-    record { at = o.1; same_room = refl; timed = starts_timed room; witnessed = λ p g. absurd (no_testimony room 0 p g) } run in
-    let l = every_dealt_run_is_linearizable laws places room moves d small run in
+testimonies_are_true laws places limits moves d small run i pens n at =
+    let meets = openings_meet.dealer places limits small in
+    let o = begins_at places limits (Dealer 0 limits.room ∷ []) meets in
+    let s = run_stood laws limits.room moves (dealer_opening places limits) d [] o.0
+    record { at = o.1; same_room = refl; timed = starts_timed limits.room; witnessed = λ p g. absurd (no_testimony limits.room 0 p g) } run in
+    let l = every_dealt_run_is_linearizable laws places limits moves d small run in
     let same : l.0 ≡ s.0 = one_journal d l.0 s.0 l.1 (at_lock d _ s.0 s.1.at) in
     record {
-      history = dealt_history (dealer_opening places room) moves d run;
+      history = dealt_history (dealer_opening places limits) moves d run;
       journal = s.0;
-      linearizes = subst (λ js. Linearizes room (dealt_history (dealer_opening places room) moves d run) js) same l.2;
+      linearizes = subst (λ js. Linearizes limits.room (dealt_history (dealer_opening places limits) moves d run) js) same l.2;
       witnessed = λ k p e. s.1.witnessed p (i, pens, n, at, (k, e));
     }
 

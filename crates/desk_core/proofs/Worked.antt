@@ -12,6 +12,7 @@ use Rattle.pq_types.specs.Item.{item}
 use Rattle.pq_types.specs.Control.{posted, answered}
 use Rattle.pq_types.specs.History.{line}
 use Rattle.desk_core.specs.declared.model.PenState.{PenState}
+use Rattle.desk_core.specs.Desk.{volume, plain}
 use Rattle.desk_core.specs.Pen.{new_pen, after_draft, after_post, after_lead, due_to, after_read, after_read_item, after_lay, after_answer, after_release, after_release_with, after_look, after_take}
 use Rattle.desk_core.specs.Worked.{ThreePens, HalfWritten, FullJournal, OwnRequests}
 
@@ -27,7 +28,7 @@ drafted_1 = after_draft (new_pen 4 1) (item 9 9)
 
 -- the pen at 0 with the lock, and after each of its reads and answers
 abbrev leads_0 : PenState
-leads_0 = after_lead (after_post (new_pen 4 0) Pop 1) []
+leads_0 = after_lead (after_post (new_pen 4 0) Pop 1) (volume (plain 4) [])
 
 abbrev read_0 : PenState
 read_0 = after_read leads_0 0 (posted 1 Pop)
@@ -85,7 +86,7 @@ three_pens_run = (
                   (leads_0, refl, refl, lit< tt, refl),
                   (
                     _,
-                    (read_0, due_to 0 1 kind.Pop None, Pop, refl, refl, refl, refl, tt, tt, (lit< tt, refl, refl, λ ends. refl), refl),
+                    (read_0, due_to 0 1 kind.Pop None, Pop, refl, refl, refl, refl, tt, tt, (record { space = lit< tt; kept = lit< tt; heard = λ ends. refl; below = λ adds. lit< tt }, refl, refl), refl),
                     (
                       _,
                       (answered_0, refl, refl, lit< tt, refl),
@@ -94,7 +95,7 @@ three_pens_run = (
                         (read_1, due_to 1 1 kind.Push None, refl, refl, refl, refl, refl),
                         (
                           _,
-                          (item_1, due_to 1 1 kind.Push (Some (item 9 9)), Push (item 9 9), refl, refl, refl, refl, refl, tt, (lit< tt, refl, refl, λ ends. refl), refl),
+                          (item_1, due_to 1 1 kind.Push (Some (item 9 9)), Push (item 9 9), refl, refl, refl, refl, refl, tt, (record { space = lit< tt; kept = lit< tt; heard = λ ends. refl; below = λ adds. lit< tt }, refl, refl), refl),
                           (
                             _,
                             (answered_1, refl, refl, lit< tt, refl),
@@ -103,7 +104,7 @@ three_pens_run = (
                               (read_3, due_to 3 1 kind.Push None, refl, refl, refl, refl, refl),
                               (
                                 _,
-                                (item_3, due_to 3 1 kind.Push (Some (item 4 8)), Push (item 4 8), refl, refl, refl, refl, refl, tt, (lit< tt, refl, refl, λ ends. refl), refl),
+                                (item_3, due_to 3 1 kind.Push (Some (item 4 8)), Push (item 4 8), refl, refl, refl, refl, refl, tt, (record { space = lit< tt; kept = lit< tt; heard = λ ends. refl; below = λ adds. lit< tt }, refl, refl), refl),
                                 (_, (answered_3, refl, refl, refl), refl),
                               ),
                             ),
@@ -132,7 +133,7 @@ abbrev half_posted : PenState
 half_posted = after_post half_drafted Pop 0
 
 abbrev half_leads : PenState
-half_leads = after_lead (new_pen 4 0) []
+half_leads = after_lead (new_pen 4 0) (volume (plain 4) [])
 
 abbrev half_read : PenState
 half_read = after_read half_leads 1 Nothing
@@ -166,7 +167,7 @@ half_written_run =
           (half_read, refl, refl, lit< tt, refl),
           (
             _,
-            (whole_read, due_to 1 1 kind.Pop None, Pop, refl, refl, refl, refl, tt, tt, (lit< tt, refl, refl, λ ends. refl), refl),
+            (whole_read, due_to 1 1 kind.Pop None, Pop, refl, refl, refl, refl, tt, tt, (record { space = lit< tt; kept = lit< tt; heard = λ ends. refl; below = λ adds. lit< tt }, refl, refl), refl),
             (_, (whole_answered, refl, refl, refl), (_, (half_posted, Pop, refl, refl, refl), refl)),
           ),
         ),
@@ -182,7 +183,7 @@ abbrev first_posted : PenState
 first_posted = after_post first_drafted (Push (item 5 7)) 0
 
 abbrev first_leads : PenState
-first_leads = after_lead first_posted []
+first_leads = after_lead first_posted (volume (plain 2) [])
 
 abbrev first_read : PenState
 first_read = after_read first_leads 0 (posted 1 (Push (item 5 7)))
@@ -204,7 +205,7 @@ abbrev second_posted : PenState
 second_posted = after_post first_looked Pop 2
 
 abbrev second_leads : PenState
-second_leads = after_lead second_posted (line 0 1 (Push (item 5 7)) Pushed ∷ [])
+second_leads = after_lead second_posted (volume (plain 2) (line 0 1 (Push (item 5 7)) Pushed ∷ []))
 
 abbrev second_read : PenState
 second_read = after_read second_leads 0 (posted 2 Pop)
@@ -229,7 +230,7 @@ abbrev third_posted : PenState
 third_posted = after_post second_taken Least 4
 
 abbrev third_leads : PenState
-third_leads = after_lead third_posted (line 0 1 (Push (item 5 7)) Pushed ∷ line 0 2 Pop (Got (item 5 7)) ∷ [])
+third_leads = after_lead third_posted (volume (plain 2) (line 0 1 (Push (item 5 7)) Pushed ∷ line 0 2 Pop (Got (item 5 7)) ∷ []))
 
 abbrev third_read : PenState
 third_read = after_read third_leads 0 (posted 3 Least)
@@ -267,7 +268,7 @@ full_journal_run =
                 (first_read, due_to 0 1 kind.Push None, refl, refl, refl, refl, refl),
                 (
                   _,
-                  (first_item, due_to 0 1 kind.Push (Some (item 5 7)), Push (item 5 7), refl, refl, refl, refl, refl, tt, (lit< tt, refl, refl, λ ends. refl), refl),
+                  (first_item, due_to 0 1 kind.Push (Some (item 5 7)), Push (item 5 7), refl, refl, refl, refl, refl, tt, (record { space = lit< tt; kept = lit< tt; heard = λ ends. refl; below = λ adds. lit< tt }, refl, refl), refl),
                   (
                     _,
                     (first_answered, refl, refl, refl),
@@ -294,7 +295,7 @@ full_journal_run =
               (second_read, due_to 0 2 kind.Pop None, refl, refl, refl, (λ e. cc e), (lit< tt, lit< tt), refl),
               (
                 _,
-                (second_laid, due_to 0 2 kind.Pop (Some (item 5 7)), Pop, refl, refl, refl, refl, tt, refl, (lit< tt, refl, refl, λ ends. refl), refl),
+                (second_laid, due_to 0 2 kind.Pop (Some (item 5 7)), Pop, refl, refl, refl, refl, tt, refl, (record { space = lit< tt; kept = lit< tt; heard = λ ends. refl; below = λ adds. lit< tt }, refl, refl), refl),
                 (_, (second_answered, refl, refl, refl), (_, (second_released, Pop, refl, refl, refl), refl)),
               ),
             ),
@@ -327,16 +328,16 @@ full_journal_run =
 
 -- the same by its own requests
 abbrev own_first : PenState
-own_first = after_release_with (after_lead (new_pen 2 0) []) (Push (item 5 7)) (Entered 1 Pushed) 0
+own_first = after_release_with (after_lead (new_pen 2 0) (volume (plain 2) [])) (Push (item 5 7)) (Entered 1 Pushed) 0
 
 abbrev own_leads : PenState
-own_leads = after_lead own_first (line 0 1 (Push (item 5 7)) Pushed ∷ [])
+own_leads = after_lead own_first (volume (plain 2) (line 0 1 (Push (item 5 7)) Pushed ∷ []))
 
 abbrev own_second : PenState
 own_second = after_release_with own_leads Pop (Entered 2 (Got (item 5 7))) 2
 
 abbrev own_again : PenState
-own_again = after_lead own_second (line 0 1 (Push (item 5 7)) Pushed ∷ line 0 2 Pop (Got (item 5 7)) ∷ [])
+own_again = after_lead own_second (volume (plain 2) (line 0 1 (Push (item 5 7)) Pushed ∷ line 0 2 Pop (Got (item 5 7)) ∷ []))
 
 pub own_requests_run : OwnRequests
 own_requests_run =
@@ -347,13 +348,13 @@ own_requests_run =
         (new_pen 2 0, refl, inl (refl, (_, refl, refl))),
         (
           _,
-          (after_lead (new_pen 2 0) [], refl, refl, refl, (None, refl), lit< tt, (lit< tt, lit< tt), (lit< tt, refl, refl, λ ends. refl), refl),
+          (after_lead (new_pen 2 0) (volume (plain 2) []), refl, refl, refl, (None, refl), lit< tt, (lit< tt, lit< tt), (record { space = lit< tt; kept = lit< tt; heard = λ ends. refl; below = λ adds. lit< tt }, refl, refl), refl),
           (
             _,
             (own_first, refl, inl (refl, (_, refl, refl))),
             (
               _,
-              (own_leads, refl, refl, refl, (None, refl), lit< tt, tt, (lit< tt, refl, refl, λ ends. refl), refl),
+              (own_leads, refl, refl, refl, (None, refl), lit< tt, tt, (record { space = lit< tt; kept = lit< tt; heard = λ ends. refl; below = λ adds. lit< tt }, refl, refl), refl),
               (
                 _,
                 (own_second, refl, inl (refl, (_, refl, refl))),

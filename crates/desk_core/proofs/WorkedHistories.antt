@@ -13,6 +13,7 @@ use Rattle.pq_types.specs.Control.{posted, answered}
 use Rattle.pq_types.specs.History.{line}
 use Rattle.desk_core.specs.declared.model.PenState.{PenState}
 use Rattle.desk_core.specs.Calls.{call_of}
+use Rattle.desk_core.specs.Desk.{volume, plain}
 use Rattle.desk_core.specs.Pen.{new_pen, after_post, after_lead, due_to, after_read, after_lay, after_answer, after_apply, after_release_with, after_look}
 use Rattle.desk_core.specs.Linearizable.{Precedes}
 use Rattle.desk_core.specs.WorkedHistories.{ComingOut, Overtaking, Together, StaleIsRefused, stale}
@@ -21,13 +22,13 @@ abbrev waits_0 : PenState
 waits_0 = after_post (new_pen 4 0) Pop 0
 
 abbrev leads_1 : PenState
-leads_1 = after_lead (new_pen 4 1) []
+leads_1 = after_lead (new_pen 4 1) (volume (plain 4) [])
 
 abbrev entered_1 : PenState
 entered_1 = after_release_with leads_1 (Push (item 5 7)) (Entered 1 Pushed) 1
 
 abbrev again_1 : PenState
-again_1 = after_lead entered_1 (line 1 1 (Push (item 5 7)) Pushed ∷ [])
+again_1 = after_lead entered_1 (volume (plain 4) (line 1 1 (Push (item 5 7)) Pushed ∷ []))
 
 abbrev read_1 : PenState
 read_1 = after_read again_1 0 (posted 1 Pop)
@@ -53,7 +54,7 @@ overtaking_run =
           (new_pen 4 1, refl, inl (refl, (_, refl, refl))),
           (
             _,
-            (leads_1, refl, refl, refl, (None, refl), lit< tt, (lit< tt, lit< tt), (lit< tt, refl, refl, λ ends. refl), refl),
+            (leads_1, refl, refl, refl, (None, refl), lit< tt, (lit< tt, lit< tt), (record { space = lit< tt; kept = lit< tt; heard = λ ends. refl; below = λ adds. lit< tt }, refl, refl), refl),
             (
               _,
               (entered_1, refl, inl (refl, (_, refl, refl))),
@@ -65,7 +66,7 @@ overtaking_run =
                   (read_1, due_to 0 1 kind.Pop None, refl, refl, refl, (λ e. cc e), (lit< tt, lit< tt), refl),
                   (
                     _,
-                    (laid_1, due_to 0 1 kind.Pop (Some (item 5 7)), Pop, refl, refl, refl, refl, tt, refl, (lit< tt, refl, refl, λ ends. refl), refl),
+                    (laid_1, due_to 0 1 kind.Pop (Some (item 5 7)), Pop, refl, refl, refl, refl, tt, refl, (record { space = lit< tt; kept = lit< tt; heard = λ ends. refl; below = λ adds. lit< tt }, refl, refl), refl),
                     (
                       _,
                       (answered_1, refl, refl, refl),
@@ -104,10 +105,10 @@ together_run =
           (new_pen 4 1, refl, inl (refl, (_, refl, refl))),
           (
             _,
-            (leads_1, refl, refl, (None, refl), lit< tt, (lit< tt, lit< tt), (lit< tt, refl, refl, λ ends. refl), refl),
+            (leads_1, refl, refl, (None, refl), lit< tt, (lit< tt, lit< tt), (record { space = lit< tt; kept = lit< tt; heard = λ ends. refl; below = λ adds. lit< tt }, refl, refl), refl),
             (
               _,
-              (applied_1, refl, refl, (None, refl), lit< tt, (lit< tt, lit< tt), (lit< tt, refl, refl, λ ends. refl), refl),
+              (applied_1, refl, refl, (None, refl), lit< tt, (lit< tt, lit< tt), (record { space = lit< tt; kept = lit< tt; heard = λ ends. refl; below = λ adds. lit< tt }, refl, refl), refl),
               (_, (applied_2, refl, refl, refl), refl),
             ),
           ),
@@ -133,7 +134,7 @@ coming_out_run =
             (
               _,
               (new_pen 4 1, refl, inl (refl, (_, refl, refl))),
-              (_, (leads_1, refl, refl, refl, (None, refl), lit< tt, (lit< tt, lit< tt), (lit< tt, refl, refl, λ ends. refl), refl), refl),
+              (_, (leads_1, refl, refl, refl, (None, refl), lit< tt, (lit< tt, lit< tt), (record { space = lit< tt; kept = lit< tt; heard = λ ends. refl; below = λ adds. lit< tt }, refl, refl), refl), refl),
             ),
           ),
         ),

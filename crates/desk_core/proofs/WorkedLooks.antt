@@ -6,20 +6,21 @@ use Rattle.pq_types.specs.declared.answer.Reply.TheVariants.{Pushed}
 use Rattle.pq_types.specs.declared.answer.Answer.TheVariants.{Entered}
 use Rattle.pq_types.specs.Item.{item}
 use Rattle.desk_core.specs.declared.model.PenState.{PenState}
+use Rattle.desk_core.specs.Desk.{volume, plain}
 use Rattle.desk_core.specs.Pen.{new_pen, after_lead, after_release_with}
 use Rattle.desk_core.specs.WorkedLooks.{LooksBetween, first_push}
 
 abbrev leads_0 : PenState
-leads_0 = after_lead (new_pen 4 0) []
+leads_0 = after_lead (new_pen 4 0) (volume (plain 4) [])
 
 abbrev entered_0 : PenState
 entered_0 = after_release_with leads_0 (Push (item 5 7)) (Entered 1 Pushed) 0
 
 abbrev leads_1 : PenState
-leads_1 = after_lead (new_pen 4 1) (first_push ∷ [])
+leads_1 = after_lead (new_pen 4 1) (volume (plain 4) (first_push ∷ []))
 
 abbrev again_0 : PenState
-again_0 = after_lead entered_0 (first_push ∷ [])
+again_0 = after_lead entered_0 (volume (plain 4) (first_push ∷ []))
 
 pub looks_between : LooksBetween
 looks_between =
@@ -30,7 +31,7 @@ looks_between =
         (new_pen 4 0, refl, inl (refl, (_, refl, refl))),
         (
           _,
-          (leads_0, refl, refl, refl, (None, refl), lit< tt, (lit< tt, lit< tt), (lit< tt, refl, refl, λ ends. refl), refl),
+          (leads_0, refl, refl, refl, (None, refl), lit< tt, (lit< tt, lit< tt), (record { space = lit< tt; kept = lit< tt; heard = λ ends. refl; below = λ adds. lit< tt }, refl, refl), refl),
           (
             _,
             (new_pen 4 1, refl, inl (refl, (_, refl, refl))),
@@ -40,7 +41,7 @@ looks_between =
               (
                 _,
                 (entered_0, refl, inl (refl, (_, refl, refl))),
-                (_, (again_0, refl, refl, refl, (None, refl), lit< tt, (lit< tt, lit< tt), (lit< tt, refl, refl, λ ends. refl), refl), refl),
+                (_, (again_0, refl, refl, refl, (None, refl), lit< tt, (lit< tt, lit< tt), (record { space = lit< tt; kept = lit< tt; heard = λ ends. refl; below = λ adds. lit< tt }, refl, refl), refl), refl),
               ),
             ),
           ),

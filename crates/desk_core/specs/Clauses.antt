@@ -14,13 +14,13 @@ use Rattle.pq_types.specs.declared.control.Control.TheVariants.{Nothing, Posted}
 use Rattle.pq_types.specs.Asked.{Line}
 use Rattle.pq_types.specs.declared.journal.TheConstants.{GREATEST_NUMBER}
 use Rattle.pq_types.specs.Queue.{IsPush}
-use Rattle.pq_types.specs.History.{line, IsLegal, SerialsRise, HeedsShut}
+use Rattle.pq_types.specs.History.{line, IsLegal, SerialsRise, HeedsShut, Limits}
 use Rattle.desk_core.specs.Answering.{Bars, IsBarred}
 use Rattle.pq_types.specs.Mail.{IsLineNumber}
 use Rattle.pq_types.specs.Control.{request_item, reply_item, posted, answered, Carries, is_posted, is_answer}
 use Rattle.desk_core.specs.Calls.{call, calls_of}
 use Rattle.desk_core.specs.Pen.{IsIdle}
-use Rattle.desk_core.specs.Desk.{Desk, Has, volume, opening}
+use Rattle.desk_core.specs.Desk.{Desk, Has, AtHome, opening}
 use Rattle.desk_core.specs.Steps.{Event, actor, Step, Run}
 use Rattle.desk_core.specs.Rule.{StartsWith, above_mine, MeetsRule}
 use Rattle.desk_core.specs.declared.model.Standing.TheVariants.{Idle, Waiting}
@@ -31,7 +31,7 @@ use Rattle.desk_core.specs.declared.model.PenState.{PenState}
 -- it is held, the Book is out, and exactly one pen leads, with the journal in its hand.
 abbrev pub LockClause : Desk → List Line → Type 0
 LockClause d journal =
-    ((d.held ≡ false) × (d.home ≡ Some (volume d.room journal)) × ((i : ℕ) (p : PenState) → Has d.views i p → p.leading ≡ false))
+    ((d.held ≡ false) × AtHome d.home d.room journal × ((i : ℕ) (p : PenState) → Has d.views i p → p.leading ≡ false))
     ⊎ ((d.held ≡ true) × (d.home ≡ None)
     × ((i : ℕ) × (p : PenState) × Has d.views i p × (p.leading ≡ true) × (p.hand ≡ journal)
     × ((j : ℕ) (q : PenState) → Has d.views j q → q.leading ≡ true → j ≡ i)))
@@ -127,7 +127,7 @@ RuleGivesClauses = (d : Desk) → MeetsRule d → (journal : List Line) × Claus
 -- and so has the desk at the end of every run from the opening
 abbrev pub EveryRunMeetsClauses : Type 0
 EveryRunMeetsClauses =
-    (places room : ℕ) (events : List Event) (d : Desk) → room ≤ GREATEST_NUMBER → Run (opening places room) events d
+    (places : ℕ) (limits : Limits) (events : List Event) (d : Desk) → limits.room ≤ GREATEST_NUMBER → Run (opening places limits) events d
     → (journal : List Line) × Clauses d journal
 
 -- who may store in the item cell of this place: its own pen while it is idle; or the leader that

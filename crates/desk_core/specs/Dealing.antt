@@ -7,6 +7,7 @@ use Rattle.pq_types.specs.Asked.{Operation}
 use Rattle.pq_types.specs.Asked.{Answer}
 use Rattle.pq_types.specs.Asked.{Line}
 use Rattle.pq_types.specs.declared.journal.TheConstants.{GREATEST_NUMBER}
+use Rattle.pq_types.specs.History.{Limits}
 use Rattle.desk_core.specs.CallLines.{IsLineOf}
 use Rattle.desk_core.specs.Clauses.{LockClause}
 use Rattle.desk_core.specs.Pen.{new_pen}
@@ -80,38 +81,38 @@ dealt_history d [] d' run = []
 dealt_history d (x ∷ xs) d' run = acts_of d x run.0 run.1 ++ dealt_history run.0 xs d' run.2
 
 -- the desk is at the end of some run from the opening with a dealer
-abbrev pub IsReached : ℕ → ℕ → Desk → Type 0
-IsReached places room d = (moves : List Move) × DealtRun (dealer_opening places room) moves d
+abbrev pub IsReached : ℕ → Limits → Desk → Type 0
+IsReached places limits d = (moves : List Move) × DealtRun (dealer_opening places limits) moves d
 
 -- each desk at the end of a run meets the rule
 abbrev pub ReachedMeetRule : Type 0
-ReachedMeetRule = (places room : ℕ) (d : Desk) → room ≤ GREATEST_NUMBER → IsReached places room d → MeetsRule d
+ReachedMeetRule = (places : ℕ) (limits : Limits) (d : Desk) → limits.room ≤ GREATEST_NUMBER → IsReached places limits d → MeetsRule d
 
 -- whatever happens at such a desk leads to another one
 abbrev pub MovesReach : Type 0
-MovesReach = (places room : ℕ) (d d' : Desk) (x : Move) → IsReached places room d → Happens d x d' → IsReached places room d'
+MovesReach = (places : ℕ) (limits : Limits) (d d' : Desk) (x : Move) → IsReached places limits d → Happens d x d' → IsReached places limits d'
 
 -- Every run of a desk that opens with a dealer is linearized by its journal, that of the Book at home or in the leader's hand.
 abbrev pub EveryDealtRunIsLinearizable : Type 0
 EveryDealtRunIsLinearizable =
-    (places room : ℕ) (moves : List Move) (d : Desk) → room ≤ GREATEST_NUMBER
-    → (run : DealtRun (dealer_opening places room) moves d)
+    (places : ℕ) (limits : Limits) (moves : List Move) (d : Desk) → limits.room ≤ GREATEST_NUMBER
+    → (run : DealtRun (dealer_opening places limits) moves d)
     → (journal : List Line) × LockClause d journal
-    × Linearizes room (dealt_history (dealer_opening places room) moves d run) journal
+    × Linearizes limits.room (dealt_history (dealer_opening places limits) moves d run) journal
 
 -- the order of a longer run begins with that of the shorter one
 abbrev pub DealtOrderStays : Type 0
 DealtOrderStays =
-    (places room : ℕ) (before after : List Move) (m d : Desk) (journal journal' : List Line) → room ≤ GREATEST_NUMBER
-    → DealtRun (dealer_opening places room) before m → LockClause m journal → DealtRun m after d → LockClause d journal'
+    (places : ℕ) (limits : Limits) (before after : List Move) (m d : Desk) (journal journal' : List Line) → limits.room ≤ GREATEST_NUMBER
+    → DealtRun (dealer_opening places limits) before m → LockClause m journal → DealtRun m after d → LockClause d journal'
     → StartsWith journal' journal
 
 -- each line is made within its call, as of a desk whose pens are all out
 abbrev pub DealtLinesAreWithinCalls : Type 0
 DealtLinesAreWithinCalls =
-    (places room : ℕ) (before after : List Move) (m d : Desk) (journal journal' : List Line) → room ≤ GREATEST_NUMBER
-    → (past : DealtRun (dealer_opening places room) before m) → LockClause m journal → (rest : DealtRun m after d)
+    (places : ℕ) (limits : Limits) (before after : List Move) (m d : Desk) (journal journal' : List Line) → limits.room ≤ GREATEST_NUMBER
+    → (past : DealtRun (dealer_opening places limits) before m) → LockClause m journal → (rest : DealtRun m after d)
     → LockClause d journal' → (place : ℕ) (c : Call) → IsLineOf journal' place c
-    → ((answer : Answer) → IsIn (dealt_history (dealer_opening places room) before m past) (Ends place c.serial answer)
+    → ((answer : Answer) → IsIn (dealt_history (dealer_opening places limits) before m past) (Ends place c.serial answer)
     → c.number ≤ length journal)
     × ((operation : Operation) → IsIn (dealt_history m after d rest) (Begins place c.serial operation) → length journal < c.number)

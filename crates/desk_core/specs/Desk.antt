@@ -9,7 +9,8 @@ use Rattle.pq_types.specs.declared.control.Control.{Control}
 use Rattle.pq_types.specs.declared.control.Control.TheVariants.{Nothing}
 use Rattle.pq_types.specs.Asked.{Line}
 use Rattle.pq_types.specs.Item.{item}
-use Rattle.desk_core.specs.Home.{Home}
+use Rattle.pq_types.specs.History.{Limits}
+use Rattle.pq_book.specs.Book.{Volume, limits}
 use Rattle.desk_core.specs.Pen.{new_pen}
 use Rattle.desk_core.specs.declared.model.PenState.{PenState}
 use Rattle.desk_core.specs.declared.model.View.{View}
@@ -24,7 +25,7 @@ pub record Desk : Type 0 where
   pub held : Bool
   pub control : ℕ → Control
   pub item : ℕ → Item
-  pub home : Option Home
+  pub home : Option Volume
   pub views : List View
 
 -- of how many acts a seat keeps the positions
@@ -47,9 +48,20 @@ time d = acts_number d.views
 abbrev pub Has : List View → ℕ → PenState → Type 0
 Has views seat p = get_elem? views seat ≡ some (Holder p)
 
--- a Book as others see it: its room and its journal
-abbrev pub volume : ℕ → List Line → Home
-volume room journal = record { room = room; journal = journal }
+-- the Book with these limits and this journal
+abbrev pub volume : Limits → List Line → Volume
+volume l journal = record { room = l.room; bound = l.bound; allowed = l.allowed; journal = journal }
+
+-- the limits of a queue without a bound that forgets
+abbrev pub plain : ℕ → Limits
+plain room = limits room (room + 1) room
+
+-- a Book with this room and this journal is at home
+pub record AtHome (home : Option Volume) (room : ℕ) (now : List Line) : Type 0 where
+  pub book : Volume
+  pub is : home ≡ Some book
+  pub room_is : book.room ≡ room
+  pub journal_is : book.journal ≡ now
 
 -- the cells after this was stored at this place
 abbrev pub put : {X : Type 0} → (ℕ → X) → ℕ → X → ℕ → X
@@ -67,25 +79,25 @@ with_cell d place x = record d { item = put d.item place x }
 abbrev pub locked : Desk → Desk
 locked d = record d { held = true; home = None }
 
--- the desk with the lock free, and a Book with this journal at home
-abbrev pub freed : Desk → List Line → Desk
-freed d journal = record d { held = false; home = Some (volume d.room journal) }
+-- the desk with the lock free, and this Book at home
+abbrev pub freed : Desk → Volume → Desk
+freed d book = record d { held = false; home = Some book }
 
 -- the desk with this pen at the seat: no other view changes
 abbrev pub with_pen : Desk → ℕ → PenState → Desk
 with_pen d seat p = record d { views = slice_set d.views seat (Holder p) }
 
 -- a desk before all steps: the lock is free, nothing was ever posted, all cells have the item of
--- the word 0, and an empty journal of so many lines is at home
-abbrev pub fresh_desk : ℕ → ℕ → List View → Desk
-fresh_desk places room views =
+-- the word 0, and a Book with these limits and an empty journal is at home
+abbrev pub fresh_desk : ℕ → Limits → List View → Desk
+fresh_desk places l views =
     record {
-      room = room;
+      room = l.room;
       places = places;
       held = false;
       control = λ _. Nothing;
       item = λ _. item 0 0;
-      home = Some (volume room []);
+      home = Some (volume l []);
       views = views;
     }
 
@@ -95,9 +107,9 @@ pens_from room zero place = []
 pens_from room (suc n) place = Holder (new_pen room place) ∷ pens_from room n (place + 1)
 
 -- the opening with the pen of each place at the seat of the same number
-abbrev pub opening : ℕ → ℕ → Desk
-opening places room = fresh_desk places room (pens_from room places 0)
+abbrev pub opening : ℕ → Limits → Desk
+opening places l = fresh_desk places l (pens_from l.room places 0)
 
 -- the opening with a dealer alone, who has all pens still to give out
-abbrev pub dealer_opening : ℕ → ℕ → Desk
-dealer_opening places room = fresh_desk places room (Dealer 0 room ∷ [])
+abbrev pub dealer_opening : ℕ → Limits → Desk
+dealer_opening places l = fresh_desk places l (Dealer 0 l.room ∷ [])

@@ -8,7 +8,7 @@ use Rattle.pq_types.specs.declared.answer.Answer.TheVariants.{Entered, NoMemory}
 use Rattle.pq_types.specs.Item.{item}
 use Rattle.pq_types.specs.Control.{is_answer}
 use Rattle.desk_core.specs.Clauses.{LockClause, JournalClause, ControlClause, CallsClause, DueClause, ItemsClause}
-use Rattle.desk_core.specs.Desk.{Desk, Has, opening}
+use Rattle.desk_core.specs.Desk.{Desk, Has, opening, plain}
 use Rattle.desk_core.specs.Leads.{HasAnswer, KnowsAnswer}
 use Rattle.desk_core.specs.Steps.{Event, Drafts, Posts, Tries, Reads, ReadsItem, LaysItem, Answers, Releases, Looks, Run}
 use Rattle.desk_core.specs.Words.{mixed}
@@ -93,30 +93,30 @@ other_lays = Tries 1 ∷ Reads 1 0 ∷ LaysItem 1 (item 5 7) ∷ []
 pub record AskingNeedsGuards : Type 0 where
   pub pushed : Desk
   pub overwritten : Desk
-  pub push : Run (opening 2 4) pushes pushed
+  pub push : Run (opening 2 (plain 4)) pushes pushed
   pub draft : DraftsWhileWaiting pushed 0 (item 9 9) overwritten
   pub item_lost : BreaksItems overwritten
   pub answered : Desk
   pub posted_twice : Desk
-  pub answer : Run (opening 2 4) other_answers answered
+  pub answer : Run (opening 2 (plain 4)) other_answers answered
   pub post : PostsWhileWaiting answered 0 Least posted_twice
   pub answer_lost : BreaksCalls posted_twice
   pub undrafted : Desk
-  pub post_first : PostsUndrafted (opening 2 4) 0 (Push (item 5 7)) undrafted
+  pub post_first : PostsUndrafted (opening 2 (plain 4)) 0 (Push (item 5 7)) undrafted
   pub item_missing : BreaksItems undrafted
   pub half : Desk
   pub post_half : Desk
-  pub draft_half : Run (opening 2 4) half_is_drafted half
+  pub draft_half : Run (opening 2 (plain 4)) half_is_drafted half
   pub post_between : PostsUndrafted half 0 (Push (item 5 7)) post_half
   pub word_missing : BreaksItems post_half
   pub over : Desk
   pub kept : Desk
-  pub pop : Run (opening 2 4) pop_is_over over
+  pub pop : Run (opening 2 (plain 4)) pop_is_over over
   pub keep : PostsKeepingTheOld over 0 Pop kept
   pub answer_stale : BreaksOwn kept
   pub popped : Desk
   pub taken : Desk
-  pub ask : Run (opening 2 4) (Posts 0 Pop ∷ []) popped
+  pub ask : Run (opening 2 (plain 4)) (Posts 0 Pop ∷ []) popped
   pub take : TakesUnseen popped 0 taken
   pub call_made_up : BreaksCalls taken
   pub seen : Desk
@@ -133,12 +133,12 @@ pub record AskingNeedsGuards : Type 0 where
 pub record LeadingNeedsGuards : Type 0 where
   pub pushed : Desk
   pub laid : Desk
-  pub push : Run (opening 2 4) other_pushes pushed
+  pub push : Run (opening 2 (plain 4)) other_pushes pushed
   pub lay : LaysUnread pushed 0 (item 9 9) laid
   pub item_lost : BreaksItems laid
   pub read : Desk
   pub laid_at_push : Desk
-  pub read_push : Run (opening 2 4) push_is_read read
+  pub read_push : Run (opening 2 (plain 4)) push_is_read read
   pub lay_at_push : LaysAtAPush read 0 (item 9 9) laid_at_push
   pub pushed_item_lost : BreaksItems laid_at_push
   pub entered : Desk
@@ -146,36 +146,36 @@ pub record LeadingNeedsGuards : Type 0 where
   pub other_entered : BreaksControls entered
   pub asked : Desk
   pub unlaid : Desk
-  pub read_pop : Run (opening 2 4) pop_is_read_after_a_push asked
+  pub read_pop : Run (opening 2 (plain 4)) pop_is_read_after_a_push asked
   pub answer_unlaid : AnswersUnlaid asked 0 (Entered 2 (Got (item 5 7))) unlaid
   pub other_shown : BreaksItems unlaid
   pub popped : Desk
   pub refused : Desk
   pub owed : Desk
-  pub read_own : Run (opening 2 4) pop_is_read popped
+  pub read_own : Run (opening 2 (plain 4)) pop_is_read popped
   pub refuse : AnswersAnything popped 0 NoMemory refused
   pub pop_refused : BreaksControls refused
   pub answer_and_owe : AnswersAndOwes popped 0 (Entered 1 Empty) owed
   pub due_twice : BreaksDue owed
   pub answered : Desk
   pub entered_again : Desk
-  pub answer_other : Run (opening 2 4) other_answers answered
+  pub answer_other : Run (opening 2 (plain 4)) other_answers answered
   pub answer_again : AnswersAgain answered 1 (Entered 2 Empty) entered_again
   pub call_missed : BreaksCalls entered_again
   pub serial_repeated : BreaksJournal entered_again
   pub led : Desk
   pub unnoted : Desk
-  pub lead : Run (opening 2 4) other_has_answered led
+  pub lead : Run (opening 2 (plain 4)) other_has_answered led
   pub reads : ReadsUnnoted led 0 0 unnoted
   pub has_answer : HasAnswer unnoted 0 1
   pub knows_nothing : KnowsAnswer unnoted 0 1 → ⊥
   pub leads : Desk
   pub bookless : Desk
-  pub try : Run (opening 2 4) (Tries 0 ∷ []) leads
+  pub try : Run (opening 2 (plain 4)) (Tries 0 ∷ []) leads
   pub leave_out : ReleasesWithoutBook leads 0 bookless
   pub book_gone : BreaksLock bookless
   pub done : Desk
   pub emptied : Desk
-  pub answers : Run (opening 2 4) pop_is_answered done
+  pub answers : Run (opening 2 (plain 4)) pop_is_answered done
   pub empty : ReleasesAnEmptyBook done 0 emptied
   pub line_gone : BreaksControls emptied

@@ -1,6 +1,6 @@
 -- One fact for each kind of step, in the form in which a table of atomic words asks for it: from
 -- any desk that meets the rule, with what stands at the acting pen's seat, to the next.
-use Rattle.std.specs.Prelude.{◌≡◌, ◌≢◌, ℕ, ◌+◌, ◌<◌, ◌≤◌, true, false, List, Option, Some, None}
+use Rattle.std.specs.Prelude.{◌≡◌, ◌≢◌, ℕ, ◌+◌, ◌<◌, ◌≤◌, true, false, Option, Some, None}
 use Rattle.std.specs.List.{AllByRecursion}
 use Rattle.pq_types.specs.Item.{Item}
 use Rattle.pq_types.specs.Asked.{Request, Operation}
@@ -9,17 +9,16 @@ use Rattle.pq_types.specs.Asked.{Answer}
 use Rattle.pq_types.specs.declared.control.Kind.TheVariants as kind
 use Rattle.pq_types.specs.declared.control.Notice.{Notice}
 use Rattle.pq_types.specs.declared.control.Control.TheVariants.{Answered}
-use Rattle.pq_types.specs.Asked.{Line}
 use Rattle.pq_types.specs.declared.journal.TheConstants.{GREATEST_NUMBER}
 use Rattle.pq_types.specs.Queue.{IsProperRequestOf}
 use Rattle.pq_types.specs.Control.{kind_of, request_item, answer_item, posted, answered, is_answer}
-use Rattle.pq_types.specs.History.{journal_by}
-use Rattle.desk_core.specs.Answering.{MayTellOf, MayTell}
+use Rattle.pq_types.specs.History.{journal_by, MayDo, MayAnswer}
+use Rattle.pq_book.specs.Book.{Volume}
 use Rattle.pq_types.specs.Mail.{IsSerial, IsProperAnswerOf, IsProperControl}
 use Rattle.desk_core.specs.Pen.{IsIdle, IsKept, after_draft, after_post, after_lead, after_miss, after_read, after_read_item}
 use Rattle.desk_core.specs.Pen.{after_lay, after_answer, after_apply, after_release, after_release_by}
-use Rattle.desk_core.specs.Pen.{after_look, after_see, after_take}
-use Rattle.desk_core.specs.Desk.{Desk, Has, volume, with_control, with_cell, locked, freed, with_pen}
+use Rattle.desk_core.specs.Pen.{after_archive, after_look, after_see, after_take, book_with, book_in_hand, limits_in_hand}
+use Rattle.desk_core.specs.Desk.{Desk, Has, with_control, with_cell, locked, freed, with_pen}
 use Rattle.desk_core.specs.Rule.{MeetsRule}
 use Rattle.desk_core.specs.declared.model.Standing.TheVariants.{Idle, Waiting}
 use Rattle.desk_core.specs.declared.model.Due.{Due}
@@ -43,11 +42,11 @@ PostKeeps = OfEachPen (λ d seat p.
     → IsKept (request_item request) draft
     → MeetsRule (with_pen (with_control d p.place (posted (p.posts + 1) request)) seat (after_post p request now)))
 
--- a pen that finds the lock free finds the Book at home, and may lead with its journal
+-- a pen that finds the lock free finds the Book at home, which has the desk's room, and may lead with it
 abbrev pub LeadKeeps : Type 0
 LeadKeeps = OfEachPen (λ d seat p. d.held ≡ false
-    → (journal : List Line) × (d.home ≡ Some (volume d.room journal))
-    × MeetsRule (with_pen (locked d) seat (after_lead p journal)))
+    → (book : Volume) × (d.home ≡ Some book) × (book.room ≡ d.room)
+    × MeetsRule (with_pen (locked d) seat (after_lead p book)))
 
 -- a pen may find the lock held
 abbrev pub MissKeeps : Type 0
@@ -68,34 +67,38 @@ abbrev pub LayItemKeeps : Type 0
 LayItemKeeps = OfEachPen (λ d seat p. (due : Due) (x : Item) → p.due ≡ Some due → due.kind ≢ kind.Push
     → MeetsRule (with_pen (with_cell d due.place x) seat (after_lay p due x)))
 
--- it may answer what is due, with the item that it knows, as a Book with the journal in its hand
--- may
+-- it may answer what is due, with the item that it knows, as the Book in its hand may
 abbrev pub AnswerKeeps : Type 0
 AnswerKeeps = OfEachPen (λ d seat p.
     (due : Due) (request : Request) (answer : Answer) → p.due ≡ Some due → kind_of request ≡ due.kind
-    → IsKept (request_item request) due.item → IsKept (answer_item answer) due.item → MayTellOf d.room p.hand request answer
+    → IsKept (request_item request) due.item → IsKept (answer_item answer) due.item → MayAnswer (limits_in_hand p) p.hand request answer
     → MeetsRule (with_pen (with_control d due.place (answered answer)) seat (after_answer p due request answer)))
 
--- a leader that is idle and has a serial left may apply a proper request of its own, answered as a Book
--- with the journal in its hand may
+-- a leader that is idle and has a serial left may apply a proper request of its own, answered as the Book
+-- in its hand may
 abbrev pub ApplyKeeps : Type 0
 ApplyKeeps = OfEachPen (λ d seat p.
     (request : Request) (answer : Answer) (now : ℕ) → p.leading ≡ true → IsIdle p.standing → p.posts < GREATEST_NUMBER
-    → IsProperRequestOf true request → MayTellOf d.room p.hand request answer
+    → IsProperRequestOf true request → MayAnswer (limits_in_hand p) p.hand request answer
     → MeetsRule (with_pen d seat (after_apply p request answer now)))
+
+-- it may hear that lines are archived
+abbrev pub ArchiveKeeps : Type 0
+ArchiveKeeps = OfEachPen (λ d seat p. (lines : ℕ) → p.leading ≡ true → MeetsRule (with_pen d seat (after_archive p lines)))
 
 -- it may release
 abbrev pub ReleaseKeeps : Type 0
-ReleaseKeeps = OfEachPen (λ d seat p. p.leading ≡ true → MeetsRule (with_pen (freed d p.hand) seat (after_release p)))
+ReleaseKeeps = OfEachPen (λ d seat p. p.leading ≡ true
+    → MeetsRule (with_pen (freed d (book_in_hand p)) seat (after_release p)))
 
 -- a leader to which nothing is due, idle and with a serial left, may release with a proper operation of
--- its own, answered as a Book with the journal in its hand may
+-- its own, answered as the Book in its hand may
 abbrev pub ReleaseByKeeps : Type 0
 ReleaseByKeeps = OfEachPen (λ d seat p.
     (operation : Operation) (answer : Answer) (now : ℕ) → p.leading ≡ true → p.due ≡ None → IsIdle p.standing
-    → p.posts < GREATEST_NUMBER → IsProperOperationOf true operation → MayTell d.room p.hand operation answer
+    → p.posts < GREATEST_NUMBER → IsProperOperationOf true operation → MayDo (limits_in_hand p) p.hand operation answer
     → MeetsRule
-    (with_pen (freed d (journal_by p.hand p.place (p.posts + 1) operation answer)) seat
+    (with_pen (freed d (book_with p (journal_by p.hand p.place (p.posts + 1) operation answer))) seat
     (after_release_by p operation answer now)))
 
 -- a pen that waits may look
@@ -134,7 +137,7 @@ pub record IsNew (d : Desk) (p : PenState) (due : Due) : Type 0 where
   pub own : due.place ≡ p.place → due.serial ≡ p.posts
   pub proper : (request : Request) → kind_of request ≡ due.kind → IsKept (request_item request) due.item
       → IsProperRequestOf true request
-  pub answers : (request : Request) (answer : Answer) → MayTellOf d.room p.hand request answer
+  pub answers : (request : Request) (answer : Answer) → MayAnswer (limits_in_hand p) p.hand request answer
       → IsProperAnswerOf true answer × IsProperControl (answered answer)
 
 abbrev pub DueIsNew : Type 0

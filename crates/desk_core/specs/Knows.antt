@@ -10,9 +10,10 @@ use Rattle.pq_types.specs.declared.answer.Reply.TheVariants.{Pushed, Got, Empty,
 use Rattle.pq_types.specs.Asked.{Line}
 use Rattle.pq_types.specs.Operation.{request_of}
 use Rattle.pq_types.specs.History.{IsLegal, SerialsRise}
+use Rattle.pq_book.specs.Book.{Volume}
 use Rattle.desk_core.specs.Calls.{call, calls_of}
 use Rattle.desk_core.specs.Pen.{IsIdle}
-use Rattle.desk_core.specs.Desk.{Desk, Has, volume}
+use Rattle.desk_core.specs.Desk.{Desk, Has}
 use Rattle.desk_core.specs.Rule.{StartsWith, above_mine, MeetsRule}
 use Rattle.desk_core.specs.declared.model.Standing.TheVariants.{Waiting}
 use Rattle.desk_core.specs.declared.model.PenState.{PenState}
@@ -44,12 +45,11 @@ pub record Knows (room : ℕ) (p : PenState) (journal : List Line) : Type 0 wher
 abbrev pub LeadersKnow : Type 0
 LeadersKnow = (d : Desk) (seat : ℕ) (p : PenState) → MeetsRule d → Has d.views seat p → p.leading ≡ true → Knows d.room p p.hand
 
--- and each pen of the journal that is at home
+-- and each pen of the journal that is at home, in a Book with the desk's room
 abbrev pub HomeIsKnown : Type 0
 HomeIsKnown =
-    (d : Desk) (seat : ℕ) (p : PenState) (journal : List Line) → MeetsRule d → Has d.views seat p
-    → d.home ≡ Some (volume d.room journal)
-    → Knows d.room p journal
+    (d : Desk) (seat : ℕ) (p : PenState) (book : Volume) → MeetsRule d → Has d.views seat p → d.home ≡ Some book
+    → (book.room ≡ d.room) × Knows d.room p book.journal
 
 -- the reply is one to such a request: Pushed to a push; an item, or Empty, to a pop or least
 abbrev pub IsReplyTo : Request → Reply → Type 0

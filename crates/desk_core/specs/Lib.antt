@@ -27,6 +27,6 @@ pub mod Beyond
 pub mod WorkedHistories
 pub mod WrongSteps
 pub mod Guards
-pub mod Home
 pub mod Looking
+pub mod Archiving
 pub mod WorkedLooks

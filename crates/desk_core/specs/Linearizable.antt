@@ -9,7 +9,7 @@ use Rattle.pq_types.specs.declared.answer.Answer.TheVariants.{Entered, BookFull,
 use Rattle.pq_types.specs.Asked.{Line}
 use Rattle.pq_types.specs.declared.journal.TheConstants.{GREATEST_NUMBER}
 use Rattle.pq_types.specs.Control.{answer_with}
-use Rattle.pq_types.specs.History.{IsLegal, SerialsRise, HeedsShut, EndsAtShut}
+use Rattle.pq_types.specs.History.{IsLegal, SerialsRise, HeedsShut, EndsAtShut, Limits}
 use Rattle.desk_core.specs.Answering.{Bars}
 use Rattle.desk_core.specs.Calls.{call_of}
 use Rattle.desk_core.specs.CallLines.{IsLineOf}
@@ -17,7 +17,7 @@ use Rattle.desk_core.specs.Clauses.{HasNo, LockClause}
 use Rattle.desk_core.specs.Pen.{told_by}
 use Rattle.desk_core.specs.Desk.{Desk, put, opening}
 use Rattle.desk_core.specs.Steps.{Event, Drafts, Posts, Tries, Reads, ReadsItem, LaysItem, Answers, Applies}
-use Rattle.desk_core.specs.Steps.{Releases, ReleasesBy, Looks, SeesItem, TakesItem, Step, Run}
+use Rattle.desk_core.specs.Steps.{Archives, Releases, ReleasesBy, Looks, SeesItem, TakesItem, Step, Run}
 use Rattle.desk_core.specs.Rule.{StartsWith}
 use Rattle.desk_core.specs.declared.model.Call.{Call}
 
@@ -47,6 +47,7 @@ acts d (LaysItem seat x) d' step = []
 acts d (Answers seat answer) d' step = []
 acts d (Applies seat request answer) d' step =
     Begins step.0.place (step.0.posts + 1) (Asked request) ∷ Ends step.0.place (step.0.posts + 1) answer ∷ []
+acts d (Archives seat lines) d' step = []
 acts d (Releases seat) d' step = []
 acts d (ReleasesBy seat operation answer) d' step =
     Begins step.0.place (step.0.posts + 1) operation ∷ Ends step.0.place (step.0.posts + 1) answer ∷ []
@@ -114,24 +115,24 @@ pub record Linearizes (room : ℕ) (history : List Act) (journal : List Line) : 
 -- leader's hand
 abbrev pub EveryRunIsLinearizable : Type 0
 EveryRunIsLinearizable =
-    (places room : ℕ) (events : List Event) (d : Desk) → room ≤ GREATEST_NUMBER → (run : Run (opening places room) events d)
-    → (journal : List Line) × LockClause d journal × Linearizes room (history (opening places room) events d run) journal
+    (places : ℕ) (limits : Limits) (events : List Event) (d : Desk) → limits.room ≤ GREATEST_NUMBER → (run : Run (opening places limits) events d)
+    → (journal : List Line) × LockClause d journal × Linearizes limits.room (history (opening places limits) events d run) journal
 
 -- the order of a longer run begins with that of the shorter one: no call that has a line is put elsewhere
 abbrev pub OrderStays : Type 0
 OrderStays =
-    (places room : ℕ) (before after : List Event) (m d : Desk) (journal journal' : List Line) → room ≤ GREATEST_NUMBER
-    → Run (opening places room) before m → LockClause m journal → Run m after d → LockClause d journal'
+    (places : ℕ) (limits : Limits) (before after : List Event) (m d : Desk) (journal journal' : List Line) → limits.room ≤ GREATEST_NUMBER
+    → Run (opening places limits) before m → LockClause m journal → Run m after d → LockClause d journal'
     → StartsWith journal' journal
 
 -- Each line is made within its call. At any moment of a run, a call that has ended has its line, if it ever gets
 -- one, in the journal; and the line of a call that begins later is behind that whole journal.
 abbrev pub LinesAreWithinCalls : Type 0
 LinesAreWithinCalls =
-    (places room : ℕ) (before after : List Event) (m d : Desk) (journal journal' : List Line) → room ≤ GREATEST_NUMBER
-    → (past : Run (opening places room) before m) → LockClause m journal → (rest : Run m after d) → LockClause d journal'
+    (places : ℕ) (limits : Limits) (before after : List Event) (m d : Desk) (journal journal' : List Line) → limits.room ≤ GREATEST_NUMBER
+    → (past : Run (opening places limits) before m) → LockClause m journal → (rest : Run m after d) → LockClause d journal'
     → (place : ℕ) (c : Call) → IsLineOf journal' place c
-    → ((answer : Answer) → IsIn (history (opening places room) before m past) (Ends place c.serial answer)
+    → ((answer : Answer) → IsIn (history (opening places limits) before m past) (Ends place c.serial answer)
     → c.number ≤ length journal)
     × ((operation : Operation) → IsIn (history m after d rest) (Begins place c.serial operation) → length journal < c.number)
 

@@ -5,6 +5,7 @@ use Rattle.pq_types.specs.Asked.{Operation}
 use Rattle.pq_types.specs.Asked.{Answer}
 use Rattle.pq_types.specs.Asked.{Line}
 use Rattle.pq_types.specs.declared.journal.TheConstants.{GREATEST_NUMBER}
+use Rattle.pq_types.specs.History.{Limits}
 use Rattle.desk_core.specs.CallLines.{IsLineOf}
 use Rattle.desk_core.specs.Clauses.{LockClause}
 use Rattle.desk_core.specs.Desk.{Desk, opening, dealer_opening}
@@ -97,13 +98,13 @@ pub record LinearizesLooks (room : ℕ) (seen : List Sight) (journal : List Line
 -- every run of the desk from the opening is linearized so by its journal, that of the Book at home or in the leader's hand
 abbrev pub EveryRunLinearizesLooks : Type 0
 EveryRunLinearizesLooks =
-    (places room : ℕ) (events : List Event) (d : Desk) → room ≤ GREATEST_NUMBER → (run : Run (opening places room) events d)
-    → (journal : List Line) × LockClause d journal × LinearizesLooks room (sights (opening places room) events d run) journal
+    (places : ℕ) (limits : Limits) (events : List Event) (d : Desk) → limits.room ≤ GREATEST_NUMBER → (run : Run (opening places limits) events d)
+    → (journal : List Line) × LockClause d journal × LinearizesLooks limits.room (sights (opening places limits) events d run) journal
 
 -- and so is every run of a desk that opens with a dealer
 abbrev pub EveryDealtRunLinearizesLooks : Type 0
 EveryDealtRunLinearizesLooks =
-    (places room : ℕ) (moves : List Move) (d : Desk) → room ≤ GREATEST_NUMBER
-    → (run : DealtRun (dealer_opening places room) moves d)
+    (places : ℕ) (limits : Limits) (moves : List Move) (d : Desk) → limits.room ≤ GREATEST_NUMBER
+    → (run : DealtRun (dealer_opening places limits) moves d)
     → (journal : List Line) × LockClause d journal
-    × LinearizesLooks room (dealt_sights (dealer_opening places room) moves d run) journal
+    × LinearizesLooks limits.room (dealt_sights (dealer_opening places limits) moves d run) journal

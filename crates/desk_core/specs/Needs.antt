@@ -8,8 +8,8 @@ use Rattle.pq_types.specs.Asked.{Answer}
 use Rattle.pq_types.specs.declared.answer.Answer.TheVariants.{Entered}
 use Rattle.pq_types.specs.Asked.{Line}
 use Rattle.pq_types.specs.History.{journal_after}
-use Rattle.desk_core.specs.Pen.{after_release_with}
-use Rattle.desk_core.specs.Desk.{Desk, Has, time, freed, with_pen, opening}
+use Rattle.desk_core.specs.Pen.{after_release_with, book_with}
+use Rattle.desk_core.specs.Desk.{Desk, Has, time, freed, with_pen, opening, plain}
 use Rattle.desk_core.specs.Steps.{Event, Posts, Tries, Reads, Run}
 use Rattle.desk_core.specs.Clauses.{ControlClause}
 use Rattle.desk_core.specs.Guards.{BreaksDue}
@@ -19,7 +19,7 @@ use Rattle.desk_core.specs.declared.model.PenState.{PenState}
 abbrev pub ReleasesAnyway : Desk → ℕ → Request → Answer → Desk → Type 0
 ReleasesAnyway d seat request answer d' =
     (p : PenState) × Has d.views seat p × (p.leading ≡ true)
-    × (d' ≡ with_pen (freed d (journal_after p.hand p.place (p.posts + 1) request answer)) seat
+    × (d' ≡ with_pen (freed d (book_with p (journal_after p.hand p.place (p.posts + 1) request answer))) seat
     (after_release_with p request answer (time d)))
 
 -- whatever the journal, the controls of a desk are not those of its pens
@@ -40,11 +40,11 @@ reads_and_owes = Posts 1 Pop ∷ Tries 0 ∷ Reads 0 1 ∷ []
 pub record OwnRequestNeeds : Type 0 where
   pub waiting : Desk
   pub posted_twice : Desk
-  pub waits : Run (opening 1 4) waits_and_leads waiting
+  pub waits : Run (opening 1 (plain 4)) waits_and_leads waiting
   pub while_waiting : ReleasesAnyway waiting 0 Pop (Entered 1 Empty) posted_twice
   pub controls : HasNoJournal posted_twice
   pub owing : Desk
   pub left_due : Desk
-  pub owes : Run (opening 2 4) reads_and_owes owing
+  pub owes : Run (opening 2 (plain 4)) reads_and_owes owing
   pub while_due : ReleasesAnyway owing 0 Pop (Entered 1 Empty) left_due
   pub due : BreaksDue left_due

@@ -1,5 +1,6 @@
 -- A pen, and what it is after each of its steps, by what it stored or found.
-use Rattle.std.specs.Prelude.{◌≡◌, ℕ, ◌+◌, ◌==◌, if◌then◌else◌, Bool, true, false, List, [], ◌∷◌, ◌++◌, Option, Some, None}
+use Rattle.std.specs.Prelude.{◌≡◌, ℕ, ◌+◌, ◌==◌, max, min, if◌then◌else◌, Bool, true, false, List, [], ◌∷◌, ◌++◌, length, Option}
+use Rattle.std.specs.Prelude.{Some, None}
 use Rattle.pq_types.specs.Item.{Item}
 use Rattle.pq_types.specs.Asked.{Request, Operation}
 use Rattle.pq_types.specs.Operation.{Ticketed, Asked, ByTicket}
@@ -14,7 +15,9 @@ use Rattle.pq_types.specs.declared.control.Control.{Control}
 use Rattle.pq_types.specs.declared.control.Control.TheVariants.{Nothing, Posted, Answered}
 use Rattle.pq_types.specs.Asked.{Line}
 use Rattle.pq_types.specs.Control.{answer_with, posted, answered}
-use Rattle.pq_types.specs.History.{journal_by, journal_after}
+use Rattle.pq_types.specs.History.{journal_by, journal_after, Limits}
+use Rattle.pq_book.specs.Book.{Volume, limits}
+use Rattle.pq_book.specs.Pages.{page_of}
 use Rattle.desk_core.specs.Calls.{gained, gained_by}
 use Rattle.desk_core.specs.declared.model.Call.{Call}
 use Rattle.desk_core.specs.declared.model.Standing.{Standing}
@@ -36,6 +39,8 @@ new_pen room place =
       told_full = false;
       leading = false;
       hand = [];
+      bound = 0;
+      allowed = 0;
       dealt = [];
       known = [];
       due = None;
@@ -72,10 +77,31 @@ after_post p request now =
       steps = p.steps + 1;
     }
 
--- it has found the lock free and taken it: it leads, with this journal in its hand
-abbrev pub after_lead : PenState → List Line → PenState
-after_lead p journal =
-    record p { leading = true; hand = journal; dealt = []; due = None; read = Some (word.Lock false); steps = p.steps + 1 }
+-- the Book that a pen has in its hand, or had last, once its journal is this one
+abbrev pub book_with : PenState → List Line → Volume
+book_with p journal = record { room = p.room; bound = p.bound; allowed = p.allowed; journal = journal }
+
+-- the Book in its hand
+abbrev pub book_in_hand : PenState → Volume
+book_in_hand p = book_with p p.hand
+
+-- and the limits of that Book
+abbrev pub limits_in_hand : PenState → Limits
+limits_in_hand p = limits p.room p.bound p.allowed
+
+-- it has found the lock free and taken it: it leads, with this Book in its hand
+abbrev pub after_lead : PenState → Volume → PenState
+after_lead p book =
+    record p {
+      leading = true;
+      hand = book.journal;
+      bound = book.bound;
+      allowed = book.allowed;
+      dealt = [];
+      due = None;
+      read = Some (word.Lock false);
+      steps = p.steps + 1;
+    }
 
 -- it has found the lock held, and does not lead
 abbrev pub after_miss : PenState → PenState
@@ -188,6 +214,16 @@ after_apply p request answer now =
       ends = own_ends p now;
       steps = p.steps + 1;
     }
+
+-- how many lines a journal with this room may have once so many are archived, where so many were allowed before
+abbrev pub allowed_by : ℕ → ℕ → ℕ → ℕ
+allowed_by room allowed archived = max allowed (archived + page_of room)
+
+-- as the leader it has heard that the first so many lines of the journal in its hand are archived, or all where it has fewer:
+-- the Book in its hand allows as many more as memory keeps
+abbrev pub after_archive : PenState → ℕ → PenState
+after_archive p lines =
+    record p { allowed = allowed_by p.room p.allowed (min lines (length p.hand)); steps = p.steps + 1 }
 
 -- the answer that this control tells by itself: none where it is no answer, or one whose item is
 -- still to be read

@@ -2,6 +2,7 @@
 -- positions from the next one on. So positions are given in the order in which the steps are taken.
 use Rattle.std.specs.Prelude.{◌≡◌, ℕ, ◌+◌, ◌<◌, ◌≤◌, ◌⊎◌, [], ◌∷◌, ◌++◌, slice_set}
 use Rattle.pq_types.specs.declared.journal.TheConstants.{GREATEST_NUMBER}
+use Rattle.pq_types.specs.History.{Limits}
 use Rattle.desk_core.specs.Desk.{Desk, Has, time}
 use Rattle.desk_core.specs.Dealing.{IsReached}
 use Rattle.desk_core.specs.Times.{KeepsPosition}
@@ -24,7 +25,7 @@ pub record KeepsTheNext (before after : ℕ) (p w : PenState) : Type 0 where
 -- no fewer
 abbrev pub PositionsAreForced : Type 0
 PositionsAreForced =
-    (places room : ℕ) (d d' : Desk) (seat : ℕ) (p w : PenState) → room ≤ GREATEST_NUMBER
-    → IsReached places room d → IsReached places room d'
+    (places : ℕ) (limits : Limits) (d d' : Desk) (seat : ℕ) (p w : PenState) → limits.room ≤ GREATEST_NUMBER
+    → IsReached places limits d → IsReached places limits d'
     → Has d.views seat p → d'.views ≡ slice_set d.views seat (Holder w) → time d ≤ time d'
     → KeepsTheNext (time d) (time d') p w

@@ -19,11 +19,11 @@ use Rattle.pq_types.specs.Asked.{Line}
 use Rattle.pq_types.specs.declared.journal.TheConstants.{GREATEST_NUMBER}
 use Rattle.pq_types.specs.Queue.{IsProperRequestOf, AreItemsOf, IsPush}
 use Rattle.pq_types.specs.Control.{request_item, reply_item, Carries, posted, answered, is_answer}
-use Rattle.pq_types.specs.History.{line, left, IsLegal, SerialsRise, HeedsShut}
+use Rattle.pq_types.specs.History.{line, left, IsLegal, SerialsRise, HeedsShut, Limits}
 use Rattle.pq_types.specs.Mail.{IsProperAnswerOf}
 use Rattle.desk_core.specs.Calls.{call, calls_of}
 use Rattle.desk_core.specs.Pen.{new_pen}
-use Rattle.desk_core.specs.Desk.{Desk, Has, volume, opening, dealer_opening}
+use Rattle.desk_core.specs.Desk.{Desk, Has, AtHome, opening, dealer_opening}
 use Rattle.desk_core.specs.Steps.{Event, Step, Run}
 use Rattle.desk_core.specs.declared.model.Call.{Call}
 use Rattle.desk_core.specs.declared.model.Standing.{Standing}
@@ -122,7 +122,7 @@ IsLed d journal chief seat p = p.leading ≡ true → (seat ≡ chief) × (d.hel
 -- Book is out and the chief leads
 abbrev pub Lock : Desk → List Line → ℕ → Type 0
 Lock d journal chief =
-    ((d.held ≡ false) × (d.home ≡ Some (volume d.room journal)))
+    ((d.held ≡ false) × AtHome d.home d.room journal)
     ⊎ ((d.held ≡ true) × (d.home ≡ None) × ((p : PenState) × Has d.views chief p × (p.leading ≡ true)))
 
 -- each pen has a place of its own, and a control that is not Nothing has a pen
@@ -168,8 +168,8 @@ MeetsRule d = (journal : List Line) × (chief : ℕ) × RuleAt d journal chief
 
 -- both openings meet the rule
 pub record OpeningsMeetRule : Type 0 where
-  pub pens : (places room : ℕ) → room ≤ GREATEST_NUMBER → MeetsRule (opening places room)
-  pub dealer : (places room : ℕ) → room ≤ GREATEST_NUMBER → MeetsRule (dealer_opening places room)
+  pub pens : (places : ℕ) (limits : Limits) → limits.room ≤ GREATEST_NUMBER → MeetsRule (opening places limits)
+  pub dealer : (places : ℕ) (limits : Limits) → limits.room ≤ GREATEST_NUMBER → MeetsRule (dealer_opening places limits)
 
 -- each step keeps it
 abbrev pub EveryStepKeepsRule : Type 0
@@ -184,5 +184,5 @@ DealingKeepsRule =
 
 -- and so it holds after every run from the opening
 abbrev pub EveryRunMeetsRule : Type 0
-EveryRunMeetsRule = (places room : ℕ) (events : List Event) (d : Desk) → room ≤ GREATEST_NUMBER
-    → Run (opening places room) events d → MeetsRule d
+EveryRunMeetsRule = (places : ℕ) (limits : Limits) (events : List Event) (d : Desk) → limits.room ≤ GREATEST_NUMBER
+    → Run (opening places limits) events d → MeetsRule d

@@ -13,11 +13,11 @@ use Rattle.pq_types.specs.declared.journal.TheConstants.{GREATEST_NUMBER}
 use Rattle.pq_types.specs.Item.{IsItemOf}
 use Rattle.pq_types.specs.Queue.{IsProperRequestOf}
 use Rattle.pq_types.specs.Control.{kind_of, request_item, answer_item, notice_has_item, posted, answered}
-use Rattle.pq_types.specs.History.{journal_by}
-use Rattle.desk_core.specs.Answering.{MayTellOf, MayTell}
-use Rattle.desk_core.specs.Home.{Home}
+use Rattle.pq_types.specs.History.{journal_by, MayDo, MayAnswer}
+use Rattle.pq_book.specs.Book.{Volume}
 use Rattle.desk_core.specs.Pen.{IsIdle, IsKept, after_draft, after_post, after_lead, after_miss, after_read, after_read_item}
-use Rattle.desk_core.specs.Pen.{after_lay, after_answer, after_apply, after_release, after_release_by, after_look, after_see, after_take}
+use Rattle.desk_core.specs.Pen.{after_lay, after_answer, after_apply, after_archive, after_release, after_release_by, after_look}
+use Rattle.desk_core.specs.Pen.{after_see, after_take, book_with, book_in_hand, limits_in_hand}
 use Rattle.desk_core.specs.Desk.{Desk, Has, time, with_control, with_cell, locked, freed, with_pen}
 use Rattle.desk_core.specs.declared.model.Standing.TheVariants.{Idle, Waiting}
 use Rattle.desk_core.specs.declared.model.Due.{Due}
@@ -25,8 +25,8 @@ use Rattle.desk_core.specs.declared.model.PenState.{PenState}
 
 -- What a pen, named by its seat, may do: draft an item; post a request; try the lock; as the leader
 -- read the mail at a place, read the item of what is due, lay the item of an answer there, answer
--- it, apply a request of its own, release the lock, alone or with an operation of its own; look for its
--- answer, and take its item. No order is preferred, and a pen may halt after any step.
+-- it, apply a request of its own, hear that lines are archived, release the lock, alone or with an operation
+-- of its own; look for its answer, and take its item. No order is preferred, and a pen may halt after any step.
 pub data Event : Type 0 where
   Drafts : (seat : ℕ) (item : Item) → Event
   Posts : (seat : ℕ) (request : Request) → Event
@@ -36,6 +36,7 @@ pub data Event : Type 0 where
   LaysItem : (seat : ℕ) (item : Item) → Event
   Answers : (seat : ℕ) (answer : Answer) → Event
   Applies : (seat : ℕ) (request : Request) (answer : Answer) → Event
+  Archives : (seat lines : ℕ) → Event
   Releases : (seat : ℕ) → Event
   ReleasesBy : (seat : ℕ) (operation : Operation) (answer : Answer) → Event
   Looks : (seat : ℕ) → Event
@@ -60,6 +61,7 @@ actor (ReadsItem seat) = seat
 actor (LaysItem seat x) = seat
 actor (Answers seat answer) = seat
 actor (Applies seat request answer) = seat
+actor (Archives seat lines) = seat
 actor (Releases seat) = seat
 actor (ReleasesBy seat operation answer) = seat
 actor (Looks seat) = seat
@@ -85,7 +87,7 @@ StepsPost d seat request d' =
 abbrev pub StepsTry : Desk → ℕ → Desk → Type 0
 StepsTry d seat d' =
     (p : PenState) × Has d.views seat p
-    × (((d.held ≡ false) × ((book : Home) × (d.home ≡ Some book) × (d' ≡ with_pen (locked d) seat (after_lead p book.journal))))
+    × (((d.held ≡ false) × ((book : Volume) × (d.home ≡ Some book) × (d' ≡ with_pen (locked d) seat (after_lead p book))))
     ⊎ ((d.held ≡ true) × (d' ≡ with_pen d seat (after_miss p))))
 
 -- The leader reads the mail at a place: the control alone.
@@ -108,43 +110,50 @@ StepsLayItem d seat x d' =
     × Has d.views seat p × (p.leading ≡ true) × (p.due ≡ Some due) × (due.kind ≢ kind.Push) × IsItemOf true x
     × (d' ≡ with_pen (with_cell d due.place x) seat (after_lay p due x))
 
--- The leader answers what is due, as a Book with its journal may answer: a push after it has read
+-- The leader answers what is due, as the Book in its hand may answer: a push after it has read
 -- the item, and with an item that it has laid.
 abbrev pub StepsAnswer : Desk → ℕ → Answer → Desk → Type 0
 StepsAnswer d seat answer d' =
     (p : PenState) × (due : Due) × (request : Request)
     × Has d.views seat p × (p.leading ≡ true) × (p.due ≡ Some due)
     × (kind_of request ≡ due.kind) × IsKept (request_item request) due.item × IsKept (answer_item answer) due.item
-    × MayTellOf d.room p.hand request answer
+    × MayAnswer (limits_in_hand p) p.hand request answer
     × (d' ≡ with_pen (with_control d due.place (answered answer)) seat (after_answer p due request answer))
 
--- A leader that is idle and has a serial left applies a request of its own, answered as a Book with its
--- journal may answer, and goes on leading: the journal in its hand has its line, if it is entered. No cell
+-- A leader that is idle and has a serial left applies a request of its own, answered as the Book in its
+-- hand may answer, and goes on leading: the journal in its hand has its line, if it is entered. No cell
 -- changes; it loads the lock, which it holds.
 abbrev pub StepsApply : Desk → ℕ → Request → Answer → Desk → Type 0
 StepsApply d seat request answer d' =
     (p : PenState)
     × Has d.views seat p × (p.leading ≡ true) × IsIdle p.standing × (p.posts < GREATEST_NUMBER)
     × IsProperRequestOf true request
-    × MayTellOf d.room p.hand request answer
+    × MayAnswer (limits_in_hand p) p.hand request answer
     × (d' ≡ with_pen d seat (after_apply p request answer (time d)))
 
--- The leader puts the Book home with the journal in its hand, and frees the lock.
+-- The leader hears that the first so many lines of its journal are archived. No cell changes; it loads the
+-- lock, which it holds.
+abbrev pub StepsArchive : Desk → ℕ → ℕ → Desk → Type 0
+StepsArchive d seat lines d' =
+    (p : PenState) × Has d.views seat p × (p.leading ≡ true)
+    × (d' ≡ with_pen d seat (after_archive p lines))
+
+-- The leader puts the Book in its hand home, and frees the lock.
 abbrev pub StepsRelease : Desk → ℕ → Desk → Type 0
 StepsRelease d seat d' =
     (p : PenState) × Has d.views seat p × (p.leading ≡ true)
-    × (d' ≡ with_pen (freed d p.hand) seat (after_release p))
+    × (d' ≡ with_pen (freed d (book_in_hand p)) seat (after_release p))
 
 -- A leader to which nothing is due, and which is idle and has a serial left, releases the lock with an
--- operation of its own, answered as a Book with its journal may answer: the Book that goes home has its
--- line, if it is entered.
+-- operation of its own, answered as the Book in its hand may answer: that Book goes home with its line, if it
+-- is entered.
 abbrev pub StepsReleaseBy : Desk → ℕ → Operation → Answer → Desk → Type 0
 StepsReleaseBy d seat operation answer d' =
     (p : PenState)
     × Has d.views seat p × (p.leading ≡ true) × (p.due ≡ None) × IsIdle p.standing × (p.posts < GREATEST_NUMBER)
     × IsProperOperationOf true operation
-    × MayTell d.room p.hand operation answer
-    × (d' ≡ with_pen (freed d (journal_by p.hand p.place (p.posts + 1) operation answer)) seat
+    × MayDo (limits_in_hand p) p.hand operation answer
+    × (d' ≡ with_pen (freed d (book_with p (journal_by p.hand p.place (p.posts + 1) operation answer))) seat
     (after_release_by p operation answer (time d)))
 
 -- A pen that waits looks at the control of its own place.
@@ -180,6 +189,7 @@ Step d (ReadsItem seat) d' = StepsReadItem d seat d'
 Step d (LaysItem seat x) d' = StepsLayItem d seat x d'
 Step d (Answers seat answer) d' = StepsAnswer d seat answer d'
 Step d (Applies seat request answer) d' = StepsApply d seat request answer d'
+Step d (Archives seat lines) d' = StepsArchive d seat lines d'
 Step d (Releases seat) d' = StepsRelease d seat d'
 Step d (ReleasesBy seat operation answer) d' = StepsReleaseBy d seat operation answer d'
 Step d (Looks seat) d' = StepsLook d seat d'

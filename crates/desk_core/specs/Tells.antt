@@ -1,5 +1,5 @@
 -- What each kind of step tells and leaves, in plain words: none of it is said by the rule.
-use Rattle.std.specs.Prelude.{◌≡◌, ◌≢◌, ◌↔◌, ℕ, ◌+◌, ◌<◌, true, false, [], ◌∷◌, ◌++◌, length, Some, None}
+use Rattle.std.specs.Prelude.{◌≡◌, ◌≢◌, ◌↔◌, ℕ, ◌+◌, ◌<◌, max, min, true, false, [], ◌∷◌, ◌++◌, length, Some, None}
 use Rattle.std.specs.List.{AllByRecursion}
 use Rattle.pq_types.specs.Item.{Item}
 use Rattle.pq_types.specs.Asked.{Request, Operation}
@@ -12,12 +12,13 @@ use Rattle.pq_types.specs.Operation.{Asked}
 use Rattle.pq_types.specs.declared.control.Kind.{Kind}
 use Rattle.pq_types.specs.declared.control.Control.TheVariants.{Posted}
 use Rattle.pq_types.specs.Control.{answer_item, reply_item, posted, answered, is_posted, is_answer, has_item}
-use Rattle.pq_types.specs.History.{journal_by, journal_after, EndsAtShut, IsHeard, is_shut}
+use Rattle.pq_types.specs.History.{journal_by, journal_after, EndsAtShut, is_shut, MayDo, MayAnswer}
 use Rattle.desk_core.specs.Calls.{call, gained, gained_by}
-use Rattle.desk_core.specs.Pen.{due_to}
-use Rattle.desk_core.specs.Desk.{Desk, Has, volume}
+use Rattle.pq_book.specs.Pages.{page_of}
+use Rattle.desk_core.specs.Pen.{due_to, book_with, book_in_hand, limits_in_hand}
+use Rattle.desk_core.specs.Desk.{Desk, Has}
 use Rattle.desk_core.specs.Steps.{Drafts, Posts, Tries, Reads, ReadsItem, LaysItem, Answers, Applies}
-use Rattle.desk_core.specs.Steps.{Releases, ReleasesBy, Looks, SeesItem, TakesItem, Step}
+use Rattle.desk_core.specs.Steps.{Archives, Releases, ReleasesBy, Looks, SeesItem, TakesItem, Step}
 use Rattle.desk_core.specs.Rule.{MeetsRule}
 use Rattle.desk_core.specs.declared.model.Standing.TheVariants.{Idle, Waiting}
 use Rattle.desk_core.specs.declared.model.Due.{Due}
@@ -64,10 +65,10 @@ pub record AfterPost (d d' : Desk) (request : Request) (p p' : PenState) : Type 
   pub mine : p'.mine ≡ p.mine
   pub lead : SameLead p p'
 
--- Where the lock was free, the pen leads with the home Book's journal in its hand, and has noted
+-- Where the lock was free, the pen leads with the Book that was at home in its hand, and has noted
 -- nothing. Where it was held, the pen is as it was. It has read which of the two.
 pub record AfterTry (d d' : Desk) (p p' : PenState) : Type 0 where
-  pub won : d.held ≡ false → (p'.leading ≡ true) × (d.home ≡ Some (volume d.room p'.hand)) × (p'.dealt ≡ []) × (p'.due ≡ None)
+  pub won : d.held ≡ false → (p'.leading ≡ true) × (d.home ≡ Some (book_in_hand p')) × (p'.dealt ≡ []) × (p'.due ≡ None)
       × (p'.known ≡ p.known)
   pub missed : d.held ≡ true → SameLead p p'
   pub held : d'.held ≡ true
@@ -113,8 +114,8 @@ pub record AfterLay (d d' : Desk) (x : Item) (p p' : PenState) : Type 0 where
   pub round : SameRound p p'
   pub asker : SameAsker p p'
 
--- The answer, BookFull exactly where the journal in hand is full, else Shut exactly where a shut refuses
--- it, stands at the place that was due: to the request which waits there. The journal gains its line, if
+-- The answer is one that the Book in hand may give: BookFull exactly where its journal is full, else Shut exactly
+-- where a shut refuses it. It stands at the place that was due: to the request which waits there. The journal gains its line, if
 -- it is entered; nothing is due, and the place and its answer are what the leader last saw at its own
 -- place, if it is that.
 pub record AfterAnswer (d d' : Desk) (answer : Answer) (p p' : PenState) : Type 0 where
@@ -123,6 +124,7 @@ pub record AfterAnswer (d d' : Desk) (answer : Answer) (p p' : PenState) : Type 
   pub was : p.due ≡ Some due
   pub waits : (i : ℕ) × (q : PenState) × Has d.views i q × (q.place ≡ due.place) × (q.posts ≡ due.serial)
       × (q.standing ≡ Waiting request)
+  pub may : MayAnswer (limits_in_hand p) p.hand request answer
   pub full : (answer ≡ BookFull) ↔ (length p.hand ≡ d.room)
   pub shut : (answer ≡ Refused Shut) ↔ ((length p.hand < d.room) × EndsAtShut (Asked request) × (is_shut p.hand ≡ true))
   pub stands : d'.control due.place ≡ answered answer
@@ -143,6 +145,7 @@ pub record AfterAnswer (d d' : Desk) (answer : Answer) (p p' : PenState) : Type 
 pub record AfterApply (d d' : Desk) (request : Request) (answer : Answer) (p p' : PenState) : Type 0 where
   pub leading : p'.leading ≡ true
   pub hand : p'.hand ≡ journal_after p.hand p.place p'.posts request answer
+  pub may : MayAnswer (limits_in_hand p) p.hand request answer
   pub full : (answer ≡ BookFull) ↔ (length p.hand ≡ d.room)
   pub shut : (answer ≡ Refused Shut) ↔ ((length p.hand < d.room) × EndsAtShut (Asked request) × (is_shut p.hand ≡ true))
   pub posts : p'.posts ≡ p.posts + 1
@@ -158,28 +161,39 @@ pub record AfterApply (d d' : Desk) (request : Request) (answer : Answer) (p p' 
   pub control : d'.control p.place ≡ d.control p.place
   pub cell : d'.item p.place ≡ d.item p.place
 
--- the lock is free, and the Book at home with the journal that was in hand, which the pen keeps as
--- what it knows
+-- The Book in hand has the same room, bound and journal, and allows as many lines as it did, or as many as
+-- memory keeps behind those that are archived, where these are more. All else is as it was.
+pub record AfterArchive (d d' : Desk) (lines : ℕ) (p p' : PenState) : Type 0 where
+  pub book : book_in_hand p'
+      ≡ record (book_in_hand p) { allowed = max p.allowed (min lines (length p.hand) + page_of p.room) }
+  pub lead : SameLead p p'
+  pub asker : SameAsker p p'
+  pub own : p'.own ≡ p.own
+  pub held : d'.held ≡ d.held
+  pub home : d'.home ≡ d.home
+
+-- the lock is free, and the Book that was in hand is at home; its journal is what the pen knows
 pub record AfterRelease (d d' : Desk) (p p' : PenState) : Type 0 where
   pub leading : p'.leading ≡ false
   pub held : d'.held ≡ false
   pub known : p'.known ≡ p.hand
-  pub home : d'.home ≡ Some (volume d.room p'.known)
+  pub home : d'.home ≡ Some (book_in_hand p)
   pub dealt : p'.dealt ≡ p.dealt
   pub due : p'.due ≡ None
   pub own : p'.own ≡ p.own
   pub asker : SameAsker p p'
 
--- The lock is free, and the Book at home with the journal that was in hand and the line of the pen's
--- own request, under its next serial, if it is entered; it is BookFull exactly where that journal was
--- full, else Shut exactly where a shut refuses it. The pen keeps that journal as what it knows, the
+-- The lock is free, and the Book that was in hand at home, with the line of the pen's own operation, under
+-- its next serial, if it is entered; it is BookFull exactly where that journal was full, else Shut exactly
+-- where a shut refuses it. The pen keeps that journal as what it knows, the
 -- serial is used, and an entered answer joins its calls, whose serials were below it; no word of its
 -- record has changed, and it is idle without a draft.
 pub record AfterReleaseBy (d d' : Desk) (operation : Operation) (answer : Answer) (p p' : PenState) : Type 0 where
   pub leading : p'.leading ≡ false
   pub held : d'.held ≡ false
   pub known : p'.known ≡ journal_by p.hand p.place p'.posts operation answer
-  pub home : d'.home ≡ Some (volume d.room p'.known)
+  pub home : d'.home ≡ Some (book_with p p'.known)
+  pub may : MayDo (limits_in_hand p) p.hand operation answer
   pub full : (answer ≡ BookFull) ↔ (length p.hand ≡ d.room)
   pub shut : (answer ≡ Refused Shut) ↔ ((length p.hand < d.room) × EndsAtShut operation × (is_shut p.hand ≡ true))
   pub posts : p'.posts ≡ p.posts + 1
@@ -273,6 +287,10 @@ abbrev pub ApplyTells : Type 0
 ApplyTells =
     (d d' : Desk) (seat : ℕ) (request : Request) (answer : Answer) → MeetsRule d → Step d (Applies seat request answer) d'
     → Acted d d' seat (AfterApply d d' request answer)
+
+abbrev pub ArchiveTells : Type 0
+ArchiveTells = (d d' : Desk) (seat lines : ℕ) → MeetsRule d → Step d (Archives seat lines) d'
+    → Acted d d' seat (AfterArchive d d' lines)
 
 abbrev pub ReleaseTells : Type 0
 ReleaseTells = (d d' : Desk) (seat : ℕ) → MeetsRule d → Step d (Releases seat) d' → Acted d d' seat (AfterRelease d d')

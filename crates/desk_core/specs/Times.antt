@@ -5,6 +5,7 @@ use Rattle.std.specs.Prelude.{◌≡◌, ℕ, ◌<◌, ◌≤◌, ◌⊎◌, Lis
 use Rattle.pq_types.specs.Asked.{Operation}
 use Rattle.pq_types.specs.Asked.{Answer}
 use Rattle.pq_types.specs.declared.journal.TheConstants.{GREATEST_NUMBER}
+use Rattle.pq_types.specs.History.{Limits}
 use Rattle.desk_core.specs.Desk.{Desk, Has, acts_number, time, dealer_opening}
 use Rattle.desk_core.specs.Linearizable.{Act, Begins, Ends}
 use Rattle.desk_core.specs.Dealing.{Move, DealtRun, dealt_history}
@@ -51,16 +52,16 @@ pub record AreTimed (views : List View) (history : List Act) : Type 0 where
 -- so it is at the end of every run
 abbrev pub EveryDealtRunIsTimed : Type 0
 EveryDealtRunIsTimed =
-    (places room : ℕ) (moves : List Move) (d : Desk) → (run : DealtRun (dealer_opening places room) moves d)
-    → AreTimed d.views (dealt_history (dealer_opening places room) moves d run)
+    (places : ℕ) (limits : Limits) (moves : List Move) (d : Desk) → (run : DealtRun (dealer_opening places limits) moves d)
+    → AreTimed d.views (dealt_history (dealer_opening places limits) moves d run)
 
 -- and of each pen that has come out the history has no other acts than it keeps
 abbrev pub EveryDealtRunIsWhole : Type 0
 EveryDealtRunIsWhole =
-    (places room : ℕ) (moves : List Move) (d : Desk) → room ≤ GREATEST_NUMBER
-    → (run : DealtRun (dealer_opening places room) moves d)
+    (places : ℕ) (limits : Limits) (moves : List Move) (d : Desk) → limits.room ≤ GREATEST_NUMBER
+    → (run : DealtRun (dealer_opening places limits) moves d)
     → (i : ℕ) (p : PenState) → Has d.views i p
-    → IsWhole (dealt_history (dealer_opening places room) moves d run) (time d) p
+    → IsWhole (dealt_history (dealer_opening places limits) moves d run) (time d) p
 
 -- Of two calls of any two pens, or of one, each of which its pen has read, and of which the first ended before the second
 -- began, as the pens know it, the first has the earlier line.
@@ -74,5 +75,5 @@ CallsFollowTime d =
 -- so it is at the end of every run
 abbrev pub TimesOrderCalls : Type 0
 TimesOrderCalls =
-    (places room : ℕ) (moves : List Move) (d : Desk) → room ≤ GREATEST_NUMBER
-    → DealtRun (dealer_opening places room) moves d → CallsFollowTime d
+    (places : ℕ) (limits : Limits) (moves : List Move) (d : Desk) → limits.room ≤ GREATEST_NUMBER
+    → DealtRun (dealer_opening places limits) moves d → CallsFollowTime d

@@ -6,6 +6,7 @@ use Rattle.pq_types.specs.Asked.{Request, Reply, Line}
 use Rattle.pq_types.specs.Operation.{Asked}
 use Rattle.pq_types.specs.declared.answer.Answer.TheVariants.{Entered}
 use Rattle.pq_types.specs.declared.journal.TheConstants.{GREATEST_NUMBER}
+use Rattle.pq_types.specs.History.{Limits}
 use Rattle.desk_core.specs.CallLines.{IsLineOf}
 use Rattle.desk_core.specs.Desk.{Desk, dealer_opening}
 use Rattle.desk_core.specs.Clauses.{HasNo}
@@ -45,8 +46,10 @@ pub record AreLinearized (room : ℕ) (pens : List PenState) : Type 0 where
 -- so it is of the pens of each testimony, at the end of every run
 abbrev pub TestimoniesAreTrue : Type 0
 TestimoniesAreTrue =
-    (places room : ℕ) (moves : List Move) (d : Desk) → room ≤ GREATEST_NUMBER → DealtRun (dealer_opening places room) moves d
-    → (i : ℕ) (pens : List PenState) (licences : ℕ) → get_elem? d.views i ≡ some (Testimony pens licences) → AreLinearized room pens
+    (places : ℕ) (limits : Limits) (moves : List Move) (d : Desk) → limits.room ≤ GREATEST_NUMBER
+    → DealtRun (dealer_opening places limits) moves d
+    → (i : ℕ) (pens : List PenState) (licences : ℕ) → get_elem? d.views i ≡ some (Testimony pens licences)
+    → AreLinearized limits.room pens
 
 -- So of two calls that any two of them have read, of which one ended before the other began, it has the earlier line.
 abbrev pub LinearizedFollowTime : Type 0

@@ -8,7 +8,7 @@ use Rattle.pq_types.specs.Asked.{Line}
 use Rattle.pq_types.specs.Item.{item}
 use Rattle.pq_types.specs.History.{line}
 use Rattle.desk_core.specs.Calls.{call}
-use Rattle.desk_core.specs.Desk.{Desk, Has, volume, opening}
+use Rattle.desk_core.specs.Desk.{Desk, Has, volume, opening, plain}
 use Rattle.desk_core.specs.Steps.{Event, Drafts, Posts, Tries, Reads, ReadsItem, LaysItem}
 use Rattle.desk_core.specs.Steps.{Answers, Releases, ReleasesWith, Looks, TakesItem, Run}
 use Rattle.desk_core.specs.declared.model.Call.{Call}
@@ -34,7 +34,7 @@ three_lines = line 0 1 Pop Empty ∷ line 1 1 (Push (item 9 9)) Pushed ∷ line 
 -- with that journal, and the pen at 3 still waits, since it has not looked again
 abbrev pub ThreePens : Type 0
 ThreePens =
-    (d : Desk) × Run (opening 6 4) three_pens d × (d.home ≡ Some (volume 4 three_lines))
+    (d : Desk) × Run (opening 6 (plain 4)) three_pens d × (d.home ≡ Some (volume (plain 4) three_lines))
     × ((p : PenState) × Has d.views 3 p × (p.standing ≡ Waiting (Push (item 4 8))))
 
 -- A half-written record: the pen at 1 drafts an item, the pen at 0 leads and reads the mail there.
@@ -51,7 +51,7 @@ written = Posts 1 Pop ∷ Reads 0 1 ∷ Answers 0 (Entered 1 Empty) ∷ Releases
 pub record HalfWritten : Type 0 where
   pub met : Desk
   pub done : Desk
-  pub half : Run (opening 2 4) half_written met
+  pub half : Run (opening 2 (plain 4)) half_written met
   pub nothing_due : (p : PenState) × Has met.views 0 p × (p.leading ≡ true) × (p.due ≡ None)
   pub whole : Run met written done
   pub idle : (p : PenState) × Has done.views 1 p × (p.standing ≡ Idle None) × (p.mine ≡ call 1 1 Pop Empty ∷ [])
@@ -86,7 +86,7 @@ pub record FullJournal : Type 0 where
   pub popped : Desk
   pub took : Desk
   pub refused : Desk
-  pub push : Run (opening 1 2) pushes pushed
+  pub push : Run (opening 1 (plain 2)) pushes pushed
   pub first : (p : PenState) × Has pushed.views 0 p × (p.standing ≡ Idle None) × (p.mine ≡ first_call)
   pub pop : Run pushed pops popped
   pub waits : (p : PenState) × Has popped.views 0 p × (p.standing ≡ Waiting Pop) × (p.mine ≡ first_call)
@@ -94,7 +94,7 @@ pub record FullJournal : Type 0 where
   pub second : (p : PenState) × Has took.views 0 p × (p.standing ≡ Idle None) × (p.mine ≡ both_calls)
   pub ask : Run took asks refused
   pub third : (p : PenState) × Has refused.views 0 p × (p.standing ≡ Idle None) × (p.posts ≡ 3) × (p.mine ≡ both_calls)
-  pub journal : refused.home ≡ Some (volume 2 (line 0 1 (Push (item 5 7)) Pushed ∷ line 0 2 Pop (Got (item 5 7)) ∷ []))
+  pub journal : refused.home ≡ Some (volume (plain 2) (line 0 1 (Push (item 5 7)) Pushed ∷ line 0 2 Pop (Got (item 5 7)) ∷ []))
 
 -- The same three by requests of its own: it posts nothing.
 abbrev pub carries_out : List Event
@@ -106,7 +106,7 @@ carries_out =
 -- lines, and its record is empty.
 pub record OwnRequests : Type 0 where
   pub done : Desk
-  pub run : Run (opening 1 2) carries_out done
+  pub run : Run (opening 1 (plain 2)) carries_out done
   pub pen : (p : PenState) × Has done.views 0 p × (p.standing ≡ Idle None) × (p.posts ≡ 3) × (p.mine ≡ both_calls)
   pub empty : done.control 0 ≡ Nothing
-  pub journal : done.home ≡ Some (volume 2 (line 0 1 (Push (item 5 7)) Pushed ∷ line 0 2 Pop (Got (item 5 7)) ∷ []))
+  pub journal : done.home ≡ Some (volume (plain 2) (line 0 1 (Push (item 5 7)) Pushed ∷ line 0 2 Pop (Got (item 5 7)) ∷ []))

@@ -7,7 +7,7 @@ use Rattle.pq_types.specs.declared.answer.Answer.TheVariants.{Entered}
 use Rattle.pq_types.specs.Asked.{Line}
 use Rattle.pq_types.specs.Item.{item}
 use Rattle.pq_types.specs.History.{line, IsLegal, SerialsRise}
-use Rattle.desk_core.specs.Desk.{Desk, volume, opening, dealer_opening}
+use Rattle.desk_core.specs.Desk.{Desk, volume, opening, dealer_opening, plain}
 use Rattle.desk_core.specs.Steps.{Event, Posts, Tries, Reads, LaysItem, Answers, Applies, Releases, ReleasesWith, Looks, TakesItem, Run}
 use Rattle.desk_core.specs.Dealing.{Move, Deals, Takes, DealtRun, dealt_history}
 use Rattle.desk_core.specs.Linearizable.{Act, Begins, Ends, TakeTurns, Linearizes, history}
@@ -24,11 +24,11 @@ overtaking =
 -- has the push first
 pub record Overtaking : Type 0 where
   pub done : Desk
-  pub run : Run (opening 2 4) overtaking done
+  pub run : Run (opening 2 (plain 4)) overtaking done
   pub seen :
-      history (opening 2 4) overtaking done run
+      history (opening 2 (plain 4)) overtaking done run
       ≡ Begins 0 1 (Asked Pop) ∷ Begins 1 1 (Asked (Push (item 5 7))) ∷ Ends 1 1 (Entered 1 Pushed) ∷ Ends 0 1 (Entered 2 (Got (item 5 7))) ∷ []
-  pub journal : done.home ≡ Some (volume 4 (line 1 1 (Push (item 5 7)) Pushed ∷ line 0 1 Pop (Got (item 5 7)) ∷ []))
+  pub journal : done.home ≡ Some (volume (plain 4) (line 1 1 (Push (item 5 7)) Pushed ∷ line 0 1 Pop (Got (item 5 7)) ∷ []))
 
 -- The pen at 0 posts a pop. The pen at 1 leads, applies two pushes of its own, and releases: a batch of two.
 abbrev pub together : List Event
@@ -39,12 +39,12 @@ together =
 -- the run can be made; each push is a call of its own, and their lines stand together in the journal, while the pop is under way
 pub record Together : Type 0 where
   pub done : Desk
-  pub run : Run (opening 2 4) together done
+  pub run : Run (opening 2 (plain 4)) together done
   pub seen :
-      history (opening 2 4) together done run
+      history (opening 2 (plain 4)) together done run
       ≡ Begins 0 1 (Asked Pop) ∷ Begins 1 1 (Asked (Push (item 5 7))) ∷ Ends 1 1 (Entered 1 Pushed)
       ∷ Begins 1 2 (Asked (Push (item 3 8))) ∷ Ends 1 2 (Entered 2 Pushed) ∷ []
-  pub journal : done.home ≡ Some (volume 4 (line 1 1 (Push (item 5 7)) Pushed ∷ line 1 2 (Push (item 3 8)) Pushed ∷ []))
+  pub journal : done.home ≡ Some (volume (plain 4) (line 1 1 (Push (item 5 7)) Pushed ∷ line 1 2 (Push (item 3 8)) Pushed ∷ []))
 
 -- A dealer gives out the pen of place 0, which posts a pop, and then that of place 1, which enters a push by a request of its
 -- own.
@@ -55,11 +55,11 @@ coming_out =
 -- the run can be made; callers see nothing of the dealer, and the journal has the push
 pub record ComingOut : Type 0 where
   pub done : Desk
-  pub run : DealtRun (dealer_opening 2 4) coming_out done
+  pub run : DealtRun (dealer_opening 2 (plain 4)) coming_out done
   pub seen :
-      dealt_history (dealer_opening 2 4) coming_out done run
+      dealt_history (dealer_opening 2 (plain 4)) coming_out done run
       ≡ Begins 0 1 (Asked Pop) ∷ Begins 1 1 (Asked (Push (item 5 7))) ∷ Ends 1 1 (Entered 1 Pushed) ∷ []
-  pub journal : done.home ≡ Some (volume 4 (line 1 1 (Push (item 5 7)) Pushed ∷ []))
+  pub journal : done.home ≡ Some (volume (plain 4) (line 1 1 (Push (item 5 7)) Pushed ∷ []))
 
 -- a push that has ended, and then a pop that finds the queue empty
 abbrev pub stale : List Act

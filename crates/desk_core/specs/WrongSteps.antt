@@ -8,9 +8,9 @@ use Rattle.pq_types.specs.declared.journal.TheConstants.{GREATEST_NUMBER}
 use Rattle.pq_types.specs.Item.{IsItemOf}
 use Rattle.pq_types.specs.Queue.{IsProperRequestOf}
 use Rattle.pq_types.specs.Control.{kind_of, request_item, answer_item, notice_has_item, posted, answered, is_answer}
-use Rattle.desk_core.specs.Answering.{MayTellOf}
+use Rattle.pq_types.specs.History.{MayAnswer}
 use Rattle.desk_core.specs.Pen.{IsKept, due_to, after_post, after_read, after_lay}
-use Rattle.desk_core.specs.Pen.{after_answer, after_release, after_see, after_take}
+use Rattle.desk_core.specs.Pen.{after_answer, after_release, after_see, after_take, book_with, limits_in_hand}
 use Rattle.desk_core.specs.Desk.{Desk, Has, time, with_control, with_cell, freed, with_pen}
 use Rattle.desk_core.specs.declared.model.Standing.TheVariants.{Idle, Waiting}
 use Rattle.desk_core.specs.declared.model.Due.{Due}
@@ -69,7 +69,7 @@ abbrev pub AnswersUnread : Desk → ℕ → Answer → Desk → Type 0
 AnswersUnread d seat answer d' =
     (p : PenState) × (due : Due) × (request : Request)
     × Has d.views seat p × (p.leading ≡ true) × (p.due ≡ Some due)
-    × (kind_of request ≡ due.kind) × IsKept (answer_item answer) due.item × MayTellOf d.room p.hand request answer
+    × (kind_of request ≡ due.kind) × IsKept (answer_item answer) due.item × MayAnswer (limits_in_hand p) p.hand request answer
     × (d' ≡ with_pen (with_control d due.place (answered answer)) seat (after_answer p due request answer))
 
 -- an answer whose item need not be laid
@@ -77,7 +77,7 @@ abbrev pub AnswersUnlaid : Desk → ℕ → Answer → Desk → Type 0
 AnswersUnlaid d seat answer d' =
     (p : PenState) × (due : Due) × (request : Request)
     × Has d.views seat p × (p.leading ≡ true) × (p.due ≡ Some due)
-    × (kind_of request ≡ due.kind) × IsKept (request_item request) due.item × MayTellOf d.room p.hand request answer
+    × (kind_of request ≡ due.kind) × IsKept (request_item request) due.item × MayAnswer (limits_in_hand p) p.hand request answer
     × (d' ≡ with_pen (with_control d due.place (answered answer)) seat (after_answer p due request answer))
 
 -- an answer that the one-thread queue need not give
@@ -94,7 +94,7 @@ AnswersAndOwes d seat answer d' =
     (p : PenState) × (due : Due) × (request : Request)
     × Has d.views seat p × (p.leading ≡ true) × (p.due ≡ Some due)
     × (kind_of request ≡ due.kind) × IsKept (request_item request) due.item × IsKept (answer_item answer) due.item
-    × MayTellOf d.room p.hand request answer
+    × MayAnswer (limits_in_hand p) p.hand request answer
     × (d' ≡ with_pen (with_control d due.place (answered answer)) seat
     (record (after_answer p due request answer) { due = Some due }))
 
@@ -104,7 +104,7 @@ AnswersAgain d seat answer d' =
     (p : PenState) × (q : PenState) × (i : ℕ) × (request : Request)
     × Has d.views seat p × (p.leading ≡ true)
     × Has d.views i q × (q.standing ≡ Waiting request) × (is_answer (d.control q.place) ≡ true)
-    × MayTellOf d.room p.hand request answer
+    × MayAnswer (limits_in_hand p) p.hand request answer
     × (d' ≡ with_pen (with_control d q.place (answered answer)) seat
     (after_answer p (due_to q.place q.posts (kind_of request) (request_item request)) request answer))
 
@@ -118,7 +118,7 @@ ReleasesWithoutBook d seat d' =
 abbrev pub ReleasesAnEmptyBook : Desk → ℕ → Desk → Type 0
 ReleasesAnEmptyBook d seat d' =
     (p : PenState) × Has d.views seat p × (p.leading ≡ true)
-    × (d' ≡ with_pen (freed d []) seat (after_release p))
+    × (d' ≡ with_pen (freed d (book_with p [])) seat (after_release p))
 
 -- a word of an item read before its answer was seen
 abbrev pub SeesUnseen : Desk → ℕ → Desk → Type 0

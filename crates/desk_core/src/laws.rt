@@ -8,7 +8,7 @@ ghost use Rattle.desk_core.specs.Dealing.{EveryDealtRunIsLinearizable, DealtOrde
 ghost use Rattle.desk_core.specs.Dealing.{ReachedMeetRule, MovesReach};
 ghost use Rattle.desk_core.specs.Guards.{AskingNeedsGuards, LeadingNeedsGuards};
 ghost use Rattle.desk_core.specs.Keeping.{DraftKeeps, PostKeeps, LeadKeeps, MissKeeps, ReadKeeps, ReadItemKeeps};
-ghost use Rattle.desk_core.specs.Keeping.{LayItemKeeps, AnswerKeeps, ApplyKeeps, ReleaseKeeps, ReleaseByKeeps, LookKeeps};
+ghost use Rattle.desk_core.specs.Keeping.{LayItemKeeps, AnswerKeeps, ApplyKeeps, ArchiveKeeps, ReleaseKeeps, ReleaseByKeeps, LookKeeps};
 ghost use Rattle.desk_core.specs.Keeping.{SeeItemKeeps, TakeItemKeeps, DueIsNew, PensAreSeated};
 ghost use Rattle.desk_core.specs.Knows.{LeadersKnow, HomeIsKnown, CallsHaveReplies};
 ghost use Rattle.desk_core.specs.Layout.{LockStored, ControlStored, ItemStored, Loaded};
@@ -17,14 +17,14 @@ ghost use Rattle.desk_core.specs.Words.{WordsTellItems, MixedByWord, WordsMix};
 ghost use Rattle.desk_core.specs.Leads.{PostedAreAnswered, AnswersStay, LeadersKnowTheirAnswers};
 ghost use Rattle.desk_core.specs.Leads.{AnswersStayKnown, LeadersNoteWhatTheyRead};
 ghost use Rattle.desk_core.specs.Linearizable.{EveryRunIsLinearizable, OrderStays, LinesAreWithinCalls, ShutEndsPushes};
-ghost use Rattle.desk_core.specs.Answering.{BooksDeal};
+ghost use Rattle.desk_core.specs.Archiving.{EveryRunHasLimits, MovesKeepLimits, LimitsRise, PageIsAllowed};
 ghost use Rattle.desk_core.specs.Looking.{LooksAreMore, LooksFindTheJournal};
 ghost use Rattle.desk_core.specs.Looking.{EveryRunLinearizesLooks, EveryDealtRunLinearizesLooks};
 ghost use Rattle.desk_core.specs.Needs.{OwnRequestNeeds};
 ghost use Rattle.desk_core.specs.Notes.{CatchUpKeeps, WritingKeeps, HearingKeeps, CopyingKeeps};
 ghost use Rattle.desk_core.specs.Rule.{OpeningsMeetRule, EveryStepKeepsRule, DealingKeepsRule, EveryRunMeetsRule};
 ghost use Rattle.desk_core.specs.Tells.{DraftTells, PostTells, TryTells, ReadTells, ReadItemTells, LayItemTells, AnswerTells};
-ghost use Rattle.desk_core.specs.Tells.{ReleaseTells, ReleaseByTells, LookTells, SeeItemTells, TakeItemTells, ApplyTells};
+ghost use Rattle.desk_core.specs.Tells.{ReleaseTells, ReleaseByTells, LookTells, SeeItemTells, TakeItemTells, ApplyTells, ArchiveTells};
 ghost use Rattle.desk_core.specs.Positions.{PositionsAreForced};
 ghost use Rattle.desk_core.specs.Times.{EveryDealtRunIsTimed, EveryDealtRunIsWhole, TimesOrderCalls};
 ghost use Rattle.desk_core.specs.Witnessed.{TestimoniesAreTrue, LinearizedFollowTime, RefusedStandNowhere};
@@ -67,6 +67,7 @@ pub fn law_each_step_keeps_the_rule()
     ensures lay_item { LayItemKeeps }
     ensures answer { AnswerKeeps }
     ensures apply { ApplyKeeps }
+    ensures archive { ArchiveKeeps }
     ensures release { ReleaseKeeps }
     ensures release_by { ReleaseByKeeps }
     ensures look { LookKeeps }
@@ -91,6 +92,7 @@ pub fn law_each_step_tells()
     ensures lay_item { LayItemTells }
     ensures answer { AnswerTells }
     ensures apply { ApplyTells }
+    ensures archive { ArchiveTells }
     ensures release { ReleaseTells }
     ensures release_by { ReleaseByTells }
     ensures look { LookTells }
@@ -285,11 +287,19 @@ pub fn law_words_show_the_desk()
     law_words_differ();
 }
 
-/// Whatever a Book may answer, the machine's combiner may. The machine knows the journal and its room; a Book
-/// also knows its bound, and how many lines it allows.
-pub fn law_books_deal()
-    ensures { BooksDeal }
-{}
+/// In every run the Book has the room and the bound of the opening, and allows as many lines as the opening does, or a page more
+/// than the most that have been said to be archived, where that is more. Its journal has no more lines than it allows. So
+/// neither a combiner nor whoever brings the Book home can move a limit.
+pub fn law_archiving()
+    ensures runs { EveryRunHasLimits }
+    ensures moves { MovesKeepLimits }
+    ensures rise { LimitsRise }
+    ensures page { PageIsAllowed }
+{
+    law_one_more_line();
+    law_shut();
+    law_items_stay_in_range();
+}
 
 /// A shut ends pushes, in every history that a journal linearizes.
 pub fn law_shut_ends_pushes()

@@ -72,6 +72,10 @@ pub struct PenState {
     pub leading: bool,
     /// While it leads, the journal in its hand.
     pub hand: LinkedList<Line>,
+    /// How many items pushes may leave, as the Book says that it has, or had last, in its hand.
+    pub bound: u64,
+    /// How many lines that Book's journal may have until more are archived.
+    pub allowed: u64,
     /// The places whose mail it has read in its present or last lead, in order.
     pub dealt: LinkedList<u16>,
     /// The journal that it knows, empty at first: that of its last release, or the whole one with which it has caught

@@ -1,7 +1,7 @@
 -- What the steps of a call come to, one after another.
 use Rattle.std.proofs.Common.{◌≡◌, ◌≢◌, ◌∙◌, ℕ, ◌+◌, ◌-◌, ◌<◌, ◌++◌, inl, inr, ap, sym, subst, refl, arith, true, false, List, [], ◌∷◌}
 use Rattle.std.proofs.lemmas.List.{append-nil}
-use Rattle.std.specs.Prelude.{Option, Some, None, IfSome, IfNone, Err}
+use Rattle.std.specs.Prelude.{Option, Some, None, IfSome, IfNone}
 use Rattle.pq_types.specs.Asked.{Request, Reply, Answer}
 use Rattle.pq_types.specs.declared.request.Request.TheVariants.{Push, Pop, Least}
 use Rattle.pq_types.specs.declared.answer.Answer.TheVariants.{Entered}
@@ -20,7 +20,6 @@ use Rattle.flat_queue.specs.Calling.{StaysMember, HasPostedOne, MakesCall, Posts
 use Rattle.flat_queue.specs.OwnRequest.{TriesOrWaitsBy}
 use Rattle.flat_queue.specs.Turns.{FindsLockHeld, WaitedBy, EndsWaitingBy}
 use Rattle.flat_queue.specs.CallSteps.{CallStage, Came, FitsStage, came_to, answer_of, PostsOnceBy, TriesOnceBy, AsksOnceBy, CallStepsBy, HasTried, HasPostedBy, HasComeToBy}
-use Rattle.flat_queue.specs.declared.error.CallError.TheVariants as error
 use Rattle.flat_queue.specs.declared.gate.Turn.{Turn}
 use Rattle.flat_queue.specs.declared.gate.Turn.TheVariants.{Lead, Look, GiveUp}
 use Rattle.flat_queue.specs.declared.call_steps.CallStage.TheVariants as stage

@@ -79,7 +79,7 @@ module _ (queue : QueueName) (members : List Joined) (book : Volume) (here : All
       let is = get_or_from_slice_get members i m m at in let within = slice_get_within members i m at in
       subst (λ (x : Joined). x.pen.room ≡ x.queue.room) is (rooms i m within) ∙ ap (λ (q : QueueName). q.room) (subst (λ (x : Joined). x.queue ≡ queue) is (here i m within))
 
-  pub closes_all : ClosedAreLinearized → IsHomeWithAll queue.room (map retired_pen members) book → AllKnow (map retired_pen members) book → LinesAreOfThese (map retired_pen members) book.journal
+  pub closes_all : ClosedAreLinearized → IsHomeWithAll queue.room queue.terms (map retired_pen members) book → AllKnow (map retired_pen members) book → LinesAreOfThese (map retired_pen members) book.journal
       → HavePlaces queue.places (map retired_pen members) → ClosesAll queue members book
   closes_all linearized home know only placed =
       let knows : OfEachMember members (λ m. Knows queue.room m.pen book.journal) =
@@ -90,5 +90,5 @@ module _ (queue : QueueName) (members : List Joined) (book : Volume) (here : All
         idle = λ i m at idle. idle_known queue.room m.pen book.journal (knows i m at) idle;
         apart = λ i j m n at there e. placed.apart i j (retired_pen m) (retired_pen n) (retires_at members i m at) (retires_at members j n there) e;
         only = λ i l at. let (k, p, there, is) = only i l at in let (m, found, same) = retired_at members k p there in (k, m, found, ap (λ (x : PenState). x.place) same ∙ is);
-        linearized = linearized queue.room members book home each_room knows;
+        linearized = linearized queue.room queue.terms members book home each_room knows;
       }

@@ -1,6 +1,6 @@
 -- What looks for what is due come to.
-use Rattle.std.proofs.Common.{◌≡◌, ◌∙◌, ℕ, suc, ap, refl, true, true≢false}
-use Rattle.std.specs.Prelude.{Option, Some, None, is_some, Result, Ok, Err}
+use Rattle.std.proofs.Common.{◌≡◌, ◌∙◌, ℕ, suc, true}
+use Rattle.std.specs.Prelude.{Option, Some, None, Result, Ok, Err}
 use Rattle.std.specs.declared.time.Instant.{Instant}
 use Rattle.announce_board.specs.Tokens.{is_idle}
 use Rattle.flat_queue.specs.Members.{Joined}

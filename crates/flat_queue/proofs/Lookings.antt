@@ -1,5 +1,5 @@
 -- What a look at the first item under the lock comes to.
-use Rattle.std.proofs.Common.{◌≡◌, ℕ, ◌<◌, sym, subst, arith, Bool, List, [], ◌∷◌, length}
+use Rattle.std.proofs.Common.{◌≡◌, ℕ, ◌<◌, sym, subst, Bool, List, [], ◌∷◌, length}
 use Rattle.pq_types.specs.Item.{Item}
 use Rattle.pq_types.specs.declared.request.Request.TheVariants.{Pop}
 use Rattle.pq_types.specs.Asked.{Reply}
@@ -88,9 +88,7 @@ pub popped_looks : (words : ℕ) (wants : Wanted) (a c : Joined) (x : Answer) (h
     → (length h.ready.pen.hand < h.ready.pen.room → IsFirstWanted wants (first_of (left h.ready.pen.hand))) → LooksFirstBy words wants a (looked_by x) c
 popped_looks words wants a c (Entered number reply) h fits first =
     let may = h.released.may in
-    let space = may.0.space in
-    let room = h.released.room in
-    pop_takes words wants a c number reply (left h.ready.pen.hand) h fits may.2 (first (omega (arith, space, room)))
+    pop_takes words wants a c number reply (left h.ready.pen.hand) h fits may.2 (first may.0.space)
 popped_looks words wants a c answer.BookFull h fits first = (h, fits)
 popped_looks words wants a c answer.NoMemory h fits first = absurd fits
 popped_looks words wants a c (answer.Refused why) h fits first = (h, fits)

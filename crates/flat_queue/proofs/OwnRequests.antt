@@ -13,12 +13,10 @@ use Rattle.pq_types.specs.declared.control.Control.{Control}
 use Rattle.pq_types.specs.declared.control.Control.TheVariants.{Nothing, Posted, Answered}
 use Rattle.pq_types.specs.Control.{is_posted}
 use Rattle.pq_types.specs.History.{MayDo, journal_by}
-use Rattle.pq_book.specs.Book.{Volume, limits_of}
+use Rattle.pq_book.specs.Book.{Volume}
 use Rattle.pq_types.specs.declared.answer.Refusal.{Refusal}
 use Rattle.desk_core.specs.Calls.{gained_by}
-use Rattle.desk_core.specs.Desk.{volume}
-use Rattle.desk_core.specs.Home.{Home, home_of}
-use Rattle.desk_core.specs.Pen.{due_at, after_release_by}
+use Rattle.desk_core.specs.Pen.{due_at, after_release_by, book_in_hand, limits_in_hand}
 use Rattle.desk_core.specs.Rule.{StartsWith}
 use Rattle.desk_core.specs.declared.model.Due.{Due}
 use Rattle.desk_core.specs.declared.model.PenState.{PenState}
@@ -27,11 +25,10 @@ use Rattle.desk_core.specs.declared.model.Standing.TheVariants.{Idle}
 use Rattle.desk_core.specs.declared.model.Call.{Call}
 use Rattle.announce_board.specs.Asking.{IsAnswerBy, IsAnswerTo, IsAboveAll, IsFullFor}
 use Rattle.announce_board.specs.Slots.{MeetsTerms}
-use Rattle.announce_board.specs.declared.terms.Terms.{Terms}
 use Rattle.announce_board.specs.Serving.{ServesWhereBy, Wins, found_posted_by, laid_and_answered_by, due_of}
 use Rattle.flat_queue.specs.Limits.{most_posts}
 use Rattle.flat_queue.specs.Memory.{HasSpareRoom}
-use Rattle.flat_queue.specs.Members.{Joined, HasTerms, StaysAtPlace}
+use Rattle.flat_queue.specs.Members.{Joined, StaysAtPlace}
 use Rattle.flat_queue.specs.Sweeping.{SweepsBy}
 use Rattle.flat_queue.specs.TrailSweeping.{IsTrailSweptBy}
 use Rattle.flat_queue.specs.Turns.{FindsLockHeld}
@@ -43,16 +40,12 @@ use Rattle.flat_queue.specs.declared.error.CallError.TheVariants.{NoMemory, Spen
 use Rattle.flat_queue.proofs.Misses.{HasMissed, missed_none, missed_on, call_behind}
 use Rattle.flat_queue.proofs.Waits.{starts_trans, starts_by, sweeps_start}
 
--- a Book that meets the terms has limits that do
-pub book_terms : (terms : Terms) (book : Volume) → MeetsTerms terms book → HasTerms terms (limits_of book)
-book_terms terms book h = record { bound = h.0; allowed = h.1 }
-
 -- a release by an operation, as the lead's Book may answer it
-pub releases_of : (before after : Joined) (operation : Operation) (x : Answer) (book : Volume) (now : ℕ) → home_of book ≡ volume before.pen.room before.pen.hand → MeetsTerms before.queue.terms book
-    → MayDo (limits_of book) before.pen.hand operation x → ((number : ℕ) (reply : Reply) → x ≡ Entered number reply → IsAboveAll number before.pen.mine) → (x ≡ answer.BookFull → IsFullFor after.pen)
+pub releases_of : (before after : Joined) (operation : Operation) (x : Answer) (book : Volume) (now : ℕ) → book ≡ book_in_hand before.pen → MeetsTerms before.queue.terms book
+    → MayDo (limits_in_hand before.pen) before.pen.hand operation x → ((number : ℕ) (reply : Reply) → x ≡ Entered number reply → IsAboveAll number before.pen.mine) → (x ≡ answer.BookFull → IsFullFor after.pen)
     → after ≡ record before { pen = after_release_by before.pen operation x now } → ReleasesOperation before operation x after
 releases_of before after operation x book now home meets may behind full is =
-    record { limits = limits_of book; room = ap (λ (h : Home). h.room) home; terms = book_terms before.queue.terms book meets; may = may; behind = behind; full = full; now = now; after_is = is }
+    record { terms = subst (MeetsTerms before.queue.terms) home meets; may = may; behind = behind; full = full; now = now; after_is = is }
 
 -- a place that was served leaves nothing due
 none_due : (control : Control) → is_posted control ≡ false → (place : ℕ) → due_at place control ≡ None

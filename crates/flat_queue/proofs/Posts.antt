@@ -8,6 +8,7 @@ use Rattle.split_core.specs.Collect.{ScansWhole}
 use Rattle.split_core.specs.declared.model.Comer.{Comer}
 use Rattle.split_core.specs.declared.model.Next.TheVariants.{Stopped}
 use Rattle.pq_types.specs.declared.journal.TheConstants.{GREATEST_NUMBER}
+use Rattle.pq_types.specs.History.{Limits}
 use Rattle.desk_core.specs.Desk.{Desk, opening as desk_opening}
 use Rattle.desk_core.specs.Steps.{actor}
 use Rattle.desk_core.specs.Rule.{MeetsRule, EveryRunMeetsRule, EveryStepKeepsRule}
@@ -96,18 +97,18 @@ module _ (laws : Laws) (ids : List ℕ) (different : Different ids) where
   run_kept s [] s' r k = subst (Kept ids) (sym r) k
   run_kept s (e ∷ es) s' (m, st, r) k = run_kept m es s' r (step_kept s e m st k)
 
-  opening_kept : (room : ℕ) → room ≤ GREATEST_NUMBER → Kept ids (opening ids room)
-  opening_kept room small =
+  opening_kept : (limits : Limits) → limits.room ≤ GREATEST_NUMBER → Kept ids (opening ids limits)
+  opening_kept limits small =
       record {
         events = [];
         grid = refl;
-        rule = laws.rule (place 0 (length ids)) room [] (desk_opening (place 0 (length ids)) room) small refl;
-        closed = λ n serial h. absurd (let e = none_posted room (place 0 (length ids)) 0 h.1.0 h.1.1 h.1.2 in let le = h.1.4 in let lt = h.0 in omega arith);
+        rule = laws.rule (place 0 (length ids)) limits [] (desk_opening (place 0 (length ids)) limits) small refl;
+        closed = λ n serial h. absurd (let e = none_posted limits.room (place 0 (length ids)) 0 h.1.0 h.1.1 h.1.2 in let le = h.1.4 in let lt = h.0 in omega arith);
       }
 
   -- every state that a product run reaches is such
-  pub reached : (room : ℕ) → room ≤ GREATEST_NUMBER → (events : List Event) (s : Product) → Run (opening ids room) events s → Kept ids s
-  reached room small events s r = run_kept (opening ids room) events s r (opening_kept room small)
+  pub reached : (limits : Limits) → limits.room ≤ GREATEST_NUMBER → (events : List Event) (s : Product) → Run (opening ids limits) events s → Kept ids s
+  reached limits small events s r = run_kept (opening ids limits) events s r (opening_kept limits small)
 
 module _ (laws : Laws) where
   -- a post made before a product run has been made after it

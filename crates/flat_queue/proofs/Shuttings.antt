@@ -1,9 +1,8 @@
 -- What a call comes to that shuts the queue.
 use Rattle.std.proofs.Common.{Bool, ◌≡◌, ◌∙◌, ℕ, ◌+◌, ◌<◌, ◌≤◌, ◌++◌, true, false, List, [], ◌∷◌, ap, sym, subst, refl, arith}
-use Rattle.std.specs.Prelude.{◌||◌, Option, Some, None, Err}
+use Rattle.std.specs.Prelude.{◌||◌, Option, Err}
 use Rattle.pq_types.specs.Operation.{Shuts}
-use Rattle.pq_types.specs.Asked.{Reply, Answer, Line}
-use Rattle.pq_types.specs.declared.answer.Reply.TheVariants.{Empty}
+use Rattle.pq_types.specs.Asked.{Answer, Line}
 use Rattle.pq_types.specs.declared.answer.Answer.TheVariants.{Entered}
 use Rattle.pq_types.specs.declared.answer.Answer.TheVariants as answer
 use Rattle.pq_types.specs.declared.answer.Refusal.TheVariants.{Shut, Unarchived, Full}

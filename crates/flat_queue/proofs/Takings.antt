@@ -16,7 +16,7 @@ use Rattle.flat_queue.specs.Calling.{MakesCall, popped, ended}
 use Rattle.flat_queue.specs.OwnRequest.{EntersAtOnceBy, EntersOrWaitsBy}
 use Rattle.flat_queue.specs.Looking.{Looked, ServesOthersBy, LooksFirstBy, IsEmptyYet, MissesThenLooksBy}
 use Rattle.flat_queue.specs.Turns.{Misses}
-use Rattle.flat_queue.specs.Taking.{Awaited, PopsInVain, FindsNoneBy, FindsEndBy, Repeats, LooksNowBy, LooksForBy, TriesUntilFreeBy, TakesSo, TakesAtOnceBy}
+use Rattle.flat_queue.specs.Taking.{Awaited, PopsInVain, FindsNoneBy, Repeats, LooksNowBy, LooksForBy, TriesUntilFreeBy, TakesSo, TakesAtOnceBy}
 use Rattle.flat_queue.specs.Taking.{TakesNoneBy, TakesNoneYetBy, TakesOneSoBy, TakesOneBy, MayEnd, LooksUntilBy, LooksOnBy, TakesUntilBy, OrEndsBy}
 use Rattle.flat_queue.specs.declared.taking.Awaited.TheVariants as awaited
 use Rattle.flat_queue.specs.declared.looking.Wanted.{Wanted}

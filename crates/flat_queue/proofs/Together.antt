@@ -19,9 +19,7 @@ use Rattle.pq_types.specs.declared.answer.Answer.TheVariants as answer
 use Rattle.pq_types.specs.History.{line, Limits, MayAnswer}
 use Rattle.pq_book.specs.Book.{Volume, limits_of}
 use Rattle.desk_core.specs.Calls.{call}
-use Rattle.desk_core.specs.Desk.{volume}
-use Rattle.desk_core.specs.Home.{Home, home_of}
-use Rattle.desk_core.specs.Pen.{after_apply, after_release}
+use Rattle.desk_core.specs.Pen.{after_apply, after_release, book_in_hand, limits_in_hand}
 use Rattle.desk_core.specs.declared.model.PenState.{PenState}
 use Rattle.announce_board.specs.Slots.{MeetsTerms}
 use Rattle.announce_board.specs.Tokens.{is_idle}
@@ -37,7 +35,7 @@ use Rattle.flat_queue.specs.Turns.{Misses}
 use Rattle.desk_core.specs.declared.model.Word.{Word}
 use Rattle.flat_queue.proofs.Waits.{starts_trans}
 use Rattle.flat_queue.proofs.Misses.{missed_as, misses_keep}
-use Rattle.flat_queue.proofs.OwnRequests.{is_ready, book_terms}
+use Rattle.flat_queue.proofs.OwnRequests.{is_ready}
 
 -- one request more
 pub applies_more : (limits : Limits) (p q : PenState) (ts : List Told) (t : Told) (now : ℕ) → AppliesEach limits p ts q → MayAnswer limits q.hand t.0 (Entered (length q.hand + 1) t.1)
@@ -216,10 +214,17 @@ batch_full limits most is_next p q ts r (m, each, ends) e =
     ap (λ (z : PenState). z.told_full) t.4
 
 -- a release of a batch, as the lead's Book may answer each of it
-pub releases_batch : (before after : Joined) (told : List Told) (is_next : Request → Type 0) (batch : Batch) (ended : PenState) (book : Volume) → home_of book ≡ volume before.pen.room before.pen.hand → MeetsTerms before.queue.terms book
+pub releases_batch : (before after : Joined) (told : List Told) (is_next : Request → Type 0) (batch : Batch) (ended : PenState) (book : Volume) → book ≡ book_in_hand before.pen → MeetsTerms before.queue.terms book
     → batch.first ≡ length before.pen.hand + 1 → AppliesBatch (limits_of book) (most_posts before.queue.room) is_next before.pen told batch.refused ended → after ≡ record before { pen = after_release ended } → ReleasesBatch before told is_next batch after
 releases_batch before after told is_next batch ended book home meets first applies is =
-    record { ended = ended; limits = limits_of book; room = ap (λ (h : Home). h.room) home; terms = book_terms before.queue.terms book meets; first = first; applies = applies; after_is = is }
+    let most = most_posts before.queue.room in
+    record {
+      ended = ended;
+      terms = subst (MeetsTerms before.queue.terms) home meets;
+      first = first;
+      applies = subst (λ (b : Volume). AppliesBatch (limits_of b) most is_next before.pen told batch.refused ended) home applies;
+      after_is = is;
+    }
 
 -- a member that won the lock, served the others, and released with these, carried them out
 pub carries_batch : (words : ℕ) (hinted : Bool) (a b c d : Joined) (book : Volume) (told : List Told) (is_next : Request → Type 0) (batch : Batch) → StaysAtPlace a b → Wins a.pen book b.pen
@@ -234,7 +239,7 @@ enters_together words a c told is_next batch free h =
     let p = h.ready.pen in
     let q = e.ended in
     let most = most_posts h.ready.queue.room in
-    let g = batch_gains e.limits most is_next p q told batch.refused e.applies in
+    let g = batch_gains (limits_in_hand p) most is_next p q told batch.refused e.applies in
     let posts = g.posts in
     let same_posts = r.posts in
     let lines = batch_lines a.pen.place (a.pen.posts + 1) told in
@@ -262,7 +267,7 @@ enters_together words a c told is_next batch free h =
       first = e.first;
       together = hand;
       beyond = omega (arith, first, older, length-append a.pen.known r.hand.0);
-      full = λ f. batch_full e.limits most is_next p q told batch.refused e.applies f;
+      full = λ f. batch_full (limits_in_hand p) most is_next p q told batch.refused e.applies f;
       times = record {
         began = g.times.began;
         number = g.times.number;

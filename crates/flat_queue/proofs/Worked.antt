@@ -12,6 +12,7 @@ use Rattle.pq_types.specs.Control.{posted, answered}
 use Rattle.pq_types.specs.History.{line}
 use Rattle.split_core.specs.Places.{place}
 use Rattle.split_core.specs.Grid.{Scans, Begins}
+use Rattle.desk_core.specs.Desk.{volume, plain}
 use Rattle.desk_core.specs.Pen.{new_pen, after_draft, after_post, after_lead, due_to, after_read, after_read_item, after_answer, after_release}
 use Rattle.desk_core.specs.declared.model.PenState.{PenState}
 use Rattle.desk_core.specs.declared.model.View.TheVariants.{Holder}
@@ -29,7 +30,7 @@ drafted = after_draft (new_pen 1 1) (item 6 2)
 
 -- the first pen with the lock, and what it reads and answers
 abbrev leader : PenState
-leader = after_lead (new_pen 1 0) []
+leader = after_lead (new_pen 1 0) (volume (plain 1) [])
 
 abbrev read_own : PenState
 read_own = after_read leader 0 Nothing
@@ -45,7 +46,7 @@ answered_other = after_answer item_read (due_to 1 1 kind.Push (Some (item 6 2)))
 
 -- and in its second lead
 abbrev leads_again : PenState
-leads_again = after_lead (after_release answered_other) (line 1 1 (Push (item 6 2)) Pushed ∷ [])
+leads_again = after_lead (after_release answered_other) (volume (plain 1) (line 1 1 (Push (item 6 2)) Pushed ∷ []))
 
 abbrev own_again : PenState
 own_again = after_read leads_again 0 Nothing
@@ -140,7 +141,7 @@ round_of_two =
               ((_, read_other, refl, refl, refl, refl), (_, (read_other, due_to 1 1 kind.Push None, refl, refl, refl, refl, refl), refl)),
               (
                 _,
-                ((_, item_read, refl, refl, refl, refl), (_, (item_read, due_to 1 1 kind.Push (Some (item 6 2)), Push (item 6 2), refl, refl, refl, refl, refl, tt, (lit< tt, refl, refl, λ ends. refl), refl), refl)),
+                ((_, item_read, refl, refl, refl, refl), (_, (item_read, due_to 1 1 kind.Push (Some (item 6 2)), Push (item 6 2), refl, refl, refl, refl, refl, tt, (record { space = lit< tt; kept = lit< tt; heard = λ ends. refl; below = λ adds. lit< tt }, refl, refl), refl), refl)),
                 refl,
               ),
             ),
@@ -161,7 +162,7 @@ round_of_two =
               tt,
               (
                 _,
-                (item_read, due_to 1 1 kind.Push (Some (item 6 2)), Push (item 6 2), refl, refl, refl, refl, refl, tt, (lit< tt, refl, refl, λ ends. refl), refl),
+                (item_read, due_to 1 1 kind.Push (Some (item 6 2)), Push (item 6 2), refl, refl, refl, refl, refl, tt, (record { space = lit< tt; kept = lit< tt; heard = λ ends. refl; below = λ adds. lit< tt }, refl, refl), refl),
                 tt,
                 (refl, (λ p a. owes_nothing answered_other p a refl)),
               ),
@@ -224,7 +225,7 @@ abbrev drafted_in_two : PenState
 drafted_in_two = after_draft (new_pen 2 1) (item 6 2)
 
 abbrev two_leads : PenState
-two_leads = after_lead (new_pen 2 0) []
+two_leads = after_lead (new_pen 2 0) (volume (plain 2) [])
 
 abbrev two_read_own : PenState
 two_read_own = after_read two_leads 0 Nothing
@@ -323,7 +324,7 @@ trail_round_of_two =
             ((_, two_read_other, refl, refl, refl, refl), (_, (two_read_other, due_to 1 1 kind.Push None, refl, refl, refl, refl, refl), refl)),
             (
               _,
-              ((_, two_item_read, refl, refl, refl, refl), (_, (two_item_read, due_to 1 1 kind.Push (Some (item 6 2)), Push (item 6 2), refl, refl, refl, refl, refl, tt, (lit< tt, refl, refl, λ ends. refl), refl), refl)),
+              ((_, two_item_read, refl, refl, refl, refl), (_, (two_item_read, due_to 1 1 kind.Push (Some (item 6 2)), Push (item 6 2), refl, refl, refl, refl, refl, tt, (record { space = lit< tt; kept = lit< tt; heard = λ ends. refl; below = λ adds. lit< tt }, refl, refl), refl), refl)),
               refl,
             ),
           ),
@@ -343,7 +344,7 @@ trail_round_of_two =
               tt,
               (
                 _,
-                (two_item_read, due_to 1 1 kind.Push (Some (item 6 2)), Push (item 6 2), refl, refl, refl, refl, refl, tt, (lit< tt, refl, refl, λ ends. refl), refl),
+                (two_item_read, due_to 1 1 kind.Push (Some (item 6 2)), Push (item 6 2), refl, refl, refl, refl, refl, tt, (record { space = lit< tt; kept = lit< tt; heard = λ ends. refl; below = λ adds. lit< tt }, refl, refl), refl),
                 tt,
                 (refl, (λ p a. owes_nothing two_answered p a refl)),
               ),
@@ -352,7 +353,7 @@ trail_round_of_two =
         );
         release = (
           (_, two_answered, refl, refl, refl, refl),
-          (_, (two_answered, refl, refl, refl, (None, refl), lit< tt, tt, (lit< tt, refl, refl, λ ends. refl), refl), refl),
+          (_, (two_answered, refl, refl, refl, (None, refl), lit< tt, tt, (record { space = lit< tt; kept = lit< tt; heard = λ ends. refl; below = λ adds. lit< tt }, refl, refl), refl), refl),
         );
       };
       journal = refl;

@@ -12,13 +12,14 @@ use Rattle.pq_types.specs.Asked.{Line}
 use Rattle.pq_types.specs.History.{line, Limits, MayAnswer}
 use Rattle.pq_book.specs.Book.{Volume}
 use Rattle.desk_core.specs.Calls.{call}
-use Rattle.desk_core.specs.Pen.{after_apply, after_release}
+use Rattle.desk_core.specs.Pen.{after_apply, after_release, book_in_hand, limits_in_hand}
 use Rattle.desk_core.specs.declared.model.Call.{Call}
 use Rattle.desk_core.specs.declared.model.PenState.{PenState}
 use Rattle.announce_board.specs.Asking.{IsFullFor}
 use Rattle.announce_board.specs.Serving.{Wins}
+use Rattle.announce_board.specs.Slots.{MeetsTerms}
 use Rattle.announce_board.specs.Tokens.{is_idle}
-use Rattle.flat_queue.specs.Members.{Joined, HasTerms, StaysAtPlace}
+use Rattle.flat_queue.specs.Members.{Joined, StaysAtPlace}
 use Rattle.flat_queue.specs.Limits.{most_posts}
 use Rattle.flat_queue.specs.Calling.{StaysMember}
 use Rattle.flat_queue.specs.OwnRequest.{SweepsWhereBy}
@@ -77,16 +78,14 @@ abbrev pub AppliesBatch : Limits → ℕ → (is_next : Request → Type 0) → 
 AppliesBatch limits most is_next p told refused q =
     (m : PenState) × AppliesEach limits p told m × EndsBatch limits most is_next m refused q
 
--- The leader applied these requests of its own, of which the first has the line that the batch tells, and released. It posted
--- nothing.
+-- The leader applied these requests of its own, as the limits of the Book in its hand say, which meets the queue's terms. The
+-- first has the line that the batch tells. Then it released. It posted nothing.
 pub record ReleasesBatch (before : Joined) (told : List Told) (is_next : Request → Type 0) (batch : Batch)
     (after : Joined) : Type 0 where
   pub ended : PenState
-  pub limits : Limits
-  pub room : limits.room ≡ before.pen.room
-  pub terms : HasTerms before.queue.terms limits
+  pub terms : MeetsTerms before.queue.terms (book_in_hand before.pen)
   pub first : batch.first ≡ length before.pen.hand + 1
-  pub applies : AppliesBatch limits (most_posts before.queue.room) is_next before.pen told batch.refused ended
+  pub applies : AppliesBatch (limits_in_hand before.pen) (most_posts before.queue.room) is_next before.pen told batch.refused ended
   pub after_is : after ≡ record before { pen = after_release ended }
 
 -- The member won the lock, served the others where it read that somebody had posted, and released with these requests of its

@@ -9,6 +9,7 @@ use Rattle.desk_core.specs.Testimonies.{after_retiring}
 use Rattle.desk_core.specs.Times.{IsTimed, IsWhole}
 use Rattle.desk_core.specs.Witnessed.{IsWitnessed}
 use Rattle.desk_core.specs.declared.model.PenState.{PenState}
+use Rattle.announce_board.specs.declared.terms.Terms.{Terms}
 use Rattle.announce_board.specs.Opening.{IsHomeWithAll}
 use Rattle.announce_board.specs.Tokens.{is_idle}
 use Rattle.flat_queue.specs.Members.{QueueName, Joined}
@@ -40,12 +41,12 @@ pub record LinearizesMembers (room : ℕ) (members : List Joined) (journal : Lis
   pub whole : OfEachMember members (λ m. IsWhole history (length history) m.pen)
   pub witnessed : OfEachMember members (λ m. is_idle m.pen.standing ≡ true → IsWitnessed room history journal m.pen)
 
--- The Book is the one at home at some desk of the queue's room that is at the end of a run, at which the pen of each member has its
+-- The Book is the one at home at some desk of the queue's room and terms that is at the end of a run, at which the pen of each member has its
 -- seat, retired. Each member knows its journal: it begins with what the member knew of it. At the place of an idle member it has
 -- exactly that member's calls. No two members have one place, and each line is of the place of one of them. This journal linearizes
 -- one history of them all.
 pub record ClosesAll (queue : QueueName) (members : List Joined) (book : Volume) : Type 0 where
-  pub home : IsHomeWithAll queue.room (map retired_pen members) book
+  pub home : IsHomeWithAll queue.room queue.terms (map retired_pen members) book
   pub knows : OfEachMember members (λ m. Knows queue.room m.pen book.journal)
   pub idle : OfEachMember members (λ m. is_idle m.pen.standing ≡ true → calls_of m.pen.place book.journal ≡ m.pen.mine)
   pub apart : HavePlacesApart members
@@ -55,6 +56,6 @@ pub record ClosesAll (queue : QueueName) (members : List Joined) (book : Volume)
 -- So it is of each Book at home with the pens of such members, which know its journal.
 abbrev pub ClosedAreLinearized : Type 0
 ClosedAreLinearized =
-    (room : ℕ) (members : List Joined) (book : Volume) → IsHomeWithAll room (map retired_pen members) book
+    (room : ℕ) (terms : Terms) (members : List Joined) (book : Volume) → IsHomeWithAll room terms (map retired_pen members) book
     → OfEachMember members (λ m. m.pen.room ≡ room) → OfEachMember members (λ m. Knows room m.pen book.journal)
     → LinearizesMembers room members book.journal

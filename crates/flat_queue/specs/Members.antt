@@ -1,7 +1,6 @@
 -- What a contract sees of a queue, of a newcomer and of a member; and what their fields keep.
 use Rattle.std.specs.Prelude.{◌≡◌, ◌≢◌, ℕ, ◌+◌, ◌-◌, ◌*◌, ◌<◌, ◌≤◌, List, [], Option}
 use Rattle.atomic_table.specs.Seated.{TableId}
-use Rattle.pq_types.specs.History.{Limits}
 use Rattle.pq_book.specs.Book.{AllHaveRoom}
 use Rattle.split_core.specs.Places.{at, diagonal}
 use Rattle.split_core.specs.Scan.{fresh}
@@ -31,11 +30,6 @@ pub record QueueName : Type 0 where
   pub places : ℕ
   pub room : ℕ
   pub terms : Terms
-
--- a Book of these limits meets these terms
-pub record HasTerms (terms : Terms) (limits : Limits) : Type 0 where
-  pub bound : limits.bound ≡ terms.bound
-  pub allowed : terms.allowed ≤ limits.allowed
 
 -- Every store of the queue's kind has room for as many items as its journal has lines: the argument
 -- says how many each has room for. No push of such a queue is refused for want of memory.

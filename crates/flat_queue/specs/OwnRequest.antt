@@ -5,12 +5,13 @@ use Rattle.pq_types.specs.Operation.{Asked}
 use Rattle.pq_types.specs.Asked.{Reply}
 use Rattle.pq_types.specs.Asked.{Answer}
 use Rattle.pq_types.specs.declared.answer.Answer.TheVariants.{Entered, BookFull}
-use Rattle.pq_types.specs.History.{Limits, MayDo}
+use Rattle.pq_types.specs.History.{MayDo}
 use Rattle.pq_book.specs.Book.{Volume}
-use Rattle.desk_core.specs.Pen.{after_release_by}
+use Rattle.desk_core.specs.Pen.{after_release_by, book_in_hand, limits_in_hand}
 use Rattle.announce_board.specs.Asking.{IsAboveAll, IsFullFor}
 use Rattle.announce_board.specs.Serving.{Wins}
-use Rattle.flat_queue.specs.Members.{Joined, HasTerms, StaysAtPlace}
+use Rattle.announce_board.specs.Slots.{MeetsTerms}
+use Rattle.flat_queue.specs.Members.{Joined, StaysAtPlace}
 use Rattle.flat_queue.specs.TrailSweeping.{IsTrailSweptBy}
 use Rattle.flat_queue.specs.Turns.{FindsLockHeld, Misses}
 use Rattle.flat_queue.specs.Calling.{ended, PostsAndWaitsBy}
@@ -23,13 +24,11 @@ SweepsWhereBy words true before after = (answers doors : ℕ) × IsTrailSweptBy 
 SweepsWhereBy words false before after = after ≡ before
 
 -- The leader released the lock with this operation of its own, a request or the use of a ticket, which was so answered as
--- a Book with such limits may with the journal in its hand: on a line behind those of all its calls before, and BookFull
+-- the Book in its hand may, which meets the queue's terms: on a line behind those of all its calls before, and BookFull
 -- where that journal was full. It posted nothing.
 pub record ReleasesOperation (before : Joined) (operation : Operation) (answer : Answer) (after : Joined) : Type 0 where
-  pub limits : Limits
-  pub room : limits.room ≡ before.pen.room
-  pub terms : HasTerms before.queue.terms limits
-  pub may : MayDo limits before.pen.hand operation answer
+  pub terms : MeetsTerms before.queue.terms (book_in_hand before.pen)
+  pub may : MayDo (limits_in_hand before.pen) before.pen.hand operation answer
   pub behind : (number : ℕ) (reply : Reply) → answer ≡ Entered number reply → IsAboveAll number before.pen.mine
   pub full : answer ≡ BookFull → IsFullFor after.pen
   pub now : ℕ

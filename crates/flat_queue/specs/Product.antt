@@ -5,6 +5,7 @@ use Rattle.split_core.specs.Places.{place, at}
 use Rattle.split_core.specs.Grid.{Grid, Event as GridEvent, Has as IsComer, happens, opening as grid_opening}
 use Rattle.split_core.specs.declared.model.Comer.{Comer}
 use Rattle.split_core.specs.declared.model.Next.TheVariants.{Stopped}
+use Rattle.pq_types.specs.History.{Limits}
 use Rattle.desk_core.specs.Desk.{Desk, Has as IsPen, opening as desk_opening}
 use Rattle.desk_core.specs.Steps.{Event as DeskEvent, actor, Step as DeskStep}
 use Rattle.desk_core.specs.declared.model.PenState.{PenState}
@@ -37,10 +38,10 @@ abbrev pub Run : Product → List Event → Product → Type 0
 Run s [] s' = s' ≡ s
 Run s (e ∷ es) s' = (m : Product) × Step s e m × Run m es s'
 
--- all comers stand before their first step, and the desk of as many places as the grid has an empty
--- journal of so many lines
-abbrev pub opening : List ℕ → ℕ → Product
-opening ids room = record { grid = grid_opening ids; desk = desk_opening (place 0 (length ids)) room }
+-- all comers stand before their first step, and the desk of as many places as the grid has a Book with an
+-- empty journal and these limits
+abbrev pub opening : List ℕ → Limits → Product
+opening ids limits = record { grid = grid_opening ids; desk = desk_opening (place 0 (length ids)) limits }
 
 -- the events of the grid, in their order
 abbrev pub grid_events : List Event → List GridEvent

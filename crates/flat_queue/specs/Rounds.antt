@@ -8,6 +8,7 @@ use Rattle.split_core.specs.declared.model.Comer.{Comer}
 use Rattle.split_core.specs.declared.model.Next.TheVariants.{Stopped}
 use Rattle.pq_types.specs.Asked.{Answer, Operation}
 use Rattle.pq_types.specs.declared.journal.TheConstants.{GREATEST_NUMBER}
+use Rattle.pq_types.specs.History.{Limits}
 use Rattle.desk_core.specs.Desk.{Has as IsPen, opening as desk_opening}
 use Rattle.desk_core.specs.Steps.{Event as DeskEvent, Tries, Releases, ReleasesBy, Run as DeskRun}
 use Rattle.desk_core.specs.Leads.{HasPosted, HasAnswer, KnowsAnswer, Serving, places_read}
@@ -52,31 +53,31 @@ pub record Round (who seat : ℕ) (s : Product) (events : List Event) (s' : Prod
 -- each half of a product run is a run of its own
 abbrev pub HalvesAreRuns : Type 0
 HalvesAreRuns =
-    (ids : List ℕ) (room : ℕ) (events : List Event) (s : Product) → Run (opening ids room) events s
+    (ids : List ℕ) (limits : Limits) (events : List Event) (s : Product) → Run (opening ids limits) events s
     → (s.grid ≡ run (grid_events events) (grid_opening ids))
-    × DeskRun (desk_opening (place 0 (length ids)) room) (desk_events events) s.desk
+    × DeskRun (desk_opening (place 0 (length ids)) limits) (desk_events events) s.desk
 
 -- a request that was posted before a round began has its answer when the round ends
 abbrev pub RoundsAnswer : Type 0
 RoundsAnswer =
-    (ids : List ℕ) (room : ℕ) (before round : List Event) (s s' : Product) (who seat place serial : ℕ) → Different ids
-    → room ≤ GREATEST_NUMBER
-    → Run (opening ids room) before s → Round who seat s round s' → HasPosted s.desk place serial → HasAnswer s'.desk place serial
+    (ids : List ℕ) (limits : Limits) (before round : List Event) (s s' : Product) (who seat place serial : ℕ) → Different ids
+    → limits.room ≤ GREATEST_NUMBER
+    → Run (opening ids limits) before s → Round who seat s round s' → HasPosted s.desk place serial → HasAnswer s'.desk place serial
 
 -- and whoever made the round knows the answers to its own posts then
 abbrev pub RoundsTellTheirOwn : Type 0
 RoundsTellTheirOwn =
-    (ids : List ℕ) (room : ℕ) (before round : List Event) (s s' : Product) (who seat serial : ℕ) (p : PenState) → Different ids
-    → room ≤ GREATEST_NUMBER
-    → Run (opening ids room) before s → Round who seat s round s' → IsPen s.desk.views seat p → serial ≤ p.posts
+    (ids : List ℕ) (limits : Limits) (before round : List Event) (s s' : Product) (who seat serial : ℕ) (p : PenState) → Different ids
+    → limits.room ≤ GREATEST_NUMBER
+    → Run (opening ids limits) before s → Round who seat s round s' → IsPen s.desk.views seat p → serial ≤ p.posts
     → KnowsAnswer s'.desk seat serial
 
 -- an announcement that was posted before a scan began is at a place in its answer, once the scan is
 -- over
 abbrev pub ScansFind : Type 0
 ScansFind =
-    (ids : List ℕ) (room : ℕ) (before late : List Event) (s s' : Product) (who place serial : ℕ) (x y : Comer) → Different ids
-    → room ≤ GREATEST_NUMBER
-    → Run (opening ids room) before s → IsComer s.grid who x → x.next ≡ Stopped
+    (ids : List ℕ) (limits : Limits) (before late : List Event) (s s' : Product) (who place serial : ℕ) (x y : Comer) → Different ids
+    → limits.room ≤ GREATEST_NUMBER
+    → Run (opening ids limits) before s → IsComer s.grid who x → x.next ≡ Stopped
     → Run s (OnGrid (Begins who) ∷ late) s' → NoneBegins who (grid_events late) → IsComer s'.grid who y → y.scan.over ≡ true
     → HasPosted s.desk place serial → Contains y.scan.found place

@@ -3,6 +3,7 @@ use Rattle.std.specs.Prelude.{◌≡◌, ℕ, ◌≤◌, false, List, [], ◌∷
 use Rattle.split_core.specs.Grid.{Different}
 use Rattle.split_core.specs.Trail.{Trail, trail_start, follows}
 use Rattle.pq_types.specs.declared.journal.TheConstants.{GREATEST_NUMBER}
+use Rattle.pq_types.specs.History.{Limits}
 use Rattle.desk_core.specs.Steps.{Event as DeskEvent, Tries}
 use Rattle.desk_core.specs.Leads.{HasPosted, HasAnswer, KnowsAnswer, Serving, places_read}
 use Rattle.desk_core.specs.Desk.{Has as IsPen}
@@ -58,15 +59,15 @@ pub record TrailRound (who seat : ℕ) (s : Product) (events : List Event) (s' :
 -- a request that was posted before such a round began has its answer when the round ends
 abbrev pub TrailRoundsAnswer : Type 0
 TrailRoundsAnswer =
-    (ids : List ℕ) (room : ℕ) (before round : List Event) (s s' : Product) (who seat place serial : ℕ) → Different ids
-    → room ≤ GREATEST_NUMBER
-    → Run (opening ids room) before s → TrailRound who seat s round s' → HasPosted s.desk place serial
+    (ids : List ℕ) (limits : Limits) (before round : List Event) (s s' : Product) (who seat place serial : ℕ) → Different ids
+    → limits.room ≤ GREATEST_NUMBER
+    → Run (opening ids limits) before s → TrailRound who seat s round s' → HasPosted s.desk place serial
     → HasAnswer s'.desk place serial
 
 -- and whoever made the round knows the answers to its own posts then
 abbrev pub TrailRoundsTellTheirOwn : Type 0
 TrailRoundsTellTheirOwn =
-    (ids : List ℕ) (room : ℕ) (before round : List Event) (s s' : Product) (who seat serial : ℕ) (p : PenState) → Different ids
-    → room ≤ GREATEST_NUMBER
-    → Run (opening ids room) before s → TrailRound who seat s round s' → IsPen s.desk.views seat p → serial ≤ p.posts
+    (ids : List ℕ) (limits : Limits) (before round : List Event) (s s' : Product) (who seat serial : ℕ) (p : PenState) → Different ids
+    → limits.room ≤ GREATEST_NUMBER
+    → Run (opening ids limits) before s → TrailRound who seat s round s' → IsPen s.desk.views seat p → serial ≤ p.posts
     → KnowsAnswer s'.desk seat serial

@@ -8,7 +8,7 @@ use Rattle.pq_types.specs.declared.answer.Answer.TheVariants.{Entered}
 use Rattle.pq_types.specs.Item.{item}
 use Rattle.pq_types.specs.History.{line}
 use Rattle.split_core.specs.Grid.{Goes, Begins, Scans}
-use Rattle.desk_core.specs.Desk.{volume}
+use Rattle.desk_core.specs.Desk.{volume, plain}
 use Rattle.desk_core.specs.Steps.{Drafts, Posts, Tries, Reads, ReadsItem, Answers, Releases, ReleasesWith}
 use Rattle.desk_core.specs.Leads.{HasPosted}
 use Rattle.flat_queue.specs.Product.{Product, Event, OnGrid, AtDesk, Run, opening}
@@ -44,10 +44,10 @@ pub record RoundOfTwo : Type 0 where
   pub met : Product
   pub done : Product
   pub again : Product
-  pub arrive : Run (opening (1 ∷ 2 ∷ []) 1) arrivals met
+  pub arrive : Run (opening (1 ∷ 2 ∷ []) (plain 1)) arrivals met
   pub posted : HasPosted met.desk 1 1
   pub round : Round 0 0 met round_of_first done
-  pub journal : done.desk.home ≡ Some (volume 1 (line 1 1 (Push (item 6 2)) Pushed ∷ []))
+  pub journal : done.desk.home ≡ Some (volume (plain 1) (line 1 1 (Push (item 6 2)) Pushed ∷ []))
   pub second : Round 0 0 done round_of_two_scans again
 
 -- The first comer makes a trail scan of its own beside a lead: it reads the mail at both places that it has found, answers
@@ -63,7 +63,7 @@ round_with_pop =
 pub record TrailRoundOfTwo : Type 0 where
   pub met : Product
   pub done : Product
-  pub arrive : Run (opening (1 ∷ 2 ∷ []) 2) arrivals met
+  pub arrive : Run (opening (1 ∷ 2 ∷ []) (plain 2)) arrivals met
   pub posted : HasPosted met.desk 1 1
   pub round : TrailRound 0 0 met round_with_pop done
-  pub journal : done.desk.home ≡ Some (volume 2 (line 1 1 (Push (item 6 2)) Pushed ∷ line 0 1 Pop (Got (item 6 2)) ∷ []))
+  pub journal : done.desk.home ≡ Some (volume (plain 2) (line 1 1 (Push (item 6 2)) Pushed ∷ line 0 1 Pop (Got (item 6 2)) ∷ []))

@@ -80,7 +80,6 @@ impl<S: Store<Entry<P>>, P: Part> Queue<S, P> {
     pub fn release(&self, member: &mut Member<S, P>, lead: Lead<S, P>)
         requires queue { member.old.queue ≡ self.now }
         requires lead { IsLeadOf (pen_of member.old) lead }
-        requires terms { MeetsTerms self.now.terms lead.book }
         ensures { member.new ≡ record member.old { pen = after_release member.old.pen } }
     {
         self.desk.release(&mut member.pen, lead);

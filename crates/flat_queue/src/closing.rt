@@ -22,8 +22,8 @@ impl<S: Store<Entry<P>>, P: Part> Queue<S, P> {
     /// Closes the queue, which no thread shares any more: the Book, if it is at home. `LockHeld`
     /// only where a member leads, or kept the Book for good.
     pub fn close(self) -> Result<Book<S, Global, P>, LockHeld>
-        ensures ok { IfOk result (λ book. IsHomeBook self.room book) }
-        ensures err { IfErr result (λ _. IsHeld self.room) }
+        ensures ok { IfOk result (λ book. IsHomeBook self.room self.terms book) }
+        ensures err { IfErr result (λ _. IsHeld self.room self.terms) }
     {
         let Queue {
             grid,
@@ -45,12 +45,12 @@ impl<S: Store<Entry<P>>, P: Part> Queue<S, P> {
     #[tactic(auto, using(crate::proofs::Idle::idle_known))]
     pub fn close_with(self, member: Member<S, P>) -> Result<Book<S, Global, P>, LockHeld>
         requires queue { member.queue ≡ self }
-        ensures ok { IfOk result (λ book. IsHomeWith self.room member.pen book) }
+        ensures ok { IfOk result (λ book. IsHomeWith self.room self.terms member.pen book) }
         ensures knows { IfOk result (λ book. Knows self.room member.pen book.journal) }
         ensures idle { IfOk result (λ book. is_idle member.pen.standing ≡ true
             → calls_of member.pen.place book.journal ≡ member.pen.mine) }
         ensures led_not { IfOk result (λ _. member.pen.leading ≡ false) }
-        ensures err { IfErr result (λ _. IsHeldWith self.room member.pen) }
+        ensures err { IfErr result (λ _. IsHeldWith self.room self.terms member.pen) }
         ensures alone { IfErr result (λ _. self.places ≡ 1 → member.pen.leading ≡ true) }
     {
         let Queue {

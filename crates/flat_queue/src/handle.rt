@@ -20,7 +20,7 @@ ghost use Rattle.flat_queue.specs.Turns.{FindsLockHeld};
 ghost use Rattle.flat_queue.specs.Limits.{most_posts};
 ghost use Rattle.flat_queue.specs.Memory.{HasSpareRoom};
 ghost use Rattle.flat_queue.specs.Handles.{EndsCall, member_of, refusal_of, told};
-ghost use Rattle.flat_queue.specs.Settling.{Archives, Settles};
+ghost use Rattle.flat_queue.specs.Settling.{Archives, Settles, SettlesBy};
 ghost use Rattle.flat_queue.specs.Sweeping.{MakesRoundBy};
 ghost use Rattle.flat_queue.specs.TrailSweeping.{MakesTrailRoundBy};
 
@@ -245,7 +245,7 @@ impl<'q, S: Store<Entry<P>>, P: Part> Handle<'q, S, P> {
         archive: &mut Vec<Line<P>, B>,
     ) -> Option<Result<u64, ArchiveError>>
         ensures queue { self.new.queue ≡ self.old.queue }
-        ensures settles { IfSome result (λ _. Settles self.old (length self.new.pen.known) self.new) }
+        ensures settles { IfSome result (λ told. SettlesBy archived self.old told self.new) }
         ensures archives { IfSome result
             (Archives self.old.queue.room archived self.new.pen.known archive.old.items archive.new.items) }
         ensures misses { IfNone result (self.new ≡ record self.old { pen = after_miss self.old.pen }) }
@@ -295,7 +295,6 @@ impl<'q, S: Store<Entry<P>>, P: Part> Handle<'q, S, P> {
     /// Puts the Book home and then frees the lock, in one step. Takes no memory, and never waits.
     pub fn release(&mut self, lead: Lead<S, P>)
         requires lead { IsLeadOf (pen_of self.old) lead }
-        requires terms { MeetsTerms self.old.queue.terms lead.book }
         ensures { self.new ≡ record self.old { pen = after_release self.old.pen } }
     {
         self.queue.release(&mut self.member, lead);

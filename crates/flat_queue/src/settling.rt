@@ -1,13 +1,12 @@
 // A lead without a sweep, by which a member learns the journal, and archives it.
-ghost use Rattle.std.specs.Prelude.{◌≡◌, length, IfSome, IfNone};
+ghost use Rattle.std.specs.Prelude.{◌≡◌, ◌≤◌, length, IfSome, IfNone, IsErrOf};
 ghost use Rattle.desk_core.specs.Pen.{after_miss};
-ghost use Rattle.flat_queue.specs.Settling.{Allows, Archives, Settles};
+ghost use Rattle.flat_queue.specs.Settling.{Archives, Settles, SettlesBy};
 
 use crate::error::ArchiveError;
 use crate::member::Member;
 use crate::queue::Queue;
 use announce_board::Lead;
-use announce_board::leading::law_leads_stay;
 use leftist_heap::Store;
 use pq_book::{Entry, LinesError};
 use pq_types::{Item, Line, Part};
@@ -30,8 +29,8 @@ impl<S: Store<Entry<P>>, P: Part> Queue<S, P> {
 
     /// The member leads, says that the first so many lines of the journal are archived, copies those that come next to the end
     /// of the archive, which has the others already, and releases: how many lines the journal has, all of which the archive has
-    /// then. From now on the journal may have as many lines beyond those first ones as memory keeps. `None` only where it found
-    /// the lock held. `Ahead` where the journal has fewer lines than that, and then nothing was said or copied. `Forgotten`
+    /// then. From now on the journal may have as many lines beyond those first ones as memory keeps, or as many as it might
+    /// before; no other call lets it have more. `None` only where it found the lock held. `Ahead` where the journal has fewer lines than that, and then nothing was said or copied. `Forgotten`
     /// where the first line that the archive lacks is no longer in memory, which never comes where it is brought up to date
     /// at least once in as many lines as memory keeps; `NoMemory` where memory for the lines was refused. The archive is as it
     /// was then. Takes memory for the archive alone, and never waits.
@@ -43,18 +42,22 @@ impl<S: Store<Entry<P>>, P: Part> Queue<S, P> {
     ) -> Option<Result<u64, ArchiveError>>
         requires queue { member.old.queue ≡ self.now }
         ensures queue { member.new.queue ≡ member.old.queue }
-        ensures settles { IfSome result (λ _. Settles member.old (length member.new.pen.known) member.new) }
+        ensures settles { IfSome result (λ told. SettlesBy archived member.old told member.new) }
         ensures archives { IfSome result
             (Archives self.now.room archived member.new.pen.known archive.old.items archive.new.items) }
         ensures misses { IfNone result (member.new ≡ record member.old { pen = after_miss member.old.pen }) }
         ensures kept { IfNone result (archive.new.items ≡ archive.old.items) }
     {
         law_one_room(member);
-        law_leads_stay();
-        let mut led = self.lead(member)?;
-        let told = archive_from(&mut led, archived, archive);
-        self.release(member, led);
-        Some(told)
+        let led = self.lead(member)?;
+        if archived > led.lines() {
+            self.release(member, led);
+            return Some(Err(ArchiveError::Ahead));
+        }
+        let told = self.desk.archive(&mut member.pen, led, archived);
+        let copied = copied_from(&told, archived, archive);
+        self.release(member, told);
+        Some(copied)
     }
 }
 
@@ -65,22 +68,18 @@ pub(crate) fn law_one_room<S: Store<Entry<P>>, P: Part>(member: &Member<S, P>)
     let _ = &member.pen;
 }
 
-// Brings the archive, which has so many lines of the leader's journal, up to date, and lets the journal go on beyond them.
-fn archive_from<S: Store<Entry<P>>, B: Allocator, P: Part>(
-    lead: &mut Lead<S, P>,
+// Brings the archive, which has so many lines of the leader's journal, up to date.
+fn copied_from<S: Store<Entry<P>>, B: Allocator, P: Part>(
+    lead: &Lead<S, P>,
     archived: u64,
     archive: &mut Vec<Line<P>, B>,
 ) -> Result<u64, ArchiveError>
-    ensures archives { Archives lead.old.book.room archived lead.old.book.journal archive.old.items archive.new.items result }
-    ensures allows { Allows archived lead.old result lead.new }
+    requires has { archived ≤ length lead.now.book.journal }
+    ensures archives { Archives lead.now.book.room archived lead.now.book.journal archive.old.items archive.new.items result }
+    ensures has { ¬ (IsErrOf result ArchiveError.Ahead) }
 {
-    let lines = lead.lines();
-    if archived > lines {
-        return Err(ArchiveError::Ahead);
-    }
-    lead.archived(archived);
     match lead.lines_from(archived, archive) {
-        Ok(()) => Ok(lines),
+        Ok(()) => Ok(lead.lines()),
         Err(LinesError::Forgotten) => Err(ArchiveError::Forgotten),
         Err(LinesError::NoMemory) => Err(ArchiveError::NoMemory),
     }

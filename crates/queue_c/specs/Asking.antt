@@ -4,6 +4,7 @@ use Rattle.std.specs.Option.{MatchOption}
 use Rattle.pq_types.specs.Asked.{Request}
 use Rattle.announce_board.specs.Tokens.{is_idle}
 use Rattle.flat_queue.specs.Limits.{most_posts}
+use Rattle.flat_queue.specs.Members.{Joined}
 use Rattle.flat_queue.specs.declared.counting.Counts.{Counts}
 use Rattle.flat_queue.specs.declared.looking.Wanted.{Wanted}
 use Rattle.queue_c.specs.Handles.{member_in, owner_in}
@@ -27,10 +28,10 @@ pub record PostAnswers (before : Option Contents) (request : Option Request) (co
   pub spent : code ≡ POSTS_SPENT → IfSome (member_in before) (λ m. most_posts m.queue.room ≤ m.pen.posts)
   pub owner : owner_in after ≡ owner_in before
 
--- a pop or a look that takes what it wants, with the answer that is told
-pub record LooksAnswers (before : Option Contents) (wants : Wanted) (code : ℕ) (told : PlainAnswer)
-    (after : Option Contents) : Type 0 where
-  pub carried_out : code ≡ OK → PoppingOrLooking (member_in before) wants told (member_in after)
+-- a call that the member carries out itself: what it has done where it found the lock free, with the answer that is told
+pub record OwnAnswers (Done : Option Joined → PlainAnswer → Option Joined → Type 0) (before : Option Contents) (code : ℕ)
+    (told : PlainAnswer) (after : Option Contents) : Type 0 where
+  pub carried_out : code ≡ OK → Done (member_in before) told (member_in after)
   pub misses : code ≡ LOCK_HELD → Missing (member_in before) (member_in after)
   pub refused : code ≢ OK → code ≢ LOCK_HELD → after ≡ before
   pub codes : IsOneOf code (OK ∷ LOCK_HELD ∷ POSTS_SPENT ∷ NO_HANDLE ∷ WAITS ∷ [])
@@ -38,6 +39,10 @@ pub record LooksAnswers (before : Option Contents) (wants : Wanted) (code : ℕ)
   pub waits : (code ≡ WAITS) ↔ MatchOption (member_in before) ⊥ (λ m. is_idle m.pen.standing ≡ false)
   pub spent : code ≡ POSTS_SPENT → IfSome (member_in before) (λ m. most_posts m.queue.room ≤ m.pen.posts)
   pub owner : owner_in after ≡ owner_in before
+
+-- of a pop or a look that takes what it wants
+abbrev pub LooksAnswers : Option Contents → Wanted → ℕ → PlainAnswer → Option Contents → Type 0
+LooksAnswers before wants = OwnAnswers (λ was told is. PoppingOrLooking was wants told is) before
 
 -- a count of the items, with the numbers that are told, and whether a wake is owed
 pub record CountAnswers (before : Option Contents) (code : ℕ) (counts : Counts) (owes : ℕ) (after : Option Contents) : Type 0 where

@@ -1,6 +1,6 @@
 -- What the calls for C that carry out a batch answer, and what they make of what a handle holds.
 use Rattle.std.specs.Prelude.{◌≡◌, ◌≢◌, ℕ, ◌≤◌, ◌↔◌, min, false, true, List, [], ◌∷◌, ◌++◌, map, length, take, drop}
-use Rattle.std.specs.Prelude.{Option, Some, None}
+use Rattle.std.specs.Prelude.{Option, Some, None, Result, Ok, Err}
 use Rattle.std.specs.Option.{MatchOption}
 use Rattle.pq_types.specs.Item.{Item}
 use Rattle.announce_board.specs.Tokens.{is_idle}
@@ -9,9 +9,8 @@ use Rattle.flat_queue.specs.Members.{Joined}
 use Rattle.flat_queue.specs.declared.batches.Batch.{Batch}
 use Rattle.flat_queue.specs.declared.batches.Popped.{Popped}
 use Rattle.flat_queue.specs.declared.error.CallError.{CallError}
-use Rattle.queue_pool.specs.Shared.{TriesPushesBy, TriesPopsBy, TriedPops}
-use Rattle.queue_pool.specs.declared.shared.TriedBatch.TheVariants as tried_batch
-use Rattle.queue_pool.specs.declared.shared.TriedPops.TheVariants as tried_pops
+use Rattle.queue_pool.specs.Shared.{TriesPushesBy, TriesPopsBy}
+use Rattle.queue_pool.specs.declared.shared.Undone.{Undone}
 use Rattle.queue_c.specs.Handles.{member_in, owner_in}
 use Rattle.queue_c.specs.Calls.{IsOneOf, Missing, words_of_item}
 use Rattle.queue_c.specs.Looking.{told_as}
@@ -51,7 +50,7 @@ TellsPopped told popped = (told ≡ told_popped told.batch.owes_wake popped) × 
 abbrev pub PushingMany : List PlainItem → Option Joined → PlainBatch → Option Joined → Type 0
 PushingMany items (Some before) told (Some after) =
     (batch : Batch)
-    × TriesPushesBy words_of_item before (map plain_item (take MOST_MANY items)) (tried_batch.Done batch) after
+    × TriesPushesBy words_of_item before (map plain_item (take MOST_MANY items)) (Ok batch) after
     × TellsBatch told batch
 PushingMany items before told after = ⊥
 
@@ -66,16 +65,15 @@ abbrev pub PoppingMany : ℕ → List PlainItem → List PlainItem → Option Jo
 PoppingMany bound was items (Some before) told (Some after) =
     (popped : Popped Item) × (slots : List Item)
     × (length slots ≡ min MOST_MANY (length was))
-    × TriesPopsBy words_of_item bound before slots (tried_pops.Done popped) after
+    × TriesPopsBy words_of_item bound before slots (Ok popped) after
     × GivesOut slots popped.batch.done was items
     × TellsPopped told popped
 PoppingMany bound was items before told after = ⊥
 
 -- what a batch of pops has put into the buffer from its slots
-abbrev pub GivesOutTried : List Item → TriedPops → List PlainItem → List PlainItem → Type 0
-GivesOutTried slots tried_pops.Waits was items = items ≡ was
-GivesOutTried slots tried_pops.LockHeld was items = items ≡ was
-GivesOutTried slots (tried_pops.Done popped) was items = GivesOut slots popped.batch.done was items
+abbrev pub GivesOutTried : List Item → Result (Popped Item) Undone → List PlainItem → List PlainItem → Type 0
+GivesOutTried slots (Err why) was items = items ≡ was
+GivesOutTried slots (Ok popped) was items = GivesOut slots popped.batch.done was items
 
 -- a batch that the member carries out itself: what it has done where it found the lock free, with what is told of it
 pub record BatchAnswers {Told : Type 0} (Done : Option Joined → Told → Option Joined → Type 0) (before : Option Contents)

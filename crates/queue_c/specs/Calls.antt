@@ -18,11 +18,11 @@ use Rattle.flat_queue.specs.Limits.{most_posts}
 use Rattle.flat_queue.specs.OwnRequest.{CarriesOutBy}
 use Rattle.flat_queue.specs.Members.{Joined, StaysAtPlace}
 use Rattle.queue_pool.specs.Pool.{Pooled, TakesOutBy, StaysPool, NoneComesBy, inside, lists_of, with_member}
-use Rattle.flat_queue.specs.Settling.{Archives, Settles}
+use Rattle.flat_queue.specs.Settling.{Archives, SettlesBy}
 use Rattle.flat_queue.specs.TrailSweeping.{MakesTrailRoundBy}
 use Rattle.leftist_heap.specs.Store.{first_of, rest_of}
 use Rattle.queue_c.specs.Values.{Told, IsOpened, IsClosed}
-use Rattle.queue_c.specs.Plain.{told_item, told_answer, told_line, Tells}
+use Rattle.queue_c.specs.Plain.{told_item, told_answer, told_line}
 use Rattle.queue_c.specs.declared.plain.PlainItem.{PlainItem}
 use Rattle.queue_c.specs.declared.plain.PlainAnswer.{PlainAnswer}
 use Rattle.queue_c.specs.declared.plain.PlainLine.{PlainLine}
@@ -66,12 +66,12 @@ Posting (Some before) (Some request) (Some after) =
     × ((now : ℕ) × (after ≡ record before { pen = asked_by words_of_item before.pen request now }))
 Posting before request after = ⊥
 
--- the idle member has found the lock free, and carried this request out itself, with the answer that is told
-abbrev pub CarryingOut : Option Joined → Option Request → PlainAnswer → Option Joined → Type 0
-CarryingOut (Some before) (Some request) told (Some after) =
+-- the idle member has found the lock free, and carried this request out itself, with an answer of which this is true
+abbrev pub CarryingOut : Option Joined → Request → (Answer → Type 0) → Option Joined → Type 0
+CarryingOut (Some before) request tells (Some after) =
     (is_idle before.pen.standing ≡ true) × (before.pen.posts < most_posts before.queue.room)
-    × ((answer : Answer) × CarriesOutBy words_of_item before request answer after × Tells told answer)
-CarryingOut before request told after = ⊥
+    × ((answer : Answer) × CarriesOutBy words_of_item before request answer after × tells answer)
+CarryingOut before request tells after = ⊥
 
 -- the waiting member has looked at its record, and found the answer that is told; by that it owes no wake
 abbrev pub Looking : Option Joined → PlainAnswer → Option Joined → Type 0
@@ -97,10 +97,10 @@ Missing (Some before) (Some after) = after ≡ record before { pen = after_miss 
 Missing before after = ⊥
 
 -- The member has led and released, and this is what becomes of an empty archive that is brought up to
--- date from so many lines on.
+-- date from so many lines on, and of how many lines the journal may have then.
 abbrev pub Archiving : Option Joined → ℕ → List Line → Result ℕ ArchiveError → Option Joined → Type 0
 Archiving (Some before) archived lines result (Some after) =
-    (after.queue ≡ before.queue) × Settles before (length after.pen.known) after
+    (after.queue ≡ before.queue) × SettlesBy archived before result after
     × Archives before.queue.room archived after.pen.known [] lines result
 Archiving before archived lines result after = ⊥
 

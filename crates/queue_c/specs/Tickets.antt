@@ -1,17 +1,13 @@
 -- What the calls for C make of their member that use a ticket: one removes its item, the other moves it to another priority.
-use Rattle.std.specs.Prelude.{◌≡◌, ◌≢◌, ℕ, ◌≤◌, ◌↔◌, false, [], ◌∷◌, Option, Some, None, IfSome}
-use Rattle.std.specs.Option.{MatchOption}
+use Rattle.std.specs.Prelude.{ℕ, Option, Some}
 use Rattle.pq_types.specs.Asked.{Answer}
 use Rattle.pq_types.specs.Operation.{Ticketed, Remove, Move}
-use Rattle.announce_board.specs.Tokens.{is_idle}
-use Rattle.flat_queue.specs.Limits.{most_posts}
 use Rattle.flat_queue.specs.Members.{Joined}
 use Rattle.flat_queue.specs.Tickets.{CarriesOutByTicket, TellsFound}
 use Rattle.queue_pool.specs.Shared.{MayCall}
-use Rattle.queue_c.specs.Handles.{member_in, owner_in}
 use Rattle.queue_c.specs.Plain.{Tells}
-use Rattle.queue_c.specs.Calls.{IsOneOf, Missing, words_of_item}
-use Rattle.queue_c.specs.declared.codes.TheConstants.{LOCK_HELD, NO_HANDLE, OK, POSTS_SPENT, WAITS}
+use Rattle.queue_c.specs.Asking.{OwnAnswers}
+use Rattle.queue_c.specs.Calls.{words_of_item}
 use Rattle.queue_c.specs.declared.contents.Contents.{Contents}
 use Rattle.queue_c.specs.declared.plain.PlainAnswer.{PlainAnswer}
 
@@ -22,15 +18,8 @@ UsingTicket (Some before) ticketed told (Some after) =
 UsingTicket before ticketed told after = ⊥
 
 -- a use of a ticket, with the answer that is told
-pub record TicketAnswers (before : Option Contents) (ticketed : Ticketed) (code : ℕ) (told : PlainAnswer) (after : Option Contents) : Type 0 where
-  pub carried_out : code ≡ OK → UsingTicket (member_in before) ticketed told (member_in after)
-  pub misses : code ≡ LOCK_HELD → Missing (member_in before) (member_in after)
-  pub refused : code ≢ OK → code ≢ LOCK_HELD → after ≡ before
-  pub codes : IsOneOf code (OK ∷ LOCK_HELD ∷ POSTS_SPENT ∷ NO_HANDLE ∷ WAITS ∷ [])
-  pub no_member : (code ≡ NO_HANDLE) ↔ (member_in before ≡ None)
-  pub waits : (code ≡ WAITS) ↔ MatchOption (member_in before) ⊥ (λ m. is_idle m.pen.standing ≡ false)
-  pub spent : code ≡ POSTS_SPENT → IfSome (member_in before) (λ m. most_posts m.queue.room ≤ m.pen.posts)
-  pub owner : owner_in after ≡ owner_in before
+abbrev pub TicketAnswers : Option Contents → Ticketed → ℕ → PlainAnswer → Option Contents → Type 0
+TicketAnswers before ticketed = OwnAnswers (λ was told is. UsingTicket was ticketed told is) before
 
 -- a removal by this ticket, with the answer that is told
 abbrev pub RemoveAnswers : (before : Option Contents) (ticket code : ℕ) (told : PlainAnswer) (after : Option Contents) → Type 0

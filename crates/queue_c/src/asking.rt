@@ -14,7 +14,7 @@ use crate::contents::Contents;
 use crate::handle::Handle;
 use crate::plain::{PlainAnswer, request_of, tell_answer};
 use pq_types::Item;
-use queue_pool::{NotPosted, Seen};
+use queue_pool::Undone;
 use std::alloc::Global;
 
 fn place(held: &Contents, place: &mut u32) -> u32
@@ -89,8 +89,8 @@ fn post(held: &mut Contents, number: u32, item: Item<u64>) -> u32
     };
     match member.post(request) {
         Ok(()) => OK,
-        Err(NotPosted::Waits) => WAITS,
-        Err(NotPosted::Spent) => POSTS_SPENT,
+        Err(Undone::Spent) => POSTS_SPENT,
+        Err(_) => WAITS,
     }
 }
 
@@ -124,12 +124,12 @@ fn look(held: &mut Contents, answer: &mut PlainAnswer) -> u32
         return NO_HANDLE;
     };
     match member.look() {
-        Seen::Nothing => IDLE,
-        Seen::Waits => WAITS,
-        Seen::Answered(found) => {
+        Ok(found) => {
             *answer = tell_answer(&found, 0);
             OK
         }
+        Err(Undone::Waits) => WAITS,
+        Err(_) => IDLE,
     }
 }
 

@@ -14,12 +14,13 @@ use crate::contents::{Contents, QueueMember};
 use crate::handle::Handle;
 use crate::plain::{PlainItem, no_item};
 use crate::plain_batch::{PlainBatch, PlainPopped, tell_batch, tell_popped};
+use flat_queue::{Batch, Popped};
 use pq_types::Item;
-use queue_pool::{TriedBatch, TriedPops};
+use queue_pool::Undone;
 use std::alloc::Global;
 
 // Puts these items into the member's queue, from copies of its own.
-fn push_all(member: &mut QueueMember, items: &[PlainItem]) -> TriedBatch
+fn push_all(member: &mut QueueMember, items: &[PlainItem]) -> Result<Batch, Undone>
     requires few { length items.now ≤ MOST_MANY }
     ensures tries { TriesPushesBy words_of_item member.old (map plain_item items.now) result member.new }
 {
@@ -38,12 +39,12 @@ fn try_push_many(held: &mut Contents, items: &[PlainItem], told: &mut PlainBatch
         return NO_HANDLE;
     };
     match push_all(member, first_of(items)) {
-        TriedBatch::Waits => WAITS,
-        TriedBatch::LockHeld => LOCK_HELD,
-        TriedBatch::Done(batch) => {
+        Ok(batch) => {
             *told = tell_batch(&batch, owes_wake(member));
             OK
         }
+        Err(Undone::Waits) => WAITS,
+        Err(_) => LOCK_HELD,
     }
 }
 
@@ -72,7 +73,11 @@ pub extern "C" fn pq_core_try_push_many(
 }
 
 // Takes the first items out of the member's queue up to this bound, and hands out copies of them.
-fn pop_all(member: &mut QueueMember, bound: u64, items: &mut [PlainItem]) -> TriedPops<Item<u64>>
+fn pop_all(
+    member: &mut QueueMember,
+    bound: u64,
+    items: &mut [PlainItem],
+) -> Result<Popped<Item<u64>>, Undone>
     ensures tries { (slots : _) × (length slots ≡ min MOST_MANY (length items.old))
         × TriesPopsBy words_of_item bound member.old slots result member.new
         × GivesOutTried slots result items.old items.new }
@@ -80,7 +85,7 @@ fn pop_all(member: &mut QueueMember, bound: u64, items: &mut [PlainItem]) -> Tri
     let mut slots = [no_item(); MOST_MANY];
     let copies = &mut slots[..MOST_MANY.min(items.len())];
     let tried = member.try_pop_all_up_to(bound, copies);
-    if let TriedPops::Done(popped) = &tried {
+    if let Ok(popped) = &tried {
         hand_out(copies, popped.batch.done, items);
     }
     tried
@@ -100,12 +105,12 @@ fn try_pop_many(
         return NO_HANDLE;
     };
     match pop_all(member, bound, items) {
-        TriedPops::Waits => WAITS,
-        TriedPops::LockHeld => LOCK_HELD,
-        TriedPops::Done(popped) => {
+        Ok(popped) => {
             *told = tell_popped(&popped, owes_wake(member));
             OK
         }
+        Err(Undone::Waits) => WAITS,
+        Err(_) => LOCK_HELD,
     }
 }
 

@@ -15,8 +15,8 @@ pub const LOCK_HELD: u32 = 8;
 /// The member has posted as often as it may.
 pub const POSTS_SPENT: u32 = 11;
 
-/// Another member leads, and the request was posted.
-pub const POSTED: u32 = 14;
+/// Done, and the whole answer is told.
+pub const TOLD: u32 = 14;
 
 /// Members share the queue still.
 pub const MEMBERS_LEFT: u32 = 40;

@@ -8,7 +8,7 @@ use crate::calls::owes_wake;
 use crate::codes::{LOCK_HELD, NO_HANDLE, OK, WAITS};
 use crate::contents::Contents;
 use crate::handle::Handle;
-use queue_pool::TriedCount;
+use queue_pool::Undone;
 use std::alloc::Global;
 
 // Counts the items, and tells how many there are, how many there were at the peak, and whether a wake is owed.
@@ -20,14 +20,14 @@ fn try_count(held: &mut Contents, count: &mut u64, peak: &mut u64, owes: &mut u3
         return NO_HANDLE;
     };
     match member.try_count() {
-        TriedCount::Waits => WAITS,
-        TriedCount::LockHeld => LOCK_HELD,
-        TriedCount::Counted(counts) => {
+        Ok(counts) => {
             *count = counts.items;
             *peak = counts.peak;
             *owes = owes_wake(member);
             OK
         }
+        Err(Undone::Waits) => WAITS,
+        Err(_) => LOCK_HELD,
     }
 }
 

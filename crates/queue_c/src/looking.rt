@@ -11,7 +11,7 @@ use crate::handle::Handle;
 use crate::plain::{PlainAnswer, tell_answer};
 use flat_queue::{Looked, Wanted};
 use pq_types::{Answer, Item, Refusal, Reply};
-use queue_pool::TriedFirst;
+use queue_pool::Undone;
 use std::alloc::Global;
 
 // What a call wants, whose first number says whether it takes an item.
@@ -47,13 +47,13 @@ fn pop_or_look(held: &mut Contents, wanted: Wanted, answer: &mut PlainAnswer) ->
         return NO_HANDLE;
     };
     match member.try_take_first(wanted) {
-        TriedFirst::Waits => WAITS,
-        TriedFirst::Spent => POSTS_SPENT,
-        TriedFirst::LockHeld => LOCK_HELD,
-        TriedFirst::Looked(seen) => {
+        Ok(seen) => {
             *answer = tell_answer(&told_as(seen), owes_wake(member));
             OK
         }
+        Err(Undone::Waits) => WAITS,
+        Err(Undone::Spent) => POSTS_SPENT,
+        Err(_) => LOCK_HELD,
     }
 }
 

@@ -8,7 +8,7 @@ use crate::codes::{LOCK_HELD, NO_HANDLE, OK, POSTS_SPENT, WAITS};
 use crate::contents::Contents;
 use crate::handle::Handle;
 use crate::plain::{PlainAnswer, tell_answer};
-use queue_pool::Tried;
+use queue_pool::Undone;
 use std::alloc::Global;
 
 // Shuts the member's queue, and tells the answer.
@@ -20,13 +20,13 @@ fn try_shut(held: &mut Contents, answer: &mut PlainAnswer) -> u32
         return NO_HANDLE;
     };
     match member.try_shut() {
-        Tried::Waits => WAITS,
-        Tried::Spent => POSTS_SPENT,
-        Tried::LockHeld => LOCK_HELD,
-        Tried::Answered(told) => {
+        Ok(told) => {
             *answer = tell_answer(&told, owes_wake(member));
             OK
         }
+        Err(Undone::Waits) => WAITS,
+        Err(Undone::Spent) => POSTS_SPENT,
+        Err(_) => LOCK_HELD,
     }
 }
 

@@ -13,7 +13,7 @@ use crate::handle::Handle;
 use crate::looking::told_as;
 use crate::plain::{PlainAnswer, tell_answer};
 use flat_queue::Wanted;
-use queue_pool::TakeStep;
+use queue_pool::Undone;
 use std::alloc::Global;
 
 fn step_take(held: &mut Contents, priority: u64, answer: &mut PlainAnswer) -> u32
@@ -24,13 +24,13 @@ fn step_take(held: &mut Contents, priority: u64, answer: &mut PlainAnswer) -> u3
         return NO_HANDLE;
     };
     match member.step_take(Wanted::UpTo(priority)) {
-        TakeStep::Waits => WAITS,
-        TakeStep::Spent => POSTS_SPENT,
-        TakeStep::LockHeld => LOCK_HELD,
-        TakeStep::Looked(seen) => {
+        Ok(seen) => {
             *answer = tell_answer(&told_as(seen), owes_wake(member));
             OK
         }
+        Err(Undone::Waits) => WAITS,
+        Err(Undone::Spent) => POSTS_SPENT,
+        Err(_) => LOCK_HELD,
     }
 }
 

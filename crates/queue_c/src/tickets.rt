@@ -9,7 +9,7 @@ use crate::contents::Contents;
 use crate::handle::Handle;
 use crate::plain::{PlainAnswer, tell_answer};
 use pq_types::Ticketed;
-use queue_pool::Tried;
+use queue_pool::Undone;
 use std::alloc::Global;
 
 // Uses the ticket, and tells the answer.
@@ -21,13 +21,13 @@ fn use_held(held: &mut Contents, ticketed: Ticketed<u64>, answer: &mut PlainAnsw
         return NO_HANDLE;
     };
     match member.try_ticket(ticketed) {
-        Tried::Waits => WAITS,
-        Tried::Spent => POSTS_SPENT,
-        Tried::LockHeld => LOCK_HELD,
-        Tried::Answered(found) => {
+        Ok(found) => {
             *answer = tell_answer(&found, owes_wake(member));
             OK
         }
+        Err(Undone::Waits) => WAITS,
+        Err(Undone::Spent) => POSTS_SPENT,
+        Err(_) => LOCK_HELD,
     }
 }
 

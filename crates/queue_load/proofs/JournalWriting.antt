@@ -3,14 +3,15 @@ use Rattle.std.proofs.Common.{◌≡◌, ℕ, ◌+◌, Bool, true, false, List, 
 use Rattle.std.proofs.lemmas.List.{take_more}
 use Rattle.std.specs.Io.KnownBytes.{Appends}
 use Rattle.std.proofs.KnownBytes.{Appends-nil, Appends-trans}
-use Rattle.std.specs.Prelude.{Result, Ok, Err, OnOk, is_err}
+use Rattle.std.specs.Prelude.{Result, Ok, Err, OnOk, is_err, Some, None, IfSome, IfNone}
 use Rattle.pq_types.specs.Asked.{Line}
 use Rattle.flat_queue.specs.declared.error.ArchiveError.{ArchiveError}
+use Rattle.flat_queue.specs.declared.error.ArchiveError.TheVariants.{Forgotten, NoMemory, Ahead}
 use Rattle.queue_texts.specs.LineText.{line_text, journal_text}
 use Rattle.desk_core.specs.Pen.{after_miss}
 use Rattle.desk_core.specs.Rule.{StartsWith}
 use Rattle.flat_queue.specs.Members.{Joined}
-use Rattle.flat_queue.specs.Settling.{Settles, Archives}
+use Rattle.flat_queue.specs.Settling.{Settles, SettlesArchive, SettlesBy, Archives}
 use Rattle.queue_load.specs.JournalWriter.{AppendsBeginning, StandsWritten, Begins, EndsSo, GoesOn, HasPut, WritesAll, StaysIdle}
 use Rattle.queue_load.specs.declared.journal_writer.JournalWriter.{JournalWriter}
 use Rattle.queue_load.proofs.Coming.{starts_refl, starts_trans}
@@ -142,7 +143,7 @@ pub goes_known : (writing : JournalWriter) (old : Option (List ℕ)) (known know
 goes_known writing old known known' s = record { writes = λ first h. grown writing.failed first old writing.written known known' h s }
 
 -- the member that has led and released stays idle, and so does one that found the lock held
-pub settles_idle : (before after : Joined) (lines : ℕ) → Settles before lines after → StaysIdle before after
+settles_idle : (before after : Joined) (lines : ℕ) → Settles before lines after → StaysIdle before after
 settles_idle before after lines s =
     let pen = s.won.next in let release = s.release in
     record {
@@ -156,7 +157,21 @@ settles_idle before after lines s =
       known = subst (λ l. StartsWith l before.pen.known) (sym (ap (λ (m : Joined). m.pen.known) s.release ∙ ap (λ p. p.hand) s.won.next)) s.won.knows.known;
     }
 
-pub misses_idle : (before after : Joined) → after ≡ record before { pen = after_miss before.pen } → StaysIdle before after
+-- so does one that was told, while it led, that lines are archived
+archives_idle : (before after : Joined) (archived : ℕ) → SettlesArchive before archived after → StaysIdle before after
+archives_idle before after archived s =
+    record {
+      queue = ap (λ (m : Joined). m.queue) s.release ∙ s.stays.queue;
+      comer = ap (λ (m : Joined). m.comer) s.release ∙ s.stays.comer;
+      place = ap (λ (m : Joined). m.pen.place) s.release ∙ ap (λ p. p.place) s.won.next;
+      standing = ap (λ (m : Joined). m.pen.standing) s.release ∙ ap (λ p. p.standing) s.won.next;
+      leading = ap (λ (m : Joined). m.pen.leading) s.release ∙ sym s.won.led_not;
+      posts = ap (λ (m : Joined). m.pen.posts) s.release ∙ ap (λ p. p.posts) s.won.next;
+      mine = ap (λ (m : Joined). m.pen.mine) s.release ∙ ap (λ p. p.mine) s.won.next;
+      known = subst (λ l. StartsWith l before.pen.known) (sym (ap (λ (m : Joined). m.pen.known) s.release ∙ ap (λ p. p.hand) s.won.next)) s.won.knows.known;
+    }
+
+misses_idle : (before after : Joined) → after ≡ record before { pen = after_miss before.pen } → StaysIdle before after
 misses_idle before after e =
     record {
       queue = ap (λ (m : Joined). m.queue) e;
@@ -168,6 +183,15 @@ misses_idle before after e =
       mine = ap (λ (m : Joined). m.pen.mine) e;
       known = subst (λ l. StartsWith l before.pen.known) (sym (ap (λ (m : Joined). m.pen.known) e)) (starts_refl before.pen.known);
     }
+
+-- so one does that would bring an archive up to date
+pub archive_idle : (before after : Joined) (archived : ℕ) (told : Option (Result ℕ ArchiveError)) → IfSome told (λ t. SettlesBy archived before t after)
+    → IfNone told (after ≡ record before { pen = after_miss before.pen }) → StaysIdle before after
+archive_idle before after archived None s e = misses_idle before after e
+archive_idle before after archived (Some (Ok count)) s e = archives_idle before after archived s
+archive_idle before after archived (Some (Err Forgotten)) s e = archives_idle before after archived s
+archive_idle before after archived (Some (Err NoMemory)) s e = archives_idle before after archived s
+archive_idle before after archived (Some (Err Ahead)) s e = settles_idle before after (length after.pen.known) s
 
 pub same_idle : (m : Joined) → StaysIdle m m
 same_idle m = record { queue = refl; comer = refl; place = refl; standing = refl; leading = refl; posts = refl; mine = refl; known = starts_refl m.pen.known }

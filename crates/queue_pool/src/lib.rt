@@ -4,7 +4,7 @@
 //! What the crate promises to the layer above:
 //! - `SharedHandle` is a member with a share of its queue, idle or waiting, which its calls see:
 //!   it posts, looks, leads a round, archives the journal, or carries a request out itself, a batch of pushes or pops, or the shut of
-//!   its queue, where it finds the lock free. It makes a call in steps, of which one posts only where it found the lock held. It takes an item that it
+//!   its queue, where it finds the lock free. It goes on in steps with a call that it has posted. It takes an item that it
 //!   may wait for in steps, each of which announces it before it looks.
 //! - `Pool` has the members of a queue that nobody has: it hands out those that came back before it lets a
 //!   newcomer join, so that a queue has so many members at once, and not in all its life.
@@ -20,9 +20,5 @@ pub mod pool;
 pub mod shared;
 pub mod taking;
 
-pub use calling::{AnswerStep, CallStep};
 pub use pool::{NotTaken, Pool, StillOpen};
-pub use shared::{
-    NotPosted, Seen, SharedHandle, Tried, TriedBatch, TriedCount, TriedFirst, TriedPops,
-};
-pub use taking::TakeStep;
+pub use shared::{SharedHandle, Undone};

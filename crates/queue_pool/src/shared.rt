@@ -1,19 +1,18 @@
 // A member with a share of its queue.
-ghost use Rattle.std.specs.Prelude.{◌≡◌, ◌≢◌, ℕ, ◌↔◌, ◌<◌, ◌≤◌, true, false, length, OnOk, OnErr, IfSome, IfNone, Err};
+ghost use Rattle.std.specs.Prelude.{◌≡◌, ◌≢◌, ◌<◌, ◌≤◌, false, length, Ok, Err, OnOk, IfErr, IfSome, IfNone};
 ghost use Rattle.std.specs.Arc.{arc_value};
 ghost use Rattle.split_core.specs.declared.places.TheConstants.{MAX_COMERS};
 ghost use Rattle.split_grid.specs.Opening.{places_of};
 ghost use Rattle.desk_core.specs.Pen.{after_miss};
 ghost use Rattle.desk_core.specs.Words.{word_number};
 ghost use Rattle.announce_board.specs.Tokens.{is_idle};
-ghost use Rattle.announce_board.specs.Asking.{asked_by};
 ghost use Rattle.flat_queue.specs.Limits.{most_posts};
 ghost use Rattle.flat_queue.specs.Members.{HasRoomForAll};
 ghost use Rattle.flat_queue.specs.Memory.{HasSpareRoom};
-ghost use Rattle.flat_queue.specs.Settling.{Archives, Settles};
+ghost use Rattle.flat_queue.specs.Settling.{Archives, SettlesBy};
 ghost use Rattle.flat_queue.specs.TrailSweeping.{MakesTrailRoundBy};
-ghost use Rattle.queue_pool.specs.Shared.{SeesBy, TriesUpToBy, TriesFirstBy, TriesPushesBy, TriesPopsBy};
-ghost use Rattle.queue_pool.specs.Shared.{TriesCountBy, TriesTicketBy, TriesRemovalBy, TriesMoveBy, TriesShutBy};
+ghost use Rattle.queue_pool.specs.Shared.{MayCall, UndoneBy, PostsBy, SeesBy, TriesUpToBy, TriesFirstBy, TriesPushesBy, TriesPopsBy};
+ghost use Rattle.queue_pool.specs.Shared.{TriesCallBy, TriesCountBy, TriesTicketBy, TriesRemovalBy, TriesMoveBy, TriesShutBy};
 
 use flat_queue::{
     ArchiveError, Batch, Counts, DueStage, EventCount, Looked, Member, Popped, Queue, Round, Wanted,
@@ -34,94 +33,36 @@ pub struct SharedHandle<S: Store<Entry<P>>, P: Part = u32> {
     pub(crate) queue: Arc<Queue<S, P>, Global>,
     pub(crate) member: Member<S, P>,
     pub(crate) stage: DueStage<Item<P>>,
+    pub(crate) most: u64,
 }
 
 impl<S: Store<Entry<P>>, P: Part> Model for SharedHandle<S, P> {
     ghost use Rattle.std.specs.Prelude.{◌≡◌, false};
     ghost use Rattle.std.specs.Arc.{arc_value};
+    ghost use Rattle.flat_queue.specs.Limits.{most_posts};
     ghost use Rattle.flat_queue.specs.Members.{Joined};
 
     ghost Value = { Joined };
 
     ghost view = { λ h. h.member };
 
-    ghost invariant = { λ h. (h.member.queue ≡ arc_value h.queue) × (h.member.pen.leading ≡ false) };
+    ghost invariant = { λ h. (h.member.queue ≡ arc_value h.queue) × (h.member.pen.leading ≡ false)
+        × (h.most ≡ most_posts h.member.queue.room) };
 }
 
-/// Why a request was not posted.
+/// Why a call did nothing, or has no answer yet.
 #[derive(Clone, Copy, Debug, PartialEq, Eq)]
-pub enum NotPosted {
-    /// The last one is not answered yet.
-    Waits,
-    /// The member has posted as often as it may.
-    Spent,
-}
-
-/// What became of a batch of pushes.
-#[derive(Clone, Copy, Debug, PartialEq, Eq)]
-pub enum TriedBatch {
-    /// The last request is not answered yet: nothing was done.
-    Waits,
-    /// Another member leads: nothing was done.
-    LockHeld,
-    /// It was carried out so far.
-    Done(Batch),
-}
-
-/// What became of a batch of pops.
-#[derive(Clone, Copy, Debug, PartialEq, Eq)]
-pub enum TriedPops<I = Item> {
-    /// The last request is not answered yet: nothing was done.
-    Waits,
-    /// Another member leads: nothing was done.
-    LockHeld,
-    /// It was carried out so far.
-    Done(Popped<I>),
-}
-
-/// What a look finds.
-#[derive(Clone, Copy, Debug, PartialEq, Eq)]
-pub enum Seen<I = Item> {
+pub enum Undone {
     /// No request is out.
-    Nothing,
-    /// The request is not answered yet.
+    Idle,
+    /// The last request is not answered yet.
     Waits,
-    Answered(Answer<I>),
-}
-
-/// What became of a request that was to be carried out at once.
-#[derive(Clone, Copy, Debug, PartialEq, Eq)]
-pub enum Tried<I = Item> {
-    /// The last one is not answered yet: nothing was done.
-    Waits,
-    /// All serials have been used: nothing was done.
+    /// All serials have been used.
     Spent,
-    /// Another leads: nothing was done.
+    /// Another leads.
     LockHeld,
-    Answered(Answer<I>),
-}
-
-/// What became of a look at the first item that was to be made at once.
-#[derive(Clone, Copy, Debug, PartialEq, Eq)]
-pub enum TriedFirst<I = Item> {
-    /// The last request is not answered yet: nothing was done.
-    Waits,
-    /// All serials have been used: nothing was done.
-    Spent,
-    /// Another leads: nothing was done.
-    LockHeld,
-    Looked(Looked<I>),
-}
-
-/// What became of a count that was to be made at once.
-#[derive(Clone, Copy, Debug, PartialEq, Eq)]
-pub enum TriedCount {
-    /// The last request is not answered yet: nothing was done.
-    Waits,
-    /// Another leads: nothing was done.
-    LockHeld,
-    /// The queue has so many items, and had so many at its peak.
-    Counted(Counts),
+    /// It made a round, which answers its request: the next look has the answer.
+    Led,
 }
 
 impl<S: Store<Entry<P>>, P: Part> SharedHandle<S, P> {
@@ -131,10 +72,12 @@ impl<S: Store<Entry<P>>, P: Part> SharedHandle<S, P> {
         requires led_not { member.pen.leading ≡ false }
         ensures { result ≡ member }
     {
+        let most = queue.most_posts();
         SharedHandle {
             queue,
             member,
             stage: DueStage::Announces,
+            most,
         }
     }
 
@@ -173,23 +116,28 @@ impl<S: Store<Entry<P>>, P: Part> SharedHandle<S, P> {
         self.queue.waiters()
     }
 
-    /// Posts a request, in one step, and a push in one more for each word of its item, where the last one is
-    /// answered and not all serials are spent. Takes no memory, and never waits.
-    pub fn post(&mut self, request: Request<Item<P>>) -> Result<(), NotPosted>
-        ensures idle { OnOk result (is_idle self.old.pen.standing ≡ true) }
-        ensures few { OnOk result (self.old.pen.posts < most_posts self.old.queue.room) }
-        ensures posted { OnOk result ((now : ℕ)
-            × (self.new ≡ record self.old { pen = asked_by (word_number P.wide) self.old.pen request now })) }
-        ensures refused { OnErr result (self.new ≡ self.old) }
-        ensures waits { (result ≡ Err NotPosted.Waits) ↔ (is_idle self.old.pen.standing ≡ false) }
-        ensures spent { (result ≡ Err NotPosted.Spent)
-            ↔ ((is_idle self.old.pen.standing ≡ true) × (most_posts self.old.queue.room ≤ self.old.pen.posts)) }
+    // Whether the last request is answered, and a serial left.
+    #[inline(always)]
+    fn may_call(&self) -> Result<(), Undone>
+        ensures may { OnOk result (MayCall self.now) }
+        ensures undone { IfErr result (λ why. UndoneBy why self.now self.now × (why ≢ Undone.LockHeld)) }
     {
         if !self.member.is_idle() {
-            return Err(NotPosted::Waits);
+            return Err(Undone::Waits);
         }
-        if self.member.posts() >= self.queue.most_posts() {
-            return Err(NotPosted::Spent);
+        if self.member.posts() >= self.most {
+            return Err(Undone::Spent);
+        }
+        Ok(())
+    }
+
+    /// Posts a request, in one step, and a push in one more for each word of its item, where the last one is
+    /// answered and not all serials are spent. Takes no memory, and never waits.
+    pub fn post(&mut self, request: Request<Item<P>>) -> Result<(), Undone>
+        ensures { PostsBy (word_number P.wide) self.old request result self.new }
+    {
+        if let Err(why) = self.may_call() {
+            return Err(why);
         }
         self.queue.post(&mut self.member, request);
         Ok(())
@@ -197,115 +145,127 @@ impl<S: Store<Entry<P>>, P: Part> SharedHandle<S, P> {
 
     /// Looks at its record, where a request is out, as `Queue::look` does: the number of a line is not
     /// above the room of the journal. Takes no memory, and never waits.
-    pub fn look(&mut self) -> Seen<Item<P>>
+    pub fn look(&mut self) -> Result<Answer<Item<P>>, Undone>
         ensures { SeesBy (word_number P.wide) self.old result self.new }
     {
         if self.member.is_idle() {
-            return Seen::Nothing;
+            return Err(Undone::Idle);
         }
-        match self.queue.look(&mut self.member) {
-            Some(answer) => Seen::Answered(answer),
-            None => Seen::Waits,
-        }
+        let Some(answer) = self.queue.look(&mut self.member) else {
+            return Err(Undone::Waits);
+        };
+        Ok(answer)
     }
 
     /// Takes the first item out itself where its priority is at most this one, and else tells it, where the last
     /// request is answered, not all serials are spent, and it finds the lock free, as `Queue::pop_up_to` does: the
     /// answer is one to a pop, or to a least where the item stays. Takes memory for the pushes of others alone, and
     /// never waits.
-    pub fn try_pop_up_to(&mut self, priority: P) -> Tried<Item<P>>
+    pub fn try_pop_up_to(&mut self, priority: P) -> Result<Answer<Item<P>>, Undone>
         ensures { TriesUpToBy (word_number P.wide) (P.number priority) self.old result self.new }
     {
-        if !self.member.is_idle() {
-            return Tried::Waits;
-        }
-        if self.member.posts() >= self.queue.most_posts() {
-            return Tried::Spent;
+        if let Err(why) = self.may_call() {
+            return Err(why);
         }
         let Some(answer) = self.queue.carry_out_up_to(&mut self.member, priority) else {
-            return Tried::LockHeld;
+            return Err(Undone::LockHeld);
         };
-        Tried::Answered(answer)
+        Ok(answer)
+    }
+
+    /// Carries the request out itself, where the last one is answered, not all serials are spent, and it finds the lock free, as
+    /// `Queue::carry_out` does. Takes memory for pushes alone, and never waits.
+    #[inline(always)]
+    pub fn try_call(&mut self, request: Request<Item<P>>) -> Result<Answer<Item<P>>, Undone>
+        ensures tries { TriesCallBy (word_number P.wide) self.old request result self.new }
+        ensures memory { HasRoomForAll S.room self.old.queue → result ≢ Ok Answer.NoMemory }
+        ensures spare { HasSpareRoom S.room self.new.pen.known → result ≢ Ok Answer.NoMemory }
+    {
+        if let Err(why) = self.may_call() {
+            return Err(why);
+        }
+        if let Some(told) = self.queue.carry_out(&mut self.member, request) {
+            return Ok(told);
+        }
+        Err(Undone::LockHeld)
     }
 
     /// Puts the items into the queue itself under one lock, where the last request is answered and it finds the lock free, as
     /// `Queue::carry_out_pushes` does: one of a queue that is shut is refused. Takes memory where the store has to grow, and never waits.
-    pub fn try_push_all(&mut self, items: &[Item<P>]) -> TriedBatch
+    pub fn try_push_all(&mut self, items: &[Item<P>]) -> Result<Batch, Undone>
         ensures { TriesPushesBy (word_number P.wide) self.old items.now result self.new }
     {
         if !self.member.is_idle() {
-            return TriedBatch::Waits;
+            return Err(Undone::Waits);
         }
         let Some(batch) = self.queue.carry_out_pushes(&mut self.member, items) else {
-            return TriedBatch::LockHeld;
+            return Err(Undone::LockHeld);
         };
-        TriedBatch::Done(batch)
+        Ok(batch)
     }
 
     /// Takes the first items out itself under one lock while their priorities are at most this one, into as much of the room as
     /// they need, and looks what is first then, where the last request is answered and it finds the lock free, as
     /// `Queue::carry_out_pops` does. Takes memory for the pushes of others alone, and never waits.
-    pub fn try_pop_all_up_to(&mut self, priority: P, into: &mut [Item<P>]) -> TriedPops<Item<P>>
+    pub fn try_pop_all_up_to(
+        &mut self,
+        priority: P,
+        into: &mut [Item<P>],
+    ) -> Result<Popped<Item<P>>, Undone>
         ensures slots { length into.new ≡ length into.old }
         ensures tries { TriesPopsBy (word_number P.wide) (P.number priority) self.old into.new result self.new }
     {
         if !self.member.is_idle() {
-            return TriedPops::Waits;
+            return Err(Undone::Waits);
         }
         let Some(popped) = self.queue.carry_out_pops(&mut self.member, priority, into) else {
-            return TriedPops::LockHeld;
+            return Err(Undone::LockHeld);
         };
-        TriedPops::Done(popped)
+        Ok(popped)
     }
 
     /// Looks at the first item itself, and takes it out where it is wanted, where the last request is answered, not all serials
     /// are spent, and it finds the lock free, as `Queue::take_first` does: a look in vain makes no request. Takes memory for the
     /// pushes of others alone, and never waits.
-    pub fn try_take_first(&mut self, wanted: Wanted) -> TriedFirst<Item<P>>
+    pub fn try_take_first(&mut self, wanted: Wanted) -> Result<Looked<Item<P>>, Undone>
         ensures { TriesFirstBy (word_number P.wide) wanted self.old result self.new }
     {
-        if !self.member.is_idle() {
-            return TriedFirst::Waits;
-        }
-        if self.member.posts() >= self.queue.most_posts() {
-            return TriedFirst::Spent;
+        if let Err(why) = self.may_call() {
+            return Err(why);
         }
         let Some(told) = self.queue.take_first(&mut self.member, wanted) else {
-            return TriedFirst::LockHeld;
+            return Err(Undone::LockHeld);
         };
-        TriedFirst::Looked(told)
+        Ok(told)
     }
 
     /// Shuts the queue itself for good, where the last request is answered, not all serials are spent, and it finds the lock free, as
     /// `Queue::shut` does: the answer is `Empty`; or `Refused(Shut)` exactly where the queue was shut. Takes memory for the pushes of
     /// others alone, and never waits.
-    pub fn try_shut(&mut self) -> Tried<Item<P>>
+    pub fn try_shut(&mut self) -> Result<Answer<Item<P>>, Undone>
         ensures { TriesShutBy (word_number P.wide) self.old result self.new }
     {
-        if !self.member.is_idle() {
-            return Tried::Waits;
+        if let Err(why) = self.may_call() {
+            return Err(why);
         }
-        if self.member.posts() >= self.queue.most_posts() {
-            return Tried::Spent;
-        }
-        match self.queue.carry_out_shut(&mut self.member) {
-            Some(answer) => Tried::Answered(answer),
-            None => Tried::LockHeld,
-        }
+        let Some(answer) = self.queue.carry_out_shut(&mut self.member) else {
+            return Err(Undone::LockHeld);
+        };
+        Ok(answer)
     }
 
     /// Counts the items itself, where the last request is answered and it finds the lock free, as `Queue::count_items` does.
     /// Takes memory for the pushes of others alone, and never waits.
-    pub fn try_count(&mut self) -> TriedCount
+    pub fn try_count(&mut self) -> Result<Counts, Undone>
         ensures { TriesCountBy (word_number P.wide) self.old result self.new }
     {
         if !self.member.is_idle() {
-            return TriedCount::Waits;
+            return Err(Undone::Waits);
         }
-        match self.queue.count_items(&mut self.member) {
-            Some(counts) => TriedCount::Counted(counts),
-            None => TriedCount::LockHeld,
-        }
+        let Some(counts) = self.queue.count_items(&mut self.member) else {
+            return Err(Undone::LockHeld);
+        };
+        Ok(counts)
     }
 
     /// One round by a trail scan: it leads, sweeps and releases, as the rounds that a call makes, and reads at most 1 + 2m
@@ -329,7 +289,7 @@ impl<S: Store<Entry<P>>, P: Part> SharedHandle<S, P> {
         archive: &mut Vec<Line<P>, B>,
     ) -> Option<Result<u64, ArchiveError>>
         ensures queue { self.new.queue ≡ self.old.queue }
-        ensures settles { IfSome result (λ _. Settles self.old (length self.new.pen.known) self.new) }
+        ensures settles { IfSome result (λ told. SettlesBy archived self.old told self.new) }
         ensures archives { IfSome result
             (Archives self.old.queue.room archived self.new.pen.known archive.old.items archive.new.items) }
         ensures misses { IfNone result (self.new ≡ record self.old { pen = after_miss self.old.pen }) }
@@ -349,6 +309,7 @@ impl<S: Store<Entry<P>>, P: Part> SharedHandle<S, P> {
             queue,
             member,
             stage: _,
+            most: _,
         } = self;
         (queue, member)
     }
@@ -358,7 +319,7 @@ impl<S: TicketStore<Entry<P>>, P: Part> SharedHandle<S, P> {
     /// Removes the item with this ticket itself, wherever it waits, where the last request is answered, not all serials are
     /// spent, and it finds the lock free, as `Queue::remove` does: the answer is `Got` with the item, or `Empty` where it no
     /// longer waits. Takes memory for the pushes of others alone, and never waits.
-    pub fn try_remove(&mut self, ticket: u64) -> Tried<Item<P>>
+    pub fn try_remove(&mut self, ticket: u64) -> Result<Answer<Item<P>>, Undone>
         ensures { TriesRemovalBy (word_number P.wide) ticket self.old result self.new }
     {
         self.try_ticket(Ticketed::remove(ticket))
@@ -368,29 +329,26 @@ impl<S: TicketStore<Entry<P>>, P: Part> SharedHandle<S, P> {
     /// serials are spent, and it finds the lock free, as `Queue::reschedule` does: the answer is `Got` with the item as it was,
     /// and its line is the item's new ticket; or `Empty` where it no longer waits. A queue that is shut carries it out, as
     /// nothing new comes in. Takes memory where the store has to grow, and never waits.
-    pub fn try_reschedule(&mut self, ticket: u64, priority: P) -> Tried<Item<P>>
+    pub fn try_reschedule(&mut self, ticket: u64, priority: P) -> Result<Answer<Item<P>>, Undone>
         ensures moves { TriesMoveBy (word_number P.wide) ticket (P.number priority) self.old result self.new }
-        ensures memory { HasRoomForAll S.room self.old.queue → result ≢ Tried.Answered Answer.NoMemory }
-        ensures spare { HasSpareRoom S.room self.new.pen.known → result ≢ Tried.Answered Answer.NoMemory }
+        ensures memory { HasRoomForAll S.room self.old.queue → result ≢ Ok Answer.NoMemory }
+        ensures spare { HasSpareRoom S.room self.new.pen.known → result ≢ Ok Answer.NoMemory }
     {
         self.try_ticket(Ticketed::reschedule(ticket, priority))
     }
 
     /// What `try_remove` and `try_reschedule` do, of which this says the one.
-    pub fn try_ticket(&mut self, ticketed: Ticketed<P>) -> Tried<Item<P>>
+    pub fn try_ticket(&mut self, ticketed: Ticketed<P>) -> Result<Answer<Item<P>>, Undone>
         ensures tries { TriesTicketBy (word_number P.wide) ticketed self.old result self.new }
-        ensures memory { HasRoomForAll S.room self.old.queue → result ≢ Tried.Answered Answer.NoMemory }
-        ensures spare { HasSpareRoom S.room self.new.pen.known → result ≢ Tried.Answered Answer.NoMemory }
+        ensures memory { HasRoomForAll S.room self.old.queue → result ≢ Ok Answer.NoMemory }
+        ensures spare { HasSpareRoom S.room self.new.pen.known → result ≢ Ok Answer.NoMemory }
     {
-        if !self.member.is_idle() {
-            return Tried::Waits;
-        }
-        if self.member.posts() >= self.queue.most_posts() {
-            return Tried::Spent;
+        if let Err(why) = self.may_call() {
+            return Err(why);
         }
         if let Some(answer) = self.queue.carry_out_by_ticket(&mut self.member, ticketed) {
-            return Tried::Answered(answer);
+            return Ok(answer);
         }
-        Tried::LockHeld
+        Err(Undone::LockHeld)
     }
 }

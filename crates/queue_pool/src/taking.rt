@@ -1,43 +1,31 @@
 // How a member takes an item that it may wait for, in steps: its caller rests, or sleeps, between them.
 ghost use Rattle.std.specs.Prelude.{◌≡◌};
 ghost use Rattle.desk_core.specs.Words.{word_number};
-ghost use Rattle.queue_pool.specs.Taking.{StepsTakeBy, refused_look, ended_take, take_goes_on};
+ghost use Rattle.queue_pool.specs.Shared.{TriesFirstBy};
+ghost use Rattle.queue_pool.specs.Taking.{refused_look, ended_take, take_goes_on};
 
-use crate::shared::SharedHandle;
+use crate::shared::{SharedHandle, Undone};
 use flat_queue::{CallError, DueNow, DueStage, DueStepped, DueTook, Left, Looked, Wakes, Wanted};
 use leftist_heap::Store;
 use pq_book::Entry;
 use pq_types::{Item, Part};
 
-/// What a step of a take came to.
-#[derive(Clone, Copy, Debug, PartialEq, Eq)]
-pub enum TakeStep<I = Item> {
-    /// The last request is not answered yet: nothing was done.
-    Waits,
-    /// All serials have been used: nothing was done.
-    Spent,
-    /// Another leads: the step is to be made again.
-    LockHeld,
-    /// It looked. Where it took no item, the journal is not full and the queue not over, the member is announced: it may sleep until
-    /// it is woken.
-    Looked(Looked<I>),
-}
-
 impl<S: Store<Entry<P>>, P: Part> SharedHandle<S, P> {
     /// The next step of a take of the first item, where that is wanted, as `Queue::step_due` makes it. It announces the member as
-    /// one that waits, and looks at the first item, as `try_take_first` does. So whoever sleeps has looked after the announcement,
-    /// and found nothing to take. A take that is over is announced no more; one that is given up ends by `end_take`. One that goes
-    /// on where it has slept hands a wake on, as it takes an item; one that ended by `end_take` before does not. Takes memory for
-    /// the pushes of others alone, and never waits.
-    pub fn step_take(&mut self, wanted: Wanted) -> TakeStep<Item<P>>
-        ensures { StepsTakeBy (word_number P.wide) wanted self.old result self.new }
+    /// one that waits, and looks at the first item, as `try_take_first` does. Where it took no item, the journal is not full and
+    /// the queue not over, it is announced, and may sleep until it is woken; where another leads, it makes the step again. So
+    /// whoever sleeps has looked after the announcement, and found nothing to take. A take that is over is announced no more; one
+    /// that is given up ends by `end_take`. One that goes on where it has slept hands a wake on, as it takes an item; one that
+    /// ended by `end_take` before does not. Takes memory for the pushes of others alone, and never waits.
+    pub fn step_take(&mut self, wanted: Wanted) -> Result<Looked<Item<P>>, Undone>
+        ensures { TriesFirstBy (word_number P.wide) wanted self.old result self.new }
     {
         if !self.member.is_idle() {
-            return TakeStep::Waits;
+            return Err(Undone::Waits);
         }
-        if self.member.posts() >= self.queue.most_posts() {
+        if self.member.posts() >= self.most {
             self.end_take();
-            return TakeStep::Spent;
+            return Err(Undone::Spent);
         }
         let now = DueNow {
             wanted,
@@ -80,26 +68,26 @@ fn refused_look<P: Part>(error: CallError) -> Looked<Item<P>>
 }
 
 // What a step comes to whose take is over.
-fn ended<P: Part>(took: DueTook<Item<P>>) -> TakeStep<Item<P>>
+fn ended<P: Part>(took: DueTook<Item<P>>) -> Result<Looked<Item<P>>, Undone>
     ensures { result ≡ ended_take took }
 {
     match took {
-        DueTook::Taken(number, item) => TakeStep::Looked(Looked::Taken(number, item)),
-        DueTook::Refused(error) => TakeStep::Looked(refused_look(error)),
-        DueTook::Later(item) => TakeStep::Looked(Looked::Stays(item)),
-        DueTook::Nothing => TakeStep::Looked(Looked::Nothing),
-        DueTook::Held => TakeStep::LockHeld,
-        DueTook::Over => TakeStep::Looked(Looked::Over),
+        DueTook::Taken(number, item) => Ok(Looked::Taken(number, item)),
+        DueTook::Refused(error) => Ok(refused_look(error)),
+        DueTook::Later(item) => Ok(Looked::Stays(item)),
+        DueTook::Nothing => Ok(Looked::Nothing),
+        DueTook::Held => Err(Undone::LockHeld),
+        DueTook::Over => Ok(Looked::Over),
     }
 }
 
 // What a step comes to whose take goes on from this stage.
-fn gone_on<P: Part>(stage: DueStage<Item<P>>) -> TakeStep<Item<P>>
+fn gone_on<P: Part>(stage: DueStage<Item<P>>) -> Result<Looked<Item<P>>, Undone>
     ensures { result ≡ take_goes_on stage }
 {
     match stage {
-        DueStage::Announces | DueStage::Looks(_) => TakeStep::LockHeld,
-        DueStage::Sleeps(_, Some(item)) => TakeStep::Looked(Looked::Stays(item)),
-        DueStage::Sleeps(_, None) => TakeStep::Looked(Looked::Nothing),
+        DueStage::Announces | DueStage::Looks(_) => Err(Undone::LockHeld),
+        DueStage::Sleeps(_, Some(item)) => Ok(Looked::Stays(item)),
+        DueStage::Sleeps(_, None) => Ok(Looked::Nothing),
     }
 }

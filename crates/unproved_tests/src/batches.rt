@@ -4,7 +4,7 @@ use flat_queue::{Batch, CallError, Handle, Looked, MOST_BATCH, Member, Newcomer,
 use leftist_heap::{AnyStore, Store, StoreKind};
 use pq_book::Entry;
 use pq_types::{Answer, Item, Refusal, Reply, Request};
-use queue_pool::{SharedHandle, Tried, TriedBatch, TriedPops};
+use queue_pool::{SharedHandle, Undone};
 use std::alloc::Global;
 use std::process::Abort;
 use std::sync::{Arc, Wait};
@@ -167,8 +167,8 @@ fn each_request_of_a_batch_is_refused_in_turn(rt: HostRuntime) -> Result<(), Fai
 }
 
 // So many pops, of which the first one has this line, and what a look finds then.
-fn popped(done: usize, first: u64, next: Looked) -> TriedPops {
-    TriedPops::Done(Popped {
+fn popped(done: usize, first: u64, next: Looked) -> Result<Popped, Undone> {
+    Ok(Popped {
         batch: whole(done, first),
         next,
     })
@@ -183,25 +183,25 @@ fn tries<R: Abort + Wait>(
 ) {
     let two = [item(5, 1), item(4, 2)];
     let mut slots = [item(0, 0); 2];
-    assert!(rt; handle.try_push_all(&two) == TriedBatch::Done(whole(2, 1)));
+    assert!(rt; handle.try_push_all(&two) == Ok(whole(2, 1)));
     let mut leader = queue.enter(other);
     let lead = leader.lead().expect(rt, "the lock is free");
-    assert!(rt; handle.try_push_all(&two) == TriedBatch::LockHeld);
-    assert!(rt; handle.try_pop_all_up_to(5, &mut slots) == TriedPops::LockHeld);
+    assert!(rt; handle.try_push_all(&two) == Err(Undone::LockHeld));
+    assert!(rt; handle.try_pop_all_up_to(5, &mut slots) == Err(Undone::LockHeld));
     leader.release(lead);
     assert!(rt; handle.try_pop_all_up_to(3, &mut slots) == popped(0, 3, Looked::Stays(item(4, 2))));
     assert!(rt; handle.try_pop_all_up_to(4, &mut slots) == popped(1, 3, Looked::Stays(item(5, 1))));
     assert!(rt; slots == [item(4, 2), item(0, 0)]);
-    assert!(rt; handle.try_shut() == Tried::Answered(Answer::Entered(4, Reply::Empty)));
-    assert!(rt; handle.try_push_all(&two) == TriedBatch::Done(shut_out(5)));
-    assert!(rt; handle.try_push_all(&[]) == TriedBatch::Done(whole(0, 5)));
+    assert!(rt; handle.try_shut() == Ok(Answer::Entered(4, Reply::Empty)));
+    assert!(rt; handle.try_push_all(&two) == Ok(shut_out(5)));
+    assert!(rt; handle.try_push_all(&[]) == Ok(whole(0, 5)));
     assert!(rt; handle.try_pop_all_up_to(9, &mut slots) == popped(1, 5, Looked::Over));
     assert!(rt; handle.try_pop_all_up_to(9, &mut slots) == popped(0, 6, Looked::Over));
     assert!(rt; slots[0] == item(5, 1) && leader.push_all(rt, &two) == shut_out(6));
     drop(leader);
     assert!(rt; handle.post(Request::Pop).is_ok());
-    assert!(rt; handle.try_push_all(&[]) == TriedBatch::Waits);
-    assert!(rt; handle.try_pop_all_up_to(9, &mut slots) == TriedPops::Waits);
+    assert!(rt; handle.try_push_all(&[]) == Err(Undone::Waits));
+    assert!(rt; handle.try_pop_all_up_to(9, &mut slots) == Err(Undone::Waits));
     assert!(rt; slots == [item(5, 1), item(0, 0)]);
 }
 

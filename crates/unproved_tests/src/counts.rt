@@ -2,7 +2,7 @@
 use crate::common::{Heap, item, opened, shared};
 use flat_queue::{Counts, Newcomer, Queue};
 use pq_types::{Answer, Reply, Request};
-use queue_pool::{Seen, SharedHandle, TriedCount};
+use queue_pool::{SharedHandle, Undone};
 use std::process::Abort;
 use std::sync::Arc;
 use std::test::Fail;
@@ -39,12 +39,12 @@ fn a_count_has_each_item_that_is_there(rt: HostRuntime) -> Result<(), Fail> {
 // What a member's counts come to, beside another that leads, and at its own request.
 fn tries<R: Abort>(rt: &R, queue: &Queue<Heap>, handle: &mut SharedHandle<Heap>, other: Newcomer) {
     assert!(rt; handle.post(Request::Push(item(5, 1))).is_ok());
-    assert!(rt; handle.try_count() == TriedCount::Waits);
-    assert!(rt; handle.try_trail_round().is_some() && handle.look() == Seen::Answered(pushed(1)));
-    assert!(rt; handle.try_count() == TriedCount::Counted(counted(1, 1)));
+    assert!(rt; handle.try_count() == Err(Undone::Waits));
+    assert!(rt; handle.try_trail_round().is_some() && handle.look() == Ok(pushed(1)));
+    assert!(rt; handle.try_count() == Ok(counted(1, 1)));
     let mut leader = queue.enter(other);
     let lead = leader.lead().expect(rt, "the lock is free");
-    assert!(rt; handle.try_count() == TriedCount::LockHeld);
+    assert!(rt; handle.try_count() == Err(Undone::LockHeld));
     leader.release(lead);
     drop(leader);
 }

@@ -3,7 +3,7 @@ use flat_queue::Queue;
 use leftist_heap::Leftist;
 use pq_book::{Book, Entry};
 use pq_types::{Answer, Item, Refusal, Reply, Request};
-use queue_pool::{CallStep, Pool, Seen, SharedHandle, StillOpen, Tried};
+use queue_pool::{Pool, SharedHandle, StillOpen};
 use std::alloc::Global;
 use std::process::Abort;
 use std::sync::Arc;
@@ -156,16 +156,15 @@ fn a_shut_queue_refuses_pushes_alone(rt: HostRuntime) {
         priority: 5,
         value: 1,
     });
-    let entered = |number, reply| CallStep::Answered(Answer::Entered(number, reply));
+    let entered = |number, reply| Ok(Answer::Entered(number, reply));
     let refused = Answer::Refused(Refusal::Shut.padded());
     assert!(&rt; other.post(push).is_ok());
-    assert!(&rt; member.try_shut() == Tried::Answered(Answer::Entered(2, Reply::Empty)));
-    assert!(&rt; member.step_call(push, false) == CallStep::Answered(refused));
-    assert!(&rt; member.step_call(push, true) == CallStep::Answered(refused));
+    assert!(&rt; member.try_shut() == entered(2, Reply::Empty));
+    assert!(&rt; member.try_call(push) == Ok(refused));
     assert!(&rt; member.post(push).is_ok() && member.try_trail_round().is_some());
-    assert!(&rt; member.look() == Seen::Answered(refused));
+    assert!(&rt; member.look() == Ok(refused));
     assert!(&rt;
-        member.step_call(Request::Least, true)
+        member.try_call(Request::Least)
             == entered(
                 3,
                 Reply::Least(Item {
@@ -174,11 +173,11 @@ fn a_shut_queue_refuses_pushes_alone(rt: HostRuntime) {
                 })
             )
     );
-    assert!(&rt; other.look() == Seen::Answered(Answer::Entered(1, Reply::Pushed)));
+    assert!(&rt; other.look() == Ok(Answer::Entered(1, Reply::Pushed)));
     assert!(&rt; member.post(Request::Pop).is_ok() && other.try_trail_round().is_some());
     assert!(&rt;
         member.look()
-            == Seen::Answered(Answer::Entered(
+            == Ok(Answer::Entered(
                 4,
                 Reply::Got(Item {
                     priority: 5,

@@ -4,7 +4,7 @@ use flat_queue::{CallError, Newcomer, Queue};
 use leftist_heap::{GlobalPlaces, TicketHeap};
 use pq_book::Entry;
 use pq_types::{Answer, Item, Reply, Request};
-use queue_pool::{CallStep, SharedHandle, Tried};
+use queue_pool::{SharedHandle, Undone};
 use std::alloc::Global;
 use std::process::Abort;
 use std::sync::Arc;
@@ -42,29 +42,28 @@ fn an_item_is_moved_and_removed_by_its_newest_ticket(rt: HostRuntime) -> Result<
     Ok(())
 }
 
-fn got(number: u64, found: Item) -> Tried<Item> {
-    Tried::Answered(Answer::Entered(number, Reply::Got(found)))
+fn got(number: u64, found: Item) -> Result<Answer, Undone> {
+    Ok(Answer::Entered(number, Reply::Got(found)))
 }
 
 // What a handle's uses of tickets come to, beside another that leads, in a queue that is shut, and at its own request.
 fn tries<R: Abort>(rt: &R, queue: &Queue<Heap>, handle: &mut SharedHandle<Heap>, other: Newcomer) {
     assert!(rt;
-        handle.step_call(Request::Push(item(5, 1)), false)
-            == CallStep::Answered(Answer::Entered(1, Reply::Pushed))
+        handle.try_call(Request::Push(item(5, 1))) == Ok(Answer::Entered(1, Reply::Pushed))
     );
     let mut leader = queue.enter(other);
     let lead = leader.lead().expect(rt, "the lock is free");
-    assert!(rt; handle.try_reschedule(1, 3) == Tried::LockHeld);
-    assert!(rt; handle.try_remove(1) == Tried::LockHeld);
+    assert!(rt; handle.try_reschedule(1, 3) == Err(Undone::LockHeld));
+    assert!(rt; handle.try_remove(1) == Err(Undone::LockHeld));
     leader.release(lead);
     drop(leader);
-    assert!(rt; handle.try_shut() == Tried::Answered(Answer::Entered(2, Reply::Empty)));
+    assert!(rt; handle.try_shut() == Ok(Answer::Entered(2, Reply::Empty)));
     assert!(rt; handle.try_reschedule(1, 3) == got(3, item(5, 1)));
     assert!(rt; handle.try_remove(3) == got(4, item(3, 1)));
-    assert!(rt; handle.try_remove(3) == Tried::Answered(Answer::Entered(5, Reply::Empty)));
+    assert!(rt; handle.try_remove(3) == Ok(Answer::Entered(5, Reply::Empty)));
     assert!(rt; handle.post(Request::Pop).is_ok());
-    assert!(rt; handle.try_remove(2) == Tried::Waits);
-    assert!(rt; handle.try_reschedule(2, 3) == Tried::Waits);
+    assert!(rt; handle.try_remove(2) == Err(Undone::Waits));
+    assert!(rt; handle.try_reschedule(2, 3) == Err(Undone::Waits));
 }
 
 #[test]

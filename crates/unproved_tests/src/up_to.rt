@@ -2,7 +2,7 @@
 use crate::common::{Heap, shared, wait_for};
 use flat_queue::{Newcomer, Queue, UpTo};
 use pq_types::{Answer, Item, Reply, Request};
-use queue_pool::{CallStep, SharedHandle, Tried};
+use queue_pool::{SharedHandle, Undone};
 use std::alloc::Global;
 use std::process::Abort;
 use std::sync::atomic::{AtomicBool, Ordering};
@@ -85,20 +85,19 @@ fn a_pop_up_to_a_bound_waits_for_the_lock_and_posts_nothing(rt: HostRuntime) -> 
 
 // What the tries of two members come to that share a queue with room for four lines: none while another leads.
 fn tries<R: Abort>(rt: &R, queue: &Queue<Heap>, handle: &mut SharedHandle<Heap>, other: Newcomer) {
-    let entered = |number, reply| Tried::Answered(Answer::Entered(number, reply));
-    let pushed = CallStep::Answered(Answer::Entered(1, Reply::Pushed));
-    assert!(rt; handle.step_call(Request::Push(FIVE), false) == pushed);
+    let entered = |number, reply| Ok(Answer::Entered(number, reply));
+    assert!(rt; handle.try_call(Request::Push(FIVE)) == entered(1, Reply::Pushed));
     let mut leader = queue.enter(other);
     let lead = leader.lead().expect(rt, "the lock is free");
-    assert!(rt; handle.try_pop_up_to(5) == Tried::LockHeld);
+    assert!(rt; handle.try_pop_up_to(5) == Err(Undone::LockHeld));
     leader.release(lead);
     drop(leader);
     assert!(rt; handle.try_pop_up_to(4) == entered(2, Reply::Least(FIVE)));
     assert!(rt; handle.try_pop_up_to(5) == entered(3, Reply::Got(FIVE)));
     assert!(rt; handle.try_pop_up_to(5) == entered(4, Reply::Empty));
-    assert!(rt; handle.try_pop_up_to(5) == Tried::Answered(Answer::BookFull));
+    assert!(rt; handle.try_pop_up_to(5) == Ok(Answer::BookFull));
     assert!(rt; handle.post(Request::Pop).is_ok());
-    assert!(rt; handle.try_pop_up_to(5) == Tried::Waits);
+    assert!(rt; handle.try_pop_up_to(5) == Err(Undone::Waits));
 }
 
 #[test]

@@ -1,12 +1,11 @@
-/* pq_take_due_or_listen: the timer of a member that listens is readable once the first item is due, and after a push of an earlier one. No
-   push rings it after pq_unlisten. Each refusal has its code, and a thread that has the lock for long has the loop call again some times a
-   millisecond. Schedules of threads tests/explore tries. */
+/* pq_take_due_or_listen: no push rings a timer after pq_unlisten. Each refusal has its code, and a thread that has the lock for long has the loop
+   call again some times a millisecond. When a timer rings tests/explore tries, and with the system's timers ../cpp/events.cpp. */
 #include "../wrapped.h"
 
 #include <sys/eventfd.h>
 #include <sys/timerfd.h>
 
-static const uint64_t MS = 1000000, HOUR = 3600000;
+static const uint64_t HOUR = 3600000;
 
 /* A member that listens, its timer, and what its last call returned. */
 typedef struct alarm_of {
@@ -50,25 +49,6 @@ static void push(pq_member *member, uint64_t priority) {
 static pq_code pop(pq_queue *queue) {
     pq_item item;
     return pq_pop(pq_own(queue), &item, PQ_FOREVER, NULL);
-}
-
-/* A time that has not come when the next calls are made, also where a tool slows them down. */
-static uint64_t soon(void) {
-    return in_ms(requests(2) == 1 ? 1500 : 200);
-}
-
-static void it_rings_once_the_first_is_due(pq_queue *queue, pq_member *member) {
-    const uint64_t first = soon(), second = first + 300 * MS;
-    alarm_of it = alarm_by(member);
-    CHECK(take(&it) == PQ_EMPTY && is_item(it.item, 9, 9) && is_quiet(&it));
-    push(pq_own(queue), second);
-    push(pq_own(queue), first);
-    CHECK(rings(&it) && take(&it) == PQ_NOT_DUE && is_item(it.item, first, 4) && it.number == 9);
-    CHECK(!is_readable(it.timer, 0) || pq_now() >= first);
-    CHECK(rings(&it) && pq_now() >= first && take(&it) == PQ_OK && is_item(it.item, first, 4) && it.number != 9);
-    CHECK(take(&it) == PQ_NOT_DUE && is_item(it.item, second, 4) && rings(&it) && pq_now() >= second);
-    CHECK(take(&it) == PQ_OK && is_item(it.item, second, 4) && take(&it) == PQ_EMPTY && is_quiet(&it));
-    CHECK(pq_unlisten(it.member) == 1 && close(it.timer) == 0);
 }
 
 /* A time that the system has no more, and the last one, which never comes. */
@@ -133,7 +113,6 @@ static void a_lock_that_is_held_costs_little(void) {
 int main(void) {
     pq_queue *queue = opened(6);
     pq_member *member = joined(queue);
-    it_rings_once_the_first_is_due(queue, member);
     some_times_never_ring(queue, member);
     it_is_refused(queue, member);
     pq_give_back(member);

@@ -1,9 +1,6 @@
-/* Calls with deadlines return by them also where a thread has stopped, or died, with the lock. They return PQ_TIMED_OUT then, have done nothing,
-   and nothing of them comes later. */
+/* Calls with deadlines return by them also where a thread has stopped with the lock. They return PQ_TIMED_OUT then, have done nothing, and
+   nothing of them comes later. */
 #include "../wrapped.h"
-
-#include <signal.h>
-#include <sys/wait.h>
 
 /* The call times out once its deadline has come, and not long after that. */
 #define TIMES_OUT(call)                                                              \
@@ -84,26 +81,7 @@ static void calls_return_where_a_thread_stops(void) {
     pq_journal_free(journal);
 }
 
-/* In a process of its own, which ends with the lock held: by SIGKILL, as no tool is to look for memory that the dead thread held. */
-static void calls_return_where_a_thread_dies(void) {
-    pq_queue *queue = opened(2);
-    pq_member *member = joined(queue);
-    holder own;
-    hold(&own, queue, HOLDS_AND_DIES);
-    by_all_deadlines(member);
-    CHECK(pq_close(queue, NULL) == PQ_MEMBERS_LEFT);
-    raise(SIGKILL);
-}
-
 int main(void) {
-    int status = 0;
-    pid_t child = fork();
-    CHECK(child >= 0);
-    if (child == 0) {
-        alarm(100);
-        calls_return_where_a_thread_dies();
-    }
-    CHECK(waitpid(child, &status, 0) == child && WIFSIGNALED(status) && WTERMSIG(status) == SIGKILL);
     calls_return_where_a_thread_stops();
     return 0;
 }

@@ -1,20 +1,17 @@
-/* pq_take_or_listen and pq_unlisten: a member that finds nothing listens, and is notified once, by the thread that pushes, also after more events
-   than 16 bits count; PQ_NOT_DUE has the first item; and pq_notify_fd writes to an eventfd. Schedules of threads tests/explore tries. */
+/* pq_take_or_listen: a member that listens is notified once, also after more events than 16 bits count; each refusal; and pq_notify_fd writes to an
+   eventfd. Who is notified of what tests/explore tries. */
 #include "../check.h"
 
 #include <sys/eventfd.h>
 
-/* What is notified: how often, and by which thread. */
+/* What is notified, and how often. */
 typedef struct loop {
     pq_member *member;
-    pthread_t by;
     int notified;
 } loop;
 
 static void notify(void *context) {
-    loop *it = (loop *)context;
-    it->by = pthread_self();
-    it->notified++;
+    ((loop *)context)->notified++;
 }
 
 /* How often it was notified since this was last asked. */
@@ -34,65 +31,12 @@ static pq_code take(loop *it) {
 }
 
 static loop loop_of(pq_queue *queue) {
-    loop it = { joined(queue), pthread_self(), 0 };
+    loop it = { joined(queue), 0 };
     return it;
 }
 
 static void push(pq_member *member, uint64_t priority) {
     CHECK(pq_push(member, item_of(priority, 4), PQ_FOREVER, NULL) == PQ_OK);
-}
-
-static void *push_one(void *member) {
-    push((pq_member *)member, 3);
-    return NULL;
-}
-
-static void it_is_notified_once(void) {
-    pq_queue *queue = opened(3);
-    loop it = loop_of(queue);
-    pq_member *other = joined(queue);
-    pq_item item = item_of(9, 9);
-    uint64_t number = 9;
-    pthread_t thread;
-    CHECK(take(&it) == PQ_EMPTY && take(&it) == PQ_EMPTY && notified(&it) == 0);
-    thread = started(push_one, other);
-    ended(thread);
-    CHECK(notified(&it) == 1 && pthread_equal(it.by, thread));
-    push(other, 3);
-    CHECK(notified(&it) == 0);
-    CHECK(pq_take_or_listen(it.member, 3, &item, &number, notify, &it) == PQ_OK && is_item(item, 3, 4) && number == 3);
-    CHECK(take(&it) == PQ_OK && take(&it) == PQ_EMPTY && notified(&it) == 0);
-    push(other, 3);
-    CHECK(notified(&it) == 1);
-    /* Its own push notifies it too, and a take by it ends the listening. */
-    CHECK(take(&it) == PQ_OK && take(&it) == PQ_EMPTY);
-    push(it.member, 3);
-    CHECK(notified(&it) == 1 && pq_pop(it.member, &item, PQ_FOREVER, NULL) == PQ_OK && take(&it) == PQ_EMPTY);
-    CHECK(pq_take(it.member, &item, in_ms(1), NULL) == PQ_EMPTY && pq_unlisten(it.member) == 0);
-    CHECK(take(&it) == PQ_EMPTY && pq_unlisten(it.member) == 1 && pq_unlisten(it.member) == 0);
-    push(other, 3);
-    CHECK(notified(&it) == 0);
-    pq_give_back(it.member);
-    pq_give_back(other);
-    close_and_free(queue);
-}
-
-/* The item stays, and the call returns it, so the loop knows when to call again. A push of whatever priority notifies. */
-static void what_is_not_due_stays(void) {
-    pq_queue *queue = opened(2);
-    loop it = loop_of(queue);
-    pq_member *other = joined(queue);
-    pq_item item = item_of(9, 9);
-    push(other, 7);
-    CHECK(take_up_to(&it, 6, &item) == PQ_NOT_DUE && is_item(item, 7, 4) && notified(&it) == 0);
-    push(other, 8);
-    CHECK(notified(&it) == 1 && take_up_to(&it, 6, &item) == PQ_NOT_DUE && is_item(item, 7, 4));
-    push(other, 5);
-    CHECK(notified(&it) == 1 && take_up_to(&it, 6, &item) == PQ_OK && is_item(item, 5, 4));
-    CHECK(take_up_to(&it, 7, &item) == PQ_OK && is_item(item, 7, 4) && take_up_to(&it, 7, &item) == PQ_NOT_DUE && item.priority == 8);
-    pq_give_back(it.member);
-    pq_give_back(other);
-    close_and_free(queue);
 }
 
 /* They come while it listens, and was notified of the first. */
@@ -116,7 +60,7 @@ static void it_is_notified_after_many(void) {
 
 static void it_is_refused(void) {
     pq_queue *queue = opened_as(2, PQ_FILLS, 1);
-    loop it = { NULL, pthread_self(), 0 };
+    loop it = { NULL, 0 };
     pq_item item = item_of(9, 9);
     CHECK(take(&it) == PQ_NO_MEMBER && pq_unlisten(NULL) == 0);
     it.member = joined(queue);
@@ -157,8 +101,6 @@ static void a_descriptor_is_written_to(void) {
 
 int main(void) {
     alarm(200);
-    it_is_notified_once();
-    what_is_not_due_stays();
     it_is_notified_after_many();
     it_is_refused();
     a_descriptor_is_written_to();

@@ -55,9 +55,21 @@ static void blame(int is_wrong, const char *why) {
     run.wrong = is_wrong && run.wrong == NULL ? why : run.wrong;
 }
 
+static void post(actor *it) {
+    blame(pq_core_post(&it->member, PQ_PUSH, it->item.priority, it->item.value) != PQ_OK, "the code of a post");
+    it->at = LOOKS;
+}
+
 /* The steps of a push: the first one, which posts where the lock is held, and those of one that has posted. Behind a round the answer is there. */
-static pq_code step_call(core *member, pq_item item, core_answer *answer) {
-    return pq_core_step_call(member, PQ_PUSH, item.priority, item.value, 1, answer);
+static pq_code try_push(actor *it, core_answer *answer) {
+    pq_code code = pq_core_try_push(&it->member, it->item.priority, it->item.value, answer);
+    if (code == PQ_OK) {
+        answer->kind = KIND_PUSHED;
+        answer->owes_wake = 0;
+    } else if (code == LOCK_HELD) {
+        post(it);
+    }
+    return code == ANSWERED ? PQ_OK : code;
 }
 
 static pq_code step_answer(core *member, core_answer *answer) {
@@ -149,17 +161,9 @@ static void pushed(actor *it, pq_code code, const core_answer *answer, enum plac
         }
         go_on(it, answer->owes_wake != 0, DONE);
     } else {
-        blame((code != LOCK_HELD && code != HAS_POSTED) || !is_inside, "the code of a push");
+        blame(code != LOCK_HELD || !is_inside, "the code of a push");
         it->at = otherwise;
     }
-}
-
-/* The library makes no such call by itself: it is the second half of a step that posts. */
-pq_code pq_core_post(core *member, uint32_t request, uint64_t priority, uint64_t value);
-
-static void post(actor *it) {
-    blame(pq_core_post(&it->member, PQ_PUSH, it->item.priority, it->item.value) != PQ_OK, "the code of a post");
-    it->at = LOOKS;
 }
 
 static void claim(actor *it) {
@@ -184,7 +188,7 @@ static void step(actor *it, int who, core_answer *answer) {
     if (it->kind == 's') {
         shut(it, answer);
     } else if (it->kind == 'p') {
-        pushed(it, step_call(&it->member, it->item, answer), answer, LOOKS);
+        pushed(it, try_push(it, answer), answer, LOOKS);
     } else {
         take(it, who);
     }

@@ -1,6 +1,6 @@
-/* Own members: more threads than members call by pq_own. A thread's member goes to others while the thread doesn't use it, when the thread
-   ends or leaves; not while it listens. Calls at any moment, closing and freeing tests/explore tries. */
-#include "refused.h"
+/* Own members: more threads than members call by pq_own, and at the same address comes one queue after another. When a thread's member goes to
+   others tests/explore tries. */
+#include "../check.h"
 
 enum { THREADS = 200, COMING = 10000 };
 
@@ -56,21 +56,6 @@ static void has_none(void) {
     CHECK(pq_place(pq_own(queue)) == UINT32_MAX);
 }
 
-static void listens(void) {
-    pq_item item;
-    CHECK(pq_take_or_listen(pq_own(queue), 0, &item, NULL, notes_nothing, NULL) == PQ_EMPTY);
-}
-
-static void unlistens(void) {
-    CHECK(pq_unlisten(pq_own(queue)) == 1 && pq_unlisten(pq_own(queue)) == 0);
-}
-
-static void leaves(void) {
-    pq_leave(queue);
-    has_none();
-    pq_leave(queue);
-}
-
 /* Whether the item of this value was popped. */
 static int is_popped[COMING];
 
@@ -99,49 +84,6 @@ static void thousands_come_and_go(void) {
     pq_journal *journal = closed(queue);
     CHECK(pq_count(journal, NULL) == 2 * coming && pq_take_left(journal, &item) == PQ_EMPTY);
     pq_journal_free(journal);
-}
-
-/* A thread that lives, and does not call, has its member taken over; and takes another's over at its next call. */
-static void idle_members_are_taken_over(void) {
-    helper other;
-    queue = opened(1);
-    begins(&other);
-    CHECK(pq_own(queue) == pq_own(queue));
-    for (int i = 0; i < 10; i++) {
-        pushes_one();
-        does(&other, has_none);
-        does(&other, pushes_one);
-        has_none();
-    }
-    does(&other, leaves);
-    pushes_one();
-    /* The thread's end gives the member back. */
-    does(&other, pushes_one);
-    ends(&other);
-    pq_give_back(joined(queue));
-    pushes_one();
-    leaves();
-    pq_give_back(joined(queue));
-    pq_journal *journal = closed(queue);
-    CHECK(pq_count(journal, NULL) == 23);
-    pq_journal_free(journal);
-}
-
-/* A member that listens is taken over once that has ended. */
-static void members_that_listen_are_kept(void) {
-    helper other;
-    uint64_t size = 9;
-    queue = opened(1);
-    begins(&other);
-    does(&other, listens);
-    has_none();
-    refuses_requests(pq_own(queue), PQ_TIMED_OUT, PQ_NOW);
-    CHECK(pq_size(pq_own(queue), PQ_NOW, &size, NULL) == PQ_TIMED_OUT && size == 9 && pq_close(queue, NULL) == PQ_MEMBERS_LEFT);
-    does(&other, unlistens);
-    pushes_one();
-    does(&other, has_none);
-    ends(&other);
-    close_and_free(queue);
 }
 
 /* The queue at this address is another one. */
@@ -192,8 +134,6 @@ static void threads_call_while_they_end(void) {
 
 int main(void) {
     thousands_come_and_go();
-    idle_members_are_taken_over();
-    members_that_listen_are_kept();
     a_new_queue_is_not_taken_for_a_freed_one();
     threads_call_while_they_end();
     return 0;

@@ -1,14 +1,11 @@
-/* More threads wait for an item than a queue has members: a pool of them ends. The last member that is awake does not listen. The system is
-   asked for as many wakes as there are items. Who is woken for what tests/explore tries. */
+/* The last member that is awake does not listen. The system is asked for as many wakes as there are items. Who is woken for what tests/explore
+   tries; ../cpp/threads.cpp has more threads that wait than members. */
 #include "refused.h"
 #include "system_calls.h"
 
 #include <sys/timerfd.h>
 
-enum { MEMBERS = 64, WORKERS = 80, JOBS = 20000 };
-
 static pq_queue *queue;
-static uint32_t jobs, pushed, taken;
 /* How many threads sleep, and how many wakes the system was asked for. */
 static int asleep, wakes;
 
@@ -25,37 +22,6 @@ long __wrap_syscall(long number, ...) {
     const long code = __real_syscall(number, of[0], of[1], of[2], of[3], of[4], FUTEX_BITSET_MATCH_ANY);
     __atomic_fetch_sub(&asleep, sleeps, __ATOMIC_SEQ_CST);
     return code;
-}
-
-/* Its workers push while all others wait for an item. */
-static void *works(void *unused) {
-    pq_item item;
-    while (pq_take(pq_own(queue), &item, PQ_FOREVER, NULL) == PQ_OK) {
-        sleep_ms(item.priority < 2 ? 100 : 0);
-        for (int i = 0; i < 2 && __atomic_fetch_add(&pushed, 1, __ATOMIC_SEQ_CST) < jobs; i++) {
-            CHECK(pq_push(pq_own(queue), item_of(item.priority + 1, 0), PQ_FOREVER, NULL) == PQ_OK);
-        }
-        if (__atomic_add_fetch(&taken, 1, __ATOMIC_SEQ_CST) == jobs) {
-            CHECK(pq_shut(queue) == PQ_OK);
-        }
-    }
-    return unused;
-}
-
-static void a_pool_of_more_workers_than_members_ends(void) {
-    pthread_t threads[WORKERS];
-    queue = opened(MEMBERS);
-    jobs = requests(JOBS);
-    pushed = 1;
-    CHECK(pq_push(pq_own(queue), item_of(0, 0), PQ_NOW, NULL) == PQ_OK);
-    for (int i = 0; i < WORKERS; i++) {
-        threads[i] = started(works, NULL);
-    }
-    for (int i = 0; i < WORKERS; i++) {
-        ended(threads[i]);
-    }
-    CHECK(taken == jobs && size_of(queue) == 0);
-    close_and_free(queue);
 }
 
 static pq_code listens_by(pq_member *member, int timer) {
@@ -126,7 +92,6 @@ static void a_batch_wakes_as_many_as_it_has_items(void) {
 int main(void) {
     const int timer = timerfd_create(CLOCK_MONOTONIC, 0);
     alarm(200);
-    a_pool_of_more_workers_than_members_ends();
     the_last_member_does_not_listen(-1);
     the_last_member_does_not_listen(timer);
     a_batch_wakes_as_many_as_it_has_items();

@@ -1,5 +1,5 @@
-/* A thread waits until an entry is archived: not at all, until a deadline, or until an archive counts it. What the archiver did before happens
-   before what the thread does after. Closing and freeing meanwhile tests/explore tries. */
+/* Threads wait until entries are archived. What the archiver did before happens before what such a thread does after. Deadlines, and closing and
+   freeing meanwhile, tests/explore tries. */
 #include "../check.h"
 
 enum { THREADS = 4 };
@@ -14,20 +14,6 @@ static void pushes(pq_queue *queue, int count) {
     for (int i = 0; i < count; i++) {
         CHECK(pq_push(pq_own(queue), item_of(1, 2), PQ_FOREVER, NULL) == PQ_OK);
     }
-}
-
-static void returns_in_time(void) {
-    pq_queue *queue = opened(1);
-    CHECK(pq_wait_archived(queue, 0, PQ_NOW) == PQ_OK && pq_wait_archived(queue, 1, PQ_NOW) == PQ_TIMED_OUT);
-    pushes(queue, 3);
-    archives(queue, 0);
-    const uint64_t end = in_ms(20);
-    CHECK(pq_wait_archived(queue, 1, end) == PQ_TIMED_OUT && pq_now() >= end);
-    archives(queue, 2);
-    CHECK(pq_wait_archived(queue, 1, PQ_NOW) == PQ_OK && pq_wait_archived(queue, 2, PQ_FOREVER) == PQ_OK);
-    archives(queue, 1);
-    CHECK(pq_wait_archived(queue, 2, PQ_NOW) == PQ_OK && pq_wait_archived(queue, 3, PQ_NOW) == PQ_TIMED_OUT);
-    close_and_free(queue);
 }
 
 /* A refused archive counts nothing. */
@@ -85,7 +71,6 @@ static void are_woken(void) {
 }
 
 int main(void) {
-    returns_in_time();
     counts_no_refused_archive();
     are_woken();
     return 0;

@@ -42,34 +42,6 @@ static void a_deadline_may_be_past(pq_member *member) {
     }
 }
 
-static uint64_t taken;
-
-/* Items of which one half alone is other than 0, each a while after the last was taken. */
-static void *push_late(void *member) {
-    for (uint64_t i = 0; i < 3; i++) {
-        while (__atomic_load_n(&taken, __ATOMIC_RELAXED) < i) {
-            sleep_ms(1);
-        }
-        sleep_ms(15);
-        CHECK(pq_push((pq_member *)member, item_of(i * UPPER, UINT64_MAX - i), PQ_FOREVER, NULL) == PQ_OK);
-    }
-    return NULL;
-}
-
-static void gets_what_comes_later(pq_member *member, pq_member *other) {
-    const uint64_t until[] = { in_ms(60000), PQ_FOREVER, UINT64_MAX - 1 };
-    pthread_t thread;
-    taken = 0;
-    thread = started(push_late, other);
-    for (uint64_t i = 0; i < 3; i++) {
-        entries++;
-        take(member, until[i], i * UPPER, UINT64_MAX - i);
-        __atomic_store_n(&taken, i + 1, __ATOMIC_RELAXED);
-    }
-    ended(thread);
-    CHECK(pq_now() < until[0]);
-}
-
 static void catch_signal(int number) {
     CHECK(number == SIGUSR1);
 }
@@ -81,11 +53,11 @@ static void *signal_and_push(void *member) {
         sleep_ms(1);
         CHECK(pthread_kill(signalled, SIGUSR1) == 0);
     }
-    CHECK(pq_push((pq_member *)member, item_of(5, 6), PQ_FOREVER, NULL) == PQ_OK);
+    CHECK(pq_push((pq_member *)member, item_of(UPPER, UINT64_MAX), PQ_FOREVER, NULL) == PQ_OK);
     return NULL;
 }
 
-static void signals_do_not_end_it(pq_member *member, pq_member *other) {
+static void signals_do_not_end_it(pq_member *member, pq_member *other, uint64_t until) {
     struct sigaction action;
     pthread_t thread;
     memset(&action, 0, sizeof action);
@@ -94,7 +66,7 @@ static void signals_do_not_end_it(pq_member *member, pq_member *other) {
     signalled = pthread_self();
     thread = started(signal_and_push, other);
     entries++;
-    take(member, PQ_FOREVER, 5, 6);
+    take(member, until, UPPER, UINT64_MAX);
     ended(thread);
 }
 
@@ -110,9 +82,8 @@ int main(void) {
     ends_at_its_deadline(own);
     a_deadline_may_be_past(member);
     a_deadline_may_be_past(own);
-    gets_what_comes_later(member, other);
-    gets_what_comes_later(own, own);
-    signals_do_not_end_it(own, other);
+    signals_do_not_end_it(own, other, PQ_FOREVER);
+    signals_do_not_end_it(member, own, UINT64_MAX - 1);
     pq_leave(queue);
     pq_give_back(member);
     pq_give_back(other);

@@ -1,11 +1,10 @@
 //! How many payloads a queue has, and queues with a bound: a push is refused at once or at its deadline, and its payload comes back; or it waits
 //! until a payload is taken out, or the queue is shut. Futures that take are woken meanwhile.
+mod executor;
+
+use executor::run;
 use flatpq::{Error, Options, Queue, TaskQueue, Until};
-use std::future::Future;
-use std::pin::Pin;
-use std::sync::Arc;
-use std::task::{Context, Poll, Wake, Waker};
-use std::thread::{self, Thread};
+use std::thread;
 use std::time::{Duration, Instant};
 
 fn bounded<T: Send>(most_items: u64) -> TaskQueue<u64, T> {
@@ -105,24 +104,6 @@ fn a_push_waits_for_room() {
     assert_eq!(queue.len(), Ok(1));
 }
 
-struct Unparks(Thread);
-
-impl Wake for Unparks {
-    fn wake(self: Arc<Unparks>) {
-        self.0.unpark();
-    }
-}
-
-fn ready<F: Future>(mut future: Pin<&mut F>) -> F::Output {
-    let waker = Waker::from(Arc::new(Unparks(thread::current())));
-    loop {
-        match future.as_mut().poll(&mut Context::from_waker(&waker)) {
-            Poll::Ready(output) => return output,
-            Poll::Pending => thread::park(),
-        }
-    }
-}
-
 /// A producer that waits for room may be the one that has a future woken.
 #[test]
 fn futures_are_woken_while_producers_wait() {
@@ -137,10 +118,7 @@ fn futures_are_woken_while_producers_wait() {
                 }
             });
         }
-        (0..4 * EACH).fold(0, |sum, _| {
-            let taken = ready(Box::pin(queue.take_async()).as_mut());
-            sum + taken.unwrap().1
-        })
+        (0..4 * EACH).fold(0, |sum, _| sum + run(queue.take_async()).unwrap().1)
     });
     assert_eq!((sum, queue.len()), ((0..4 * EACH).sum(), Ok(0)));
 }

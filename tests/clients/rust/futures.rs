@@ -1,9 +1,9 @@
-//! Takes and pushes by futures, on an executor of this test's own: what is there, or has room, is ready at once, a push, a pop and a shut wake, one
-//! that is dropped when it was woken wakes the next, and threads that wait and futures lose no payload together. By a member, and by the queue.
+//! Takes and pushes by futures, on an executor of this test's own: what is there, or has room, is ready at once, a push and a pop wake, and threads
+//! that wait and futures lose no payload together. By a member, and by the queue. Drops, shuts and who is woken tests/explore tries.
 mod executor;
 
 use executor::{polled, run, run_all, Counted, LONG};
-use flatpq::{Error, Member, NotPushed, Options, Queue, TaskQueue};
+use flatpq::{Error, Member, Options, Queue, TaskQueue};
 use std::future::Future;
 use std::pin::Pin;
 use std::sync::atomic::{AtomicUsize, Ordering};
@@ -103,36 +103,19 @@ fn a_future_of_the_queue_joins_while_it_waits() {
 }
 
 #[test]
-fn one_that_is_dropped_when_it_was_woken_wakes_the_next() {
+fn a_member_that_goes_when_it_was_woken_wakes_the_next() {
     let queue: Queue = Queue::new().unwrap();
     let [mut first, mut second] = members(&queue);
     let [one, other] = [Counted::new(), Counted::new()];
-    let mut taking = second.take_async();
-    {
-        let mut dropped = first.take_async();
-        assert!(polled(&mut dropped, &one).is_pending());
-        assert!(polled(&mut taking, &other).is_pending());
-        queue.push(1, 1).unwrap();
-        assert_eq!((one.wakes(), other.wakes()), (1, 0));
-    }
-    assert_eq!((one.wakes(), other.wakes()), (1, 1));
-    assert!(polled(&mut taking, &other).is_ready());
-    assert!(polled(&mut taking, &other).is_pending());
-    // One that was not woken wakes nobody.
-    assert!(polled(&mut first.take_async(), &one).is_pending());
-    assert_eq!((one.wakes(), other.wakes()), (1, 1));
-    queue.push(1, 2).unwrap();
-    assert_eq!((one.wakes(), other.wakes()), (1, 2));
-    // A member that goes when it was woken wakes the next too; and one whose future was forgotten.
-    assert!(polled(&mut taking, &other).is_ready());
     let mut forgotten = first.take_async();
     assert!(polled(&mut forgotten, &one).is_pending());
     std::mem::forget(forgotten);
+    let mut taking = second.take_async();
     assert!(polled(&mut taking, &other).is_pending());
     queue.push(1, 3).unwrap();
-    assert_eq!((one.wakes(), other.wakes()), (2, 2));
+    assert_eq!((one.wakes(), other.wakes()), (1, 0));
     drop(first);
-    assert_eq!((one.wakes(), other.wakes()), (2, 3));
+    assert_eq!((one.wakes(), other.wakes()), (1, 1));
 }
 
 /// A member that listens may make other calls, also one that waits, which ends the listening.
@@ -153,19 +136,6 @@ fn a_member_that_listens_makes_other_calls() {
     assert!(!member.unlisten());
     queue.push(3, 4).unwrap();
     assert_eq!((member.take(), counted.wakes()), (Ok((3, 4)), 1));
-}
-
-#[test]
-fn a_shut_ends_all() {
-    let queue: Queue = Queue::new().unwrap();
-    let [mut first, mut second] = members(&queue);
-    let [one, other] = [Counted::new(), Counted::new()];
-    let (mut taking, mut second) = (first.take_async(), second.take_async());
-    assert!(polled(&mut taking, &one).is_pending() && polled(&mut second, &other).is_pending());
-    queue.shut().unwrap();
-    assert_eq!((one.wakes(), other.wakes()), (1, 1));
-    assert_eq!(polled(&mut taking, &one), Poll::Ready(Err(Error::Shut)));
-    assert_eq!(run(second), Err(Error::Shut));
 }
 
 /// By archives that have counted its entry, and no other; of one that was dropped no waker is left.
@@ -191,18 +161,6 @@ fn an_archive_wakes_those_whose_entries_it_has_counted() {
     });
     assert_eq!(counted[3].wakes(), 1);
     assert_eq!(run(queue.wait_archived_async(3)), Ok(()));
-}
-
-/// A batch of two pushes wakes two tasks.
-#[test]
-fn as_many_tasks_are_woken_as_are_pushed_for() {
-    let queue: Queue = Queue::new().unwrap();
-    let counted = [Counted::new(), Counted::new()];
-    let (mut first, mut second) = (queue.take_async(), queue.take_async());
-    assert!(polled(&mut first, &counted[0]).is_pending());
-    assert!(polled(&mut second, &counted[1]).is_pending());
-    queue.push_many([(1, 1), (1, 2)]).unwrap();
-    assert_eq!(counted.map(|it| it.wakes()), [1, 1]);
 }
 
 /// Two futures on one thread, and a thread that waits, take all that two threads push.
@@ -355,17 +313,6 @@ fn a_push_in_the_midst_of_a_poll_is_taken_or_wakes() {
     }
 }
 
-/// A sleep that is over at once has its task polled again.
-#[test]
-fn a_sleep_that_is_over_wakes() {
-    let queue: TaskQueue<Instant, u32> = TaskQueue::new().unwrap();
-    queue.push(Instant::now() + LONG, 1).unwrap();
-    let counted = Counted::new();
-    let mut take = queue.take_due_async(|_| std::future::ready(()));
-    assert!(polled(&mut take, &counted).is_pending());
-    assert_eq!(counted.wakes(), 1);
-}
-
 #[test]
 fn an_archive_in_the_midst_of_a_poll_is_seen() {
     let queue: Queue = Queue::new().unwrap();
@@ -406,55 +353,4 @@ fn a_push_waits_for_room() {
     assert_eq!(member.number(), 5);
     drop(member);
     assert!(queue.close().is_ok());
-}
-
-#[test]
-fn a_push_that_is_dropped_wakes_another() {
-    let queue = with_room_for(1);
-    let mut member = queue.join().unwrap();
-    let counted = [(); 3].map(|()| Counted::new());
-    let woken = || [0, 1, 2].map(|at: usize| counted[at].wakes());
-    queue.push(1, 1).unwrap();
-    let mut first = member.push_async(2, 2);
-    let (mut second, mut third) = (queue.push_async(3, 3), queue.push_async(4, 4));
-    assert!(polled(&mut first, &counted[0]).is_pending());
-    assert!(polled(&mut second, &counted[1]).is_pending());
-    assert!(polled(&mut third, &counted[2]).is_pending());
-    queue.pop().unwrap();
-    assert_eq!(woken(), [1, 0, 0]);
-    drop(first);
-    assert_eq!(woken(), [1, 1, 0]);
-    drop(second);
-    assert_eq!(woken(), [1, 1, 1]);
-    assert_eq!(polled(&mut third, &counted[2]), Poll::Ready(Ok(3)));
-    // A thread that waits is woken beside a future that does nothing.
-    let mut idle = queue.push_async(5, 5);
-    assert!(polled(&mut idle, &counted[0]).is_pending());
-    queue.pop().unwrap();
-    assert_eq!(woken(), [2, 1, 1]);
-    thread::scope(|threads| {
-        threads.spawn(|| [6, 7].map(|number| queue.push(6, number).unwrap()));
-        while queue.pop() != Ok(Some((6, 7))) {
-            thread::yield_now();
-        }
-    });
-    drop((third, idle, member));
-    assert!(queue.close().is_ok());
-}
-
-#[test]
-fn a_push_that_waits_sees_the_end() {
-    let queue = with_room_for(1);
-    let counted = Counted::new();
-    queue.push(1, 1).unwrap();
-    let mut push = queue.push_async(2, 2);
-    assert!(polled(&mut push, &counted).is_pending());
-    queue.shut().unwrap();
-    assert_eq!(counted.wakes(), 1);
-    let refused = NotPushed {
-        payload: 2,
-        error: Error::Shut,
-    };
-    assert_eq!(polled(&mut push, &counted), Poll::Ready(Err(refused)));
-    assert_eq!(run(queue.push_async(3, 3)).unwrap_err().error, Error::Shut);
 }

@@ -1,9 +1,9 @@
-//! More futures of a queue wait than it has members, for any payload, for what is due, and for room: calls beside them go on, each future is
-//! served, and no payload is lost where some are dropped. One is refused only where no other that waits for the same has a member.
+//! More futures of a queue wait than it has members, for any payload and for room: calls beside them go on, each future is served, and no payload is
+//! lost where some are dropped. One is refused only where no other that waits for the same has a member.
 mod executor;
 
 use executor::{polled, run, run_all, Counted, LONG};
-use flatpq::{Error, Options, Queue, Take, TaskQueue};
+use flatpq::{Error, Options, Queue, Take};
 use std::cell::RefCell;
 use std::future::Future;
 use std::pin::Pin;
@@ -11,7 +11,7 @@ use std::sync::atomic::{AtomicUsize, Ordering};
 use std::sync::Arc;
 use std::task::{Context, Poll, RawWaker, RawWakerVTable, Waker};
 use std::thread;
-use std::time::{Duration, Instant};
+use std::time::Instant;
 
 const TASKS: usize = 100;
 
@@ -41,33 +41,6 @@ fn more_tasks_than_members_wait_for_payloads() {
     let mut taken: Vec<_> = run_all(takes).into_iter().map(Result::unwrap).collect();
     taken.sort_unstable();
     assert!(taken.into_iter().eq((0..TASKS as u64).map(|it| (it, it))));
-}
-
-#[test]
-fn more_tasks_than_members_see_the_end() {
-    let queue = opened(2);
-    let mut takes: Futures<'_, _> = Vec::new();
-    takes.resize_with(TASKS, || Box::pin(queue.take_async()));
-    all_wait(&mut takes);
-    queue.shut().unwrap();
-    assert_eq!(run_all(takes), vec![Err(Error::Shut); TASKS]);
-    assert!(queue.close().is_ok());
-}
-
-#[test]
-fn more_tasks_than_members_wait_until_payloads_are_due() {
-    let queue: TaskQueue<Instant, usize> = Options::new().members(3).open().unwrap();
-    let sleep = |_| std::future::ready(());
-    let mut takes: Futures<'_, _> = Vec::new();
-    takes.resize_with(TASKS, || Box::pin(queue.take_due_async(sleep)));
-    all_wait(&mut takes);
-    let due = Instant::now() + Duration::from_millis(20);
-    for value in 0..TASKS {
-        assert!(queue.until(LONG).push(due, value).is_ok());
-    }
-    let taken = run_all(takes);
-    assert!(Instant::now() >= due && taken.iter().all(Result::is_ok));
-    assert_eq!(queue.len(), Ok(0));
 }
 
 #[test]

@@ -1,7 +1,6 @@
 // A schedule over 2,080 places in one thread.
 ghost use Rattle.std.specs.Prelude.{◌≡◌, IfOk};
 ghost use Rattle.std.specs.List.{All};
-ghost use Rattle.announce_board.specs.Slots.{MeetsTerms};
 ghost use Rattle.announce_board.specs.Tokens.{IsLeadOf};
 
 use crate::tables::{ask, look, push};
@@ -23,12 +22,9 @@ fn serve_all<R: Abort, S: Store<Entry>>(
 )
     requires table { pen.old.table ≡ desk.now.table }
     requires lead { IsLeadOf pen.old lead.old }
-    requires terms { MeetsTerms desk.now.terms lead.old.book }
     ensures table { pen.new.table ≡ desk.now.table }
     ensures lead { IsLeadOf pen.new lead.new }
-    ensures terms { MeetsTerms desk.now.terms lead.new.book }
 {
-    law_leads_stay();
     for place in 0..desk.places() {
         let served = desk.serve(pen, lead, place);
         assert!(rt; served == posted);
@@ -132,10 +128,8 @@ fn serves_posted<R: Abort, S: Store<Entry>>(
 )
     requires table { pen.old.table ≡ desk.now.table }
     requires lead { IsLeadOf pen.old lead.old }
-    requires terms { MeetsTerms desk.now.terms lead.old.book }
     ensures table { pen.new.table ≡ desk.now.table }
     ensures lead { IsLeadOf pen.new lead.new }
-    ensures terms { MeetsTerms desk.now.terms lead.new.book }
 {
     if !have_posted {
         return;
@@ -150,7 +144,6 @@ fn led<R: Abort, S: Store<Entry>>(rt: &R, desk: &Desk<S>, pen: &mut Pen<S>) -> L
     requires { pen.old.table ≡ desk.now.table }
     ensures table { pen.new.table ≡ desk.now.table }
     ensures lead { IsLeadOf pen.new result }
-    ensures terms { MeetsTerms desk.now.terms result.book }
 {
     let Some(lead) = desk.try_lead(pen) else {
         panic!(rt; "the lock is free")

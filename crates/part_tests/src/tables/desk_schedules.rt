@@ -1,11 +1,9 @@
 // Worked schedules of two pens in one thread: one leads, and the other asks.
 ghost use Rattle.std.specs.Prelude.{◌≡◌, IfOk, IfSome};
 ghost use Rattle.announce_board.specs.Opening.{pen_of_place};
-ghost use Rattle.announce_board.specs.Slots.{MeetsTerms};
 ghost use Rattle.announce_board.specs.Tokens.{IsLeadOf};
 
 use crate::tables::{ask, look};
-use announce_board::leading::law_leads_stay;
 use announce_board::{Desk, DeskError, Lead, LockHeld, Pen};
 use leftist_heap::{Leftist, Store};
 use pq_book::Entry;
@@ -96,7 +94,6 @@ fn tries<R: Abort, S: Store<Entry>>(
     requires { pen.old.table ≡ desk.now.table }
     ensures table { pen.new.table ≡ desk.now.table }
     ensures lead { IfSome result (λ l. IsLeadOf pen.new l) }
-    ensures terms { IfSome result (λ l. MeetsTerms desk.now.terms l.book) }
 {
     let lead = desk.try_lead(pen);
     assert!(rt; lead.is_some() == is_free);
@@ -114,12 +111,9 @@ fn served<R: Abort, S: Store<Entry>>(
 ) -> Lead<S>
     requires table { pen.old.table ≡ desk.now.table }
     requires lead { IsLeadOf pen.old lead }
-    requires terms { MeetsTerms desk.now.terms lead.book }
     ensures table { pen.new.table ≡ desk.now.table }
     ensures lead { IsLeadOf pen.new result }
-    ensures terms { MeetsTerms desk.now.terms result.book }
 {
-    law_leads_stay();
     assert!(rt; place < desk.places());
     let was_posted = desk.serve(pen, &mut lead, place);
     assert!(rt; was_posted == is_posted);
@@ -137,11 +131,9 @@ fn takes<R: Abort, S: Store<Entry>>(
 ) -> Option<Lead<S>>
     requires leader { leader.old.table ≡ desk.now.table }
     requires lead { IfSome lead (λ l. IsLeadOf leader.old l) }
-    requires terms { IfSome lead (λ l. MeetsTerms desk.now.terms l.book) }
     requires asker { asker.old.table ≡ desk.now.table }
     ensures leader { leader.new.table ≡ desk.now.table }
     ensures lead { IfSome result (λ l. IsLeadOf leader.new l) }
-    ensures terms { IfSome result (λ l. MeetsTerms desk.now.terms l.book) }
     ensures asker { asker.new.table ≡ desk.now.table }
 {
     match (step, lead) {

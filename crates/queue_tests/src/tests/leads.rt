@@ -4,7 +4,6 @@ ghost use Rattle.std.specs.List.{All};
 
 use crate::tests::schedule::{Coming, Sitting, two_come};
 use crate::tests::{closed, opened, push};
-use announce_board::leading::law_leads_stay;
 use flat_queue::{Called, Handle, Newcomer, Pending, Queue, Round};
 use leftist_heap::Store;
 use pq_book::Entry;
@@ -40,7 +39,6 @@ fn told_in<S: Store<Entry>>(called: Called<'_, S>) -> Option<(u64, Reply)> {
 
 // The first leads before the second joins and posts, and makes its scan behind that.
 fn leads_before<R: Abort, S: Store<Entry>>(rt: &R, first: Coming<'_, S>, second: Coming<'_, S>) {
-    law_leads_stay();
     let Sitting { queue, mut member } = first.joins();
     let mut lead = queue.lead(&mut member).expect(rt, "the lock is free");
     let pending = posts_in_vain(rt, second.enters());

@@ -3,7 +3,7 @@ use flat_queue::{Called, Handle, Newcomer, Queue, UpTo};
 use leftist_heap::{Leftist, SortedVec};
 use pq_book::{Book, BookError, Entry};
 use pq_types::{Answer, Item, Line, Operation, Reply, Request};
-use queue_pool::{CallStep, Pool, StillOpen, Tried};
+use queue_pool::{Pool, StillOpen};
 use std::alloc::Global;
 use std::mem::size_of;
 use std::process::Abort;
@@ -262,12 +262,11 @@ fn pool_of_one<R: Abort>(rt: &R, alloc: Global) -> Pool<Heap, u64> {
 #[test]
 fn a_pool_hands_out_a_member_of_a_wide_queue(rt: HostRuntime) -> Result<(), Fail> {
     let mut pool = pool_of_one(&rt, rt.alloc());
-    let entered = |number, reply| Tried::Answered(Answer::Entered(number, reply));
+    let entered = |number, reply| Ok(Answer::Entered(number, reply));
     let Ok(mut member) = pool.take() else {
         panic!(&rt; "it is in the pool")
     };
-    let pushed = CallStep::Answered(Answer::Entered(1, Reply::Pushed));
-    assert!(&rt; member.step_call(Request::Push(GREATEST), false) == pushed);
+    assert!(&rt; member.try_call(Request::Push(GREATEST)) == entered(1, Reply::Pushed));
     assert!(&rt; member.post(Request::Push(UPPER_ONE)).is_ok());
     pool.give_back(member);
     let Ok(mut member) = pool.take() else {

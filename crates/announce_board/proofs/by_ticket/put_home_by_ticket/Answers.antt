@@ -2,14 +2,14 @@ use Rattle.std.proofs.Common.{sym, ◌∷◌, ◌+◌, ◌<◌, length, ◌∙�
 use Rattle.pq_types.specs.Operation.{ByTicket}
 use Rattle.atomic_table.specs.Table.{rest}
 use Rattle.announce_board.specs.Rule.{Seated}
-use Rattle.announce_board.specs.Slots.{MeetsTerms, out}
+use Rattle.announce_board.specs.Slots.{out}
 use Rattle.announce_board.specs.Steps.{pen_at}
 use Rattle.announce_board.specs.Asking.{IsFullFor}
 use Rattle.pq_types.specs.History.{left, last_serial}
-use Rattle.pq_book.specs.Book.{AllHaveRoom}
-use Rattle.desk_core.specs.Home.{Home, home_of}
+use Rattle.pq_book.specs.Book.{AllHaveRoom, Volume}
+use Rattle.desk_core.specs.Pen.{limits_in_hand}
 use Rattle.announce_board.proofs.ItemSteps.{wider_operation}
-use Rattle.announce_board.proofs.Homes.{may_tell, still_meets, carried_out, release_with_owes, released_with}
+use Rattle.announce_board.proofs.Homes.{in_hand, carried_out, release_with_owes, released_with}
 use Rattle.announce_board.proofs.ToldLemmas.{above_the_last, own_answer_fits, own_behind, own_full, own_barred}
 use Rattle.announce_board.proofs.by_ticket.put_home_by_ticket.Goals as goal
 
@@ -18,75 +18,75 @@ store-requires g c =
     let proper = wider_operation g.P.Part.wide (ByTicket c.args.ticketed) c.law_ticketed_is_proper.ensures in
     let e = c.apply_by_ticket-answer.ensures in
     let h = c.requires in
-    let there = ap home_of (c.deref_mut.ensures.value ∙ c.book.view_is) ∙ h.book in
-    let may = may_tell c.law_books_deal.ensures (pen_at c.args.seat.now.me).room (pen_at c.args.seat.now.me).hand c.deref_mut.result.now (ByTicket c.args.ticketed) c.apply_by_ticket-answer.result there e.answer in (
+    let there = (c.deref_mut.ensures.value ∙ c.book.view_is) ∙ h.book in
+    let may = in_hand (pen_at c.args.seat.now.me) c.deref_mut.result.now (ByTicket c.args.ticketed) c.apply_by_ticket-answer.result there e.answer in (
       c.exchange.ensures.0 ∙ h.here,
       h.lock,
       release_with_owes _ _ c.law_steps_are_allowed.ensures.release_with _ _ _ _ _ c.args.seat.now.me _ c.apply_by_ticket-answer.new.self (ByTicket c.args.ticketed) c.apply_by_ticket-answer.result h.is h.leads h.due h.idle
           (omega (arith, h.serial, h.few)) proper may
-          (carried_out c.args.seat.now.me c.args.place c.args.serial c.deref_mut.result.now c.apply_by_ticket-answer.new.self (ByTicket c.args.ticketed) c.apply_by_ticket-answer.result there h.place h.serial e.terms e.journal) (still_meets c.args.board.now.key.terms c.deref_mut.result.now c.apply_by_ticket-answer.new.self e.terms e.allowed (subst (MeetsTerms c.args.board.now.key.terms) (sym (c.deref_mut.ensures.value ∙ c.book.view_is)) h.terms)) (c.exchange.ensures.3 ∙ ap (λ s. (c.args.seat.now.me.0, (0, s) ∷ rest c.args.seat.now.me.1)) c.with.ensures),
+          (carried_out (pen_at c.args.seat.now.me) c.args.place c.args.serial c.deref_mut.result.now c.apply_by_ticket-answer.new.self (ByTicket c.args.ticketed) c.apply_by_ticket-answer.result there h.place h.serial e.terms e.allowed e.journal) (c.exchange.ensures.3 ∙ ap (λ s. (c.args.seat.now.me.0, (0, s) ∷ rest c.args.seat.now.me.1)) c.with.ensures),
     )
 
 pub returns-clause-after : goal.returns-clause-after
 returns-clause-after g c =
     let e = c.apply_by_ticket-answer.ensures in
     let h = c.requires in
-    let there = ap home_of (c.deref_mut.ensures.value ∙ c.book.view_is) ∙ h.book in
-    let may = may_tell c.law_books_deal.ensures (pen_at c.args.seat.now.me).room (pen_at c.args.seat.now.me).hand c.deref_mut.result.now (ByTicket c.args.ticketed) c.apply_by_ticket-answer.result there e.answer in
+    let there = (c.deref_mut.ensures.value ∙ c.book.view_is) ∙ h.book in
+    let may = in_hand (pen_at c.args.seat.now.me) c.deref_mut.result.now (ByTicket c.args.ticketed) c.apply_by_ticket-answer.result there e.answer in
     (released_with c.args.seat.now.me _ c.store.new.seat.me c.apply_by_ticket-answer.new.self (ByTicket c.args.ticketed) c.apply_by_ticket-answer.result h.slot may
-    (carried_out c.args.seat.now.me c.args.place c.args.serial c.deref_mut.result.now c.apply_by_ticket-answer.new.self (ByTicket c.args.ticketed) c.apply_by_ticket-answer.result there h.place h.serial e.terms e.journal) (c.exchange.ensures.3 ∙ ap (λ s. (c.args.seat.now.me.0, (0, s) ∷ rest c.args.seat.now.me.1)) c.with.ensures) c.store.ensures.2).0
+    (carried_out (pen_at c.args.seat.now.me) c.args.place c.args.serial c.deref_mut.result.now c.apply_by_ticket-answer.new.self (ByTicket c.args.ticketed) c.apply_by_ticket-answer.result there h.place h.serial e.terms e.allowed e.journal) (c.exchange.ensures.3 ∙ ap (λ s. (c.args.seat.now.me.0, (0, s) ∷ rest c.args.seat.now.me.1)) c.with.ensures) c.store.ensures.2).0
 
 pub returns-clause-behind : goal.returns-clause-behind
 returns-clause-behind g c =
     let e = c.apply_by_ticket-answer.ensures in
     let h = c.requires in
-    let there = ap home_of (c.deref_mut.ensures.value ∙ c.book.view_is) ∙ h.book in
-    let may = may_tell c.law_books_deal.ensures (pen_at c.args.seat.now.me).room (pen_at c.args.seat.now.me).hand c.deref_mut.result.now (ByTicket c.args.ticketed) c.apply_by_ticket-answer.result there e.answer in
+    let there = (c.deref_mut.ensures.value ∙ c.book.view_is) ∙ h.book in
+    let may = in_hand (pen_at c.args.seat.now.me) c.deref_mut.result.now (ByTicket c.args.ticketed) c.apply_by_ticket-answer.result there e.answer in
     let told = released_with c.args.seat.now.me _ c.store.new.seat.me c.apply_by_ticket-answer.new.self (ByTicket c.args.ticketed) c.apply_by_ticket-answer.result h.slot may
-    (carried_out c.args.seat.now.me c.args.place c.args.serial c.deref_mut.result.now c.apply_by_ticket-answer.new.self (ByTicket c.args.ticketed) c.apply_by_ticket-answer.result there h.place h.serial e.terms e.journal) (c.exchange.ensures.3 ∙ ap (λ s. (c.args.seat.now.me.0, (0, s) ∷ rest c.args.seat.now.me.1)) c.with.ensures) c.store.ensures.2 in
+    (carried_out (pen_at c.args.seat.now.me) c.args.place c.args.serial c.deref_mut.result.now c.apply_by_ticket-answer.new.self (ByTicket c.args.ticketed) c.apply_by_ticket-answer.result there h.place h.serial e.terms e.allowed e.journal) (c.exchange.ensures.3 ∙ ap (λ s. (c.args.seat.now.me.0, (0, s) ∷ rest c.args.seat.now.me.1)) c.with.ensures) c.store.ensures.2 in
     own_behind c.law_calls_are_lines.ensures.lines (pen_at c.args.seat.now.me) (ByTicket c.args.ticketed) c.apply_by_ticket-answer.result told.1 h.idle may
 
 pub returns-clause-barred : goal.returns-clause-barred
 returns-clause-barred g c =
     let e = c.apply_by_ticket-answer.ensures in
     let h = c.requires in
-    let there = ap home_of (c.deref_mut.ensures.value ∙ c.book.view_is) ∙ h.book in
-    let may = may_tell c.law_books_deal.ensures (pen_at c.args.seat.now.me).room (pen_at c.args.seat.now.me).hand c.deref_mut.result.now (ByTicket c.args.ticketed) c.apply_by_ticket-answer.result there e.answer in
+    let there = (c.deref_mut.ensures.value ∙ c.book.view_is) ∙ h.book in
+    let may = in_hand (pen_at c.args.seat.now.me) c.deref_mut.result.now (ByTicket c.args.ticketed) c.apply_by_ticket-answer.result there e.answer in
     let told = released_with c.args.seat.now.me _ c.store.new.seat.me c.apply_by_ticket-answer.new.self (ByTicket c.args.ticketed) c.apply_by_ticket-answer.result h.slot may
-    (carried_out c.args.seat.now.me c.args.place c.args.serial c.deref_mut.result.now c.apply_by_ticket-answer.new.self (ByTicket c.args.ticketed) c.apply_by_ticket-answer.result there h.place h.serial e.terms e.journal) (c.exchange.ensures.3 ∙ ap (λ s. (c.args.seat.now.me.0, (0, s) ∷ rest c.args.seat.now.me.1)) c.with.ensures) c.store.ensures.2 in
+    (carried_out (pen_at c.args.seat.now.me) c.args.place c.args.serial c.deref_mut.result.now c.apply_by_ticket-answer.new.self (ByTicket c.args.ticketed) c.apply_by_ticket-answer.result there h.place h.serial e.terms e.allowed e.journal) (c.exchange.ensures.3 ∙ ap (λ s. (c.args.seat.now.me.0, (0, s) ∷ rest c.args.seat.now.me.1)) c.with.ensures) c.store.ensures.2 in
     own_barred (pen_at c.args.seat.now.me) (ByTicket c.args.ticketed) c.apply_by_ticket-answer.result told.1 may
 
 pub returns-clause-full : goal.returns-clause-full
 returns-clause-full g c =
     let e = c.apply_by_ticket-answer.ensures in
     let h = c.requires in
-    let there = ap home_of (c.deref_mut.ensures.value ∙ c.book.view_is) ∙ h.book in
-    let may = may_tell c.law_books_deal.ensures (pen_at c.args.seat.now.me).room (pen_at c.args.seat.now.me).hand c.deref_mut.result.now (ByTicket c.args.ticketed) c.apply_by_ticket-answer.result there e.answer in
+    let there = (c.deref_mut.ensures.value ∙ c.book.view_is) ∙ h.book in
+    let may = in_hand (pen_at c.args.seat.now.me) c.deref_mut.result.now (ByTicket c.args.ticketed) c.apply_by_ticket-answer.result there e.answer in
     let told = released_with c.args.seat.now.me _ c.store.new.seat.me c.apply_by_ticket-answer.new.self (ByTicket c.args.ticketed) c.apply_by_ticket-answer.result h.slot may
-    (carried_out c.args.seat.now.me c.args.place c.args.serial c.deref_mut.result.now c.apply_by_ticket-answer.new.self (ByTicket c.args.ticketed) c.apply_by_ticket-answer.result there h.place h.serial e.terms e.journal) (c.exchange.ensures.3 ∙ ap (λ s. (c.args.seat.now.me.0, (0, s) ∷ rest c.args.seat.now.me.1)) c.with.ensures) c.store.ensures.2 in
+    (carried_out (pen_at c.args.seat.now.me) c.args.place c.args.serial c.deref_mut.result.now c.apply_by_ticket-answer.new.self (ByTicket c.args.ticketed) c.apply_by_ticket-answer.result there h.place h.serial e.terms e.allowed e.journal) (c.exchange.ensures.3 ∙ ap (λ s. (c.args.seat.now.me.0, (0, s) ∷ rest c.args.seat.now.me.1)) c.with.ensures) c.store.ensures.2 in
     λ f. subst (λ (m : Seated). IsFullFor (pen_at m)) (sym told.0.1) (own_full (pen_at c.args.seat.now.me) (ByTicket c.args.ticketed) c.apply_by_ticket-answer.result told.0.0 f)
 
 pub returns-clause-answers : goal.returns-clause-answers
 returns-clause-answers g c =
     let e = c.apply_by_ticket-answer.ensures in
     let h = c.requires in
-    let there = ap home_of (c.deref_mut.ensures.value ∙ c.book.view_is) ∙ h.book in
-    own_answer_fits g.P.Part.wide (pen_at c.args.seat.now.me).room (pen_at c.args.seat.now.me).hand (ByTicket c.args.ticketed) c.apply_by_ticket-answer.result
-    (may_tell c.law_books_deal.ensures (pen_at c.args.seat.now.me).room (pen_at c.args.seat.now.me).hand c.deref_mut.result.now (ByTicket c.args.ticketed) c.apply_by_ticket-answer.result there e.answer) e.proper
+    let there = (c.deref_mut.ensures.value ∙ c.book.view_is) ∙ h.book in
+    own_answer_fits g.P.Part.wide (limits_in_hand (pen_at c.args.seat.now.me)) (pen_at c.args.seat.now.me).hand (ByTicket c.args.ticketed) c.apply_by_ticket-answer.result
+    (in_hand (pen_at c.args.seat.now.me) c.deref_mut.result.now (ByTicket c.args.ticketed) c.apply_by_ticket-answer.result there e.answer) e.proper
 
 pub apply_by_ticket-answer-requires : goal.apply_by_ticket-answer-requires
 apply_by_ticket-answer-requires g c =
     let h = c.requires in
-    let there = ap home_of (c.deref_mut.ensures.value ∙ c.book.view_is) ∙ h.book in
+    let there = (c.deref_mut.ensures.value ∙ c.book.view_is) ∙ h.book in
     let p = pen_at c.args.seat.now.me in
     let lt : last_serial p.place p.hand < p.posts + 1 = above_the_last p.place (p.posts + 1) p.hand (omega arith, omega (arith, h.serial, h.few)) h.used in
-    subst (λ (b : Home). last_serial c.args.place b.journal < c.args.serial) (sym there)
+    subst (λ (b : Volume). last_serial c.args.place b.journal < c.args.serial) (sym there)
     (subst (λ k. last_serial k p.hand < c.args.serial) (sym h.place) (subst (λ s. last_serial p.place p.hand < s) (sym h.serial) lt))
 
 pub returns-clause-spare : goal.returns-clause-spare
 returns-clause-spare g c =
-    let there = ap home_of (c.deref_mut.ensures.value ∙ c.book.view_is) ∙ c.requires.book in
-    λ all. c.apply_by_ticket-answer.ensures.spare (subst (λ (b : Home). AllHaveRoom g.S.Store.room (length (left b.journal) + 1)) (sym there) all)
+    let there = (c.deref_mut.ensures.value ∙ c.book.view_is) ∙ c.requires.book in
+    λ all. c.apply_by_ticket-answer.ensures.spare (subst (λ (b : Volume). AllHaveRoom g.S.Store.room (length (left b.journal) + 1)) (sym there) all)
 
 pub exchange-requires : goal.exchange-requires
 exchange-requires g c = (c.requires.here, (out, c.requires.slot ∙ ap (λ l. (0, out) ∷ rest l) (sym c.requires.slot)))

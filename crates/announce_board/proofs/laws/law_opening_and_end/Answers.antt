@@ -9,5 +9,5 @@ returns g c =
       opens = opening_kept _ _ runs.openings words.fresh;
       deals = dealing_allowed _ _ c.law_reached_desks.ensures.goes_on runs.dealing;
       ends = ends_are_told _ _ words.read_back c.law_pens_know.ensures.home c.law_each_step_keeps_the_rule.ensures.seated
-          c.law_dealt_runs_are_linearizable.ensures.linearizable c.law_times.ensures.timed;
+          c.law_dealt_runs_are_linearizable.ensures.linearizable c.law_times.ensures.timed c.law_archiving.ensures.runs c.law_archiving.ensures.rise;
     }

@@ -4,7 +4,7 @@ use prog.Atomic.{either}
 use Rattle.atomic_table.specs.Table.{step}
 use Rattle.pq_book.specs.Book.{AllHaveRoom}
 use Rattle.desk_core.specs.Layout.{lock_at}
-use Rattle.announce_board.specs.Steps.{Drafted, PostStored, LockRead, LockTried, MailRead, ItemRead, ItemLaid, AnswerStored, Applied, Released, ReleasedWith, AnswerLooked, ItemSeen, ItemTaken}
+use Rattle.announce_board.specs.Steps.{Drafted, PostStored, LockRead, LockTried, MailRead, ItemRead, ItemLaid, AnswerStored, Applied, Archived, Released, ReleasedWith, AnswerLooked, ItemSeen, ItemTaken}
 use Rattle.announce_board.proofs.Allows.{plainly}
 use Rattle.announce_board.proofs.laws.law_steps_are_allowed.Goals as goal
 
@@ -21,8 +21,9 @@ returns g c =
       lay_item = λ room terms places slots id m is i w j due x a b d e f h o. plainly g.P.Part.wide (AllHaveRoom g.S.Store.room) room terms places slots id m i (λ _. w) (λ _. ItemLaid g.P.Part.wide (step slots i w 0 none) m w) (moves.lay_item room terms places slots id m is i w j due x a b d e f h o);
       answer = λ room terms places slots id m is i w due q x a b d e f h o u v. plainly g.P.Part.wide (AllHaveRoom g.S.Store.room) room terms places slots id m i (λ _. w) (λ _. AnswerStored (step slots i w 0 none) m w) (moves.answer room terms places slots id m is i w due q x a b d e f h o u v);
       apply = λ room terms places slots id m is others q x a b d e f h. plainly g.P.Part.wide (AllHaveRoom g.S.Store.room) room terms places slots id m lock_at (λ n. n) (Applied (step slots lock_at 0 0 none) m) (moves.apply room terms places slots id m is others q x a b d e f h);
-      release = λ room terms places slots id m is others a b d. plainly g.P.Part.wide (AllHaveRoom g.S.Store.room) room terms places slots id m lock_at (λ _. 0) (λ _. Released (step slots lock_at 0 0 none) m 0) (moves.release room terms places slots id m is others a b d);
-      release_with = λ room terms places slots id m is others q x a b d e f h o u. plainly g.P.Part.wide (AllHaveRoom g.S.Store.room) room terms places slots id m lock_at (λ _. 0) (λ _. ReleasedWith (step slots lock_at 0 0 none) m 0) (moves.release_with room terms places slots id m is others q x a b d e f h o u);
+      archive = λ room terms places slots id m is others n a b. plainly g.P.Part.wide (AllHaveRoom g.S.Store.room) room terms places slots id m lock_at (λ k. k) (Archived (step slots lock_at 0 0 none) m) (moves.archive room terms places slots id m is others n a b);
+      release = λ room terms places slots id m is others a b. plainly g.P.Part.wide (AllHaveRoom g.S.Store.room) room terms places slots id m lock_at (λ _. 0) (λ _. Released (step slots lock_at 0 0 none) m 0) (moves.release room terms places slots id m is others a b);
+      release_with = λ room terms places slots id m is others q x a b d e f h o. plainly g.P.Part.wide (AllHaveRoom g.S.Store.room) room terms places slots id m lock_at (λ _. 0) (λ _. ReleasedWith (step slots lock_at 0 0 none) m 0) (moves.release_with room terms places slots id m is others q x a b d e f h o);
       look = λ room terms places slots id m is i q a b. plainly g.P.Part.wide (AllHaveRoom g.S.Store.room) room terms places slots id m i (λ n. n) (AnswerLooked (AllHaveRoom g.S.Store.room) (step slots i 0 0 none) m) (moves.look room terms places slots id m is i q a b);
       see_item = λ room terms places slots id m is i j q n a b d e f. plainly g.P.Part.wide (AllHaveRoom g.S.Store.room) room terms places slots id m i (λ n. n) (ItemSeen g.P.Part.wide (step slots i 0 0 none) m) (moves.see_item room terms places slots id m is i j q n a b d e f);
       take_item = λ room terms places slots id m is i j q n a b d e f. plainly g.P.Part.wide (AllHaveRoom g.S.Store.room) room terms places slots id m i (λ n. n) (ItemTaken g.P.Part.wide (step slots i 0 0 none) m) (moves.take_item room terms places slots id m is i j q n a b d e f);

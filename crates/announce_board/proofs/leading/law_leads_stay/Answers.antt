@@ -1,5 +1,5 @@
-use Rattle.announce_board.proofs.Leads.{draft_keeps, post_keeps, look_keeps, archive_keeps, terms_stay, archive_keeps_terms}
+use Rattle.announce_board.proofs.Leads.{draft_keeps, post_keeps, look_keeps}
 use Rattle.announce_board.proofs.leading.law_leads_stay.Goals as goal
 
 pub returns : goal.returns
-returns c = record { draft = draft_keeps; post = post_keeps; look = look_keeps; archive = archive_keeps; terms = terms_stay; archived = archive_keeps_terms }
+returns c = record { draft = draft_keeps; post = post_keeps; look = look_keeps }

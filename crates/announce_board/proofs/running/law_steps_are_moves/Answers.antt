@@ -16,6 +16,7 @@ returns g c =
       lay_item = kept.lay_item;
       answer = kept.answer;
       apply = kept.apply;
+      archive = kept.archive;
       release = kept.release;
       release_by = kept.release_by;
       look = kept.look;
@@ -36,6 +37,8 @@ returns g c =
       by_word = words.by_word;
       mix = words.mix;
       goes_on = c.law_reached_desks.ensures.goes_on;
+      limited = c.law_archiving.ensures.runs;
+      rise = c.law_archiving.ensures.rise;
     } in
     record {
       draft = allows.draft_allowed laws _ _;
@@ -47,6 +50,7 @@ returns g c =
       lay_item = allows.lay_item_allowed laws _ _;
       answer = allows.answer_allowed laws _ _;
       apply = allows.apply_allowed laws _ _;
+      archive = allows.archive_allowed laws _ _;
       release = allows.release_allowed laws _ _;
       release_looks = allows.release_looks laws _ _;
       release_with = allows.release_with_allowed laws _ _;

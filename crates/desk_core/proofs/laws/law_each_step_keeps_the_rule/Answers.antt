@@ -17,6 +17,7 @@ returns c =
       lay_item = kept.lay;
       answer = kept.answer laws;
       apply = kept.apply laws;
+      archive = kept.archive;
       release = kept.release;
       release_by = kept.release_by laws;
       look = kept.look;

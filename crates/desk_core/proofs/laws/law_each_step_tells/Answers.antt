@@ -12,6 +12,7 @@ returns c =
       lay_item = told.lay_item_tells;
       answer = told.answer_tells;
       apply = told.apply_tells;
+      archive = told.archive_tells;
       release = told.release_tells;
       release_by = told.release_by_tells;
       look = told.look_tells;

@@ -7,9 +7,8 @@ use Rattle.pq_types.specs.declared.request.Request.TheVariants.{Pop}
 use Rattle.pq_types.specs.declared.answer.Answer.TheVariants.{Entered}
 use Rattle.pq_types.specs.declared.answer.Reply.TheVariants.{Got}
 use Rattle.pq_types.specs.History.{left, MayAnswer}
-use Rattle.pq_book.specs.Book.{limits_of}
+use Rattle.pq_book.specs.Book.{Volume, limits_of}
 use Rattle.leftist_heap.specs.Store.{first_of}
-use Rattle.desk_core.specs.Home.{Home}
 use Rattle.announce_board.specs.Tokens.{AtDesk, is_idle}
 use Rattle.flat_queue.proofs.Together.{popped_on, popped_due}
 use Rattle.flat_queue.proofs.batches.pop_each.Goals as goal
@@ -22,9 +21,9 @@ loop-done-preserved g c =
     let q = c.loop-done.pen.state in
     let is : c.apply-next.result.1 ≡ Entered c.in-Entered.field-0 (Got x) = c.in-Entered.is ∙ ap (Entered c.in-Entered.field-0) c.in-Got.is in
     let limits = limits_of c.args.lead.book in
-    let asked : MayAnswer limits q.hand Pop c.apply-next.result.1 = subst (λ l. MayAnswer l q.hand Pop c.apply-next.result.1) i.limits e.may in
+    let asked : MayAnswer limits q.hand Pop c.apply-next.result.1 = subst (λ l. MayAnswer l q.hand Pop c.apply-next.result.1) (sym (ap limits_of i.lead.book) ∙ i.limits) e.may in
     let may : MayAnswer limits q.hand Pop (Entered c.in-Entered.field-0 (Got x)) = subst (MayAnswer limits q.hand Pop) is asked in
-    let first : c.first.result ≡ first_of (left q.hand) = c.first.ensures ∙ ap (λ (b : Home). first_of (left b.journal)) i.lead.book in
+    let first : c.first.result ≡ first_of (left q.hand) = c.first.ensures ∙ ap (λ (b : Volume). first_of (left b.journal)) i.lead.book in
     let low : x.priority ≤ g.P.Part.number c.args.priority = popped_due (g.P.Part.number c.args.priority) c.first.result (left q.hand) x first (sym c.if-not-is_due.ensures) may.2 in
     let room : c.loop-done.done < length c.loop-done.into = omega (arith, i.slots, c.bounded-end.ensures.within, c.loop-done-test.true) in
     record {

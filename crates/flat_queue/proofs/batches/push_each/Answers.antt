@@ -13,7 +13,7 @@ loop-done-preserved g c =
     let i = c.loop-done.invariant in
     let e = c.apply-next.ensures in
     let limits = limits_of c.args.lead.book in
-    let may : MayAnswer limits c.loop-done.pen.state.hand (Push c.index-items-done.result) c.apply-next.result.1 = subst (λ l. MayAnswer l c.loop-done.pen.state.hand (Push c.index-items-done.result) c.apply-next.result.1) i.limits e.may in
+    let may : MayAnswer limits c.loop-done.pen.state.hand (Push c.index-items-done.result) c.apply-next.result.1 = subst (λ l. MayAnswer l c.loop-done.pen.state.hand (Push c.index-items-done.result) c.apply-next.result.1) (sym (ap limits_of i.lead.book) ∙ i.limits) e.may in
     record {
       table = ap (λ (a : AtDesk). a.table) e.after.1 ∙ i.table;
       place = ap (λ (a : AtDesk). a.state.place) e.after.1 ∙ i.place;
@@ -31,7 +31,7 @@ returns-in-NoMemory-clause-applies g c =
     let i = c.loop-done.invariant in
     let e = c.apply-next.ensures in
     let limits = limits_of c.args.lead.book in
-    let may : MayAnswer limits c.loop-done.pen.state.hand (Push c.index-items-done.result) c.apply-next.result.1 = subst (λ l. MayAnswer l c.loop-done.pen.state.hand (Push c.index-items-done.result) c.apply-next.result.1) i.limits e.may in
+    let may : MayAnswer limits c.loop-done.pen.state.hand (Push c.index-items-done.result) c.apply-next.result.1 = subst (λ l. MayAnswer l c.loop-done.pen.state.hand (Push c.index-items-done.result) c.apply-next.result.1) (sym (ap limits_of i.lead.book) ∙ i.limits) e.may in
     out_of_memory limits c.args.most (IsPushAt c.args.items.now c.loop-done.done) c.args.pen.now.state c.loop-done.pen.state c.apply-next.new.pen.state _ (Push c.index-items-done.result) c.apply-next.result.1 e.after.0
     (next_push c.args.items.now c.loop-done.done c.index-items-done.result (omega (arith, c.bounded-end.ensures.within, c.loop-done-test.true)) c.index-items-done.is) i.applies may
     (ap (λ (a : AtDesk). a.state) e.after.1) c.in-NoMemory.is
@@ -41,7 +41,7 @@ returns-in-BookFull-clause-applies g c =
     let i = c.loop-done.invariant in
     let e = c.apply-next.ensures in
     let limits = limits_of c.args.lead.book in
-    let may : MayAnswer limits c.loop-done.pen.state.hand (Push c.index-items-done.result) c.apply-next.result.1 = subst (λ l. MayAnswer l c.loop-done.pen.state.hand (Push c.index-items-done.result) c.apply-next.result.1) i.limits e.may in
+    let may : MayAnswer limits c.loop-done.pen.state.hand (Push c.index-items-done.result) c.apply-next.result.1 = subst (λ l. MayAnswer l c.loop-done.pen.state.hand (Push c.index-items-done.result) c.apply-next.result.1) (sym (ap limits_of i.lead.book) ∙ i.limits) e.may in
     out_of_lines limits c.args.most (IsPushAt c.args.items.now c.loop-done.done) c.args.pen.now.state c.loop-done.pen.state c.apply-next.new.pen.state _ (Push c.index-items-done.result) c.apply-next.result.1 e.after.0
     (next_push c.args.items.now c.loop-done.done c.index-items-done.result (omega (arith, c.bounded-end.ensures.within, c.loop-done-test.true)) c.index-items-done.is) i.applies may
     (ap (λ (a : AtDesk). a.state) e.after.1) c.in-BookFull.is
@@ -51,7 +51,7 @@ returns-in-Refused-clause-applies g c =
     let i = c.loop-done.invariant in
     let e = c.apply-next.ensures in
     let limits = limits_of c.args.lead.book in
-    let may : MayAnswer limits c.loop-done.pen.state.hand (Push c.index-items-done.result) c.apply-next.result.1 = subst (λ l. MayAnswer l c.loop-done.pen.state.hand (Push c.index-items-done.result) c.apply-next.result.1) i.limits e.may in
+    let may : MayAnswer limits c.loop-done.pen.state.hand (Push c.index-items-done.result) c.apply-next.result.1 = subst (λ l. MayAnswer l c.loop-done.pen.state.hand (Push c.index-items-done.result) c.apply-next.result.1) (sym (ap limits_of i.lead.book) ∙ i.limits) e.may in
     ruled_out limits c.args.most (IsPushAt c.args.items.now c.loop-done.done) c.args.pen.now.state c.loop-done.pen.state c.apply-next.new.pen.state _ (Push c.index-items-done.result) c.apply-next.result.1 c.why.result e.after.0
     (next_push c.args.items.now c.loop-done.done c.index-items-done.result (omega (arith, c.bounded-end.ensures.within, c.loop-done-test.true)) c.index-items-done.is) i.applies may
     (ap (λ (a : AtDesk). a.state) e.after.1) (c.in-Refused.is ∙ ap answer.Refused (sym c.why.ensures))

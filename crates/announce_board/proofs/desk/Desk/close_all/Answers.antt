@@ -25,7 +25,7 @@ returns-clause-home g c =
     c.close_with-closed.ensures.values.2 c.take-slot.ensures.value (sym c.self.invariant.room_is ∙ ap (λ (d : Running). d.room) c.self.view_is)
     (sym c.self.invariant.terms_are ∙ ap (λ (d : Running). d.terms) c.self.view_is)
     (sym c.self.invariant.places_are ∙ ap (λ (d : Running). d.places) c.self.view_is) c.requires.all in
-    subst (IsHomeWithAll c.args.self.room c.args.testimony.pens) (book_got t.0 c.unwrap.result _ t.1 (sym c.unwrap.ensures ∙ c.into_inner.ensures) ∙ sym c.into_book.ensures) t.2.home
+    subst (IsHomeWithAll c.args.self.room c.args.self.terms c.args.testimony.pens) (book_got t.0 c.unwrap.result _ t.1 (sym c.unwrap.ensures ∙ c.into_inner.ensures) ∙ sym c.into_book.ensures) t.2.home
 
 pub returns-clause-knows : goal.returns-clause-knows
 returns-clause-knows g c =

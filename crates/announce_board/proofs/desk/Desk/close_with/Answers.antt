@@ -9,13 +9,13 @@ use Rattle.announce_board.proofs.desk.Desk.close_with.Goals as goal
 pub returns-clause-ok : goal.returns-clause-ok
 returns-clause-ok g c =
     IfOk-weaker c.book_of.result _ _
-    (λ book h. home_as _ _ _ _ book (sym c.self.invariant.room_is ∙ ap (λ (d : Running). d.room) c.self.view_is) (ap (λ (p : AtDesk). p.state) c.pen.view_is) (closes_with _ _ c.law_opening_and_end.ensures.ends _ _ _ _ c.pen.inside.seat.me _ _ _ _ c.pen.invariant.at.is c.close_with-closed.ensures.values.2 c.word-lock.ensures c.take-slot.ensures.value book h).0)
+    (λ book h. home_as _ _ _ _ _ _ book (sym c.self.invariant.room_is ∙ ap (λ (d : Running). d.room) c.self.view_is) (sym c.self.invariant.terms_are ∙ ap (λ (d : Running). d.terms) c.self.view_is) (ap (λ (p : AtDesk). p.state) c.pen.view_is) (closes_with _ _ c.law_opening_and_end.ensures.ends _ _ _ _ c.pen.inside.seat.me _ _ _ _ c.pen.invariant.at.is c.close_with-closed.ensures.values.2 c.word-lock.ensures c.take-slot.ensures.value book h).0)
     c.book_of.ensures.ok
 
 pub returns-clause-err : goal.returns-clause-err
 returns-clause-err g c =
     IfErr-weaker c.book_of.result _ _
-    (λ _ h. held_as _ _ _ _ (sym c.self.invariant.room_is ∙ ap (λ (d : Running). d.room) c.self.view_is) (ap (λ (p : AtDesk). p.state) c.pen.view_is) (closes_held _ _ c.law_opening_and_end.ensures.ends _ _ _ _ c.pen.inside.seat.me _ _ _ c.pen.invariant.at.is c.close_with-closed.ensures.values.2 c.word-lock.ensures h))
+    (λ _ h. held_as _ _ _ _ _ _ (sym c.self.invariant.room_is ∙ ap (λ (d : Running). d.room) c.self.view_is) (sym c.self.invariant.terms_are ∙ ap (λ (d : Running). d.terms) c.self.view_is) (ap (λ (p : AtDesk). p.state) c.pen.view_is) (closes_held _ _ c.law_opening_and_end.ensures.ends _ _ _ _ c.pen.inside.seat.me _ _ _ c.pen.invariant.at.is c.close_with-closed.ensures.values.2 c.word-lock.ensures h))
     c.book_of.ensures.err
 
 pub returns-clause-knows : goal.returns-clause-knows

@@ -1,7 +1,7 @@
 use Rattle.std.proofs.Common.{◌∙◌, ap, subst, sym}
 use Rattle.pq_types.specs.History.{left}
 use Rattle.leftist_heap.specs.Store.{first_of}
-use Rattle.desk_core.specs.Home.{Home}
+use Rattle.pq_book.specs.Book.{Volume}
 use Rattle.announce_board.specs.Asking.{IsAnswerTo}
 use Rattle.flat_queue.specs.UpTo.{request_up_to}
 use Rattle.flat_queue.proofs.OwnRequests.{is_ready}
@@ -30,7 +30,7 @@ returns-clause-carries g c =
         released = c.release_with.ensures.releases;
       };
       fits = subst (λ q. IsAnswerTo q.room request c.release_with.result) (sym c.requires.queue) c.release_with.ensures.answers;
-      chosen = c.choose-request.ensures ∙ ap (λ (b : Home). request_up_to (g.P.Part.number c.args.priority) (first_of (left b.journal))) c.serve_others-served.ensures.lead.book;
+      chosen = c.choose-request.ensures ∙ ap (λ (b : Volume). request_up_to (g.P.Part.number c.args.priority) (first_of (left b.journal))) c.serve_others-served.ensures.lead.book;
     }
 
 pub returns-clause-tells : goal.returns-clause-tells

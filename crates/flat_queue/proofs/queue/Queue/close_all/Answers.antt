@@ -53,8 +53,8 @@ returns g c =
     let told = ap (λ (t : Testified). t.pens) (is_told table pens (n + more) c.all_of.result c.unwrap-all.result c.unwrap-all.ensures whole) in
     let book = c.close_all.result in
     closes_all c.args.self members book c.requires.members c.all_of.ensures.rooms c.law_closed_are_linearized.ensures
-    (subst (λ r. IsHomeWithAll r pens book) (ap (λ (q : QueueName). q.room) c.self.view_is)
-    (subst (λ ps. IsHomeWithAll c.self.inside.desk.room ps book) told c.close_all.ensures.home))
+    (subst (λ (q : QueueName). IsHomeWithAll q.room q.terms pens book) c.self.view_is
+    (subst (λ ps. IsHomeWithAll c.self.inside.desk.room c.self.inside.desk.terms ps book) told c.close_all.ensures.home))
     (subst (λ ps. AllKnow ps book) told c.close_all.ensures.knows)
     (subst (λ ps. LinesAreOfThese ps book.journal) told c.close_all.ensures.only)
     (subst (λ k. HavePlaces k pens) (ap (λ (q : QueueName). q.places) c.self.view_is) (subst (λ ps. HavePlaces c.self.inside.desk.places ps) told c.close_all.ensures.placed))

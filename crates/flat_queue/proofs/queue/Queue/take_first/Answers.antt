@@ -1,7 +1,7 @@
 use Rattle.std.proofs.Common.{rules, ◌≡◌, ◌<◌, ap, subst, sym, length}
 use Rattle.pq_types.specs.History.{left, is_shut}
 use Rattle.leftist_heap.specs.Store.{first_of}
-use Rattle.desk_core.specs.Home.{Home}
+use Rattle.pq_book.specs.Book.{Volume}
 use Rattle.flat_queue.specs.Members.{Joined}
 use Rattle.flat_queue.specs.Looking.{IsLeft}
 use Rattle.flat_queue.proofs.OwnRequests.{is_ready}
@@ -15,7 +15,7 @@ release_with-answer-requires-clause-due g c =
 
 pub returns-clause-looks : goal.returns-clause-looks
 returns-clause-looks g c =
-    let journal = ap (λ (b : Home). b.journal) c.serve_others-served.ensures.lead.book in
+    let journal = ap (λ (b : Volume). b.journal) c.serve_others-served.ensures.lead.book in
     let here : c.room.result ≡ c.args.member.now.queue.room = search rules in
     let spare = subst (λ n. length c.serve_others-served.new.member.pen.hand < n) here
     (subst (λ l. length l < c.room.result) journal c.in-Some.ensures.some.1) in

@@ -1,5 +1,4 @@
 use Rattle.std.proofs.Common.{◌≡◌, IfSome}
-use Rattle.announce_board.specs.Slots.{MeetsTerms}
 use Rattle.announce_board.specs.Tokens.{IsLeadOf}
 use Rattle.part_tests.proofs.tables.desk_schedules.plays.Given as goal
 
@@ -7,6 +6,5 @@ abbrev pub invariant-loop-step : goal.invariant-loop-step
 invariant-loop-step g l = record {
   leader : l.leader.table ≡ l.desk.table;
   lead : IfSome l.lead (λ x. IsLeadOf l.leader x);
-  terms : IfSome l.lead (λ x. MeetsTerms l.desk.terms x.book);
   asker : l.asker.table ≡ l.desk.table;
 }

@@ -18,10 +18,9 @@
  * All that a thread does before it pushes or moves an item happens before what another does after a call that returned it. So a value may be
  * a pointer.
  *
- * Nothing checks these duties of the caller. Pointers are valid. A member that was joined is in one call at a time; a queue, and
- * pq_own(queue), may be in calls of many threads. No call is made from a signal handler, or left by longjmp. Nothing is used after it was
- * freed. A thread that dies in a call may keep the queue's lock: then calls with a deadline time out, and others hang. If it keeps another lock,
- * any call may hang.
+ * Unchecked preconditions: pointers are valid. A joined member is in one call at a time. No call is made from a signal handler, or left by
+ * longjmp. Nothing is used after it was freed. A queue, and pq_own(queue), may be in calls of many threads. A thread that dies in a call may
+ * keep the queue's lock: then calls with a deadline time out, and others hang. If it keeps another lock, any call may hang.
  */
 #ifndef FLATPQ_H
 #define FLATPQ_H
@@ -56,7 +55,7 @@ typedef enum pq_code {
     PQ_BAD_OPTION = 5,    /* an option, or a number of entries, is out of its range */
     PQ_NO_MEMORY = 6,     /* memory was refused */
     PQ_JOURNAL_FULL = 10, /* the journal is full, and stays full */
-    PQ_EXHAUSTED = 11,    /* the member has made all its requests: 2^56, or 2^24 - 1 where the journal fills */
+    PQ_EXHAUSTED = 11,    /* the member has made all its requests: 2^56, or 2^24 - 1 if the journal fills */
     PQ_NOT_WRITTEN = 31,  /* a write failed */
     PQ_MEMBERS_LEFT = 40, /* a member was not given back, or is in a call */
     PQ_ALL_JOINED = 41,   /* as many members are in use as the queue was opened for, or this one is the last awake */
@@ -86,7 +85,7 @@ const char *pq_code_text(uint32_t code);
 /* The version of the library. It fits a header of the same major and minor version that is not newer: a patch may add calls. */
 uint32_t pq_version(void);
 
-/* Times are nanoseconds of CLOCK_MONOTONIC. pq_after: so many from now; PQ_FOREVER where there is no such time. */
+/* Times are nanoseconds of CLOCK_MONOTONIC. pq_after: so many from now; PQ_FOREVER if there is no such time. */
 #define PQ_NOW 0u
 #define PQ_FOREVER UINT64_MAX
 uint64_t pq_now(void);
@@ -121,9 +120,9 @@ PQ_CHECKED pq_code pq_open(const pq_options *options, pq_queue **queue);
 
 /* Shuts the queue down for good: each push that begins from now on is refused (PQ_SHUT), and so are those that wait for room. Threads that wait
    for an item take what is left, and return PQ_SHUT once nothing is left; no item comes after that. The shut has an entry (PQ_SHUTS), but in a
-   full journal, which refuses pushes as before. The call waits for nothing. Where it finds all members in use, or the lock held, the next call by
-   a member makes the shut first, with that call's deadline. Where the shut's entry could make memory forget an unarchived one it is made once
-   more is archived; until then each request is refused (PQ_UNARCHIVED). It may be called again. PQ_OK; PQ_CLOSED, PQ_FORKED. */
+   full journal, which refuses pushes as before. The call waits for nothing. If it finds all members in use, or the lock held, the next call by
+   a member makes the shut first, with that call's deadline. If the shut's entry could make memory forget an unarchived one, it is added as
+   soon as more has been archived. Until then each request is refused (PQ_UNARCHIVED). It may be called again. PQ_OK; PQ_CLOSED, PQ_FORKED. */
 pq_code pq_shut(pq_queue *queue);
 
 /* 1: the queue is shut, so each push that begins from now on is refused. 0: none was refused for that before this call; or in a forked child. */
@@ -140,7 +139,7 @@ PQ_CHECKED pq_code pq_close(pq_queue *queue, pq_journal **journal);
 void pq_free(pq_queue *queue, void (*left)(void *context, pq_item item), void *context);
 
 /* The calling thread's own member, as a pointer that all threads may share. A thread gets its member at its first call, and gives it back when
-   it ends. Where all members are in use, a call takes over one that its thread does not use, or waits for one until its `until`. So more
+   it ends. If all members are in use, a call takes over one that its thread does not use, or waits for one until its `until`. So more
    threads than members may call, and wait for an item (pq_take). A thread that waits for room keeps its member. So open a queue with a bound
    for more members than threads that wait for room. Else the take that would end their wait may itself wait for ever. */
 pq_member *pq_own(pq_queue *queue);
@@ -148,7 +147,7 @@ pq_member *pq_own(pq_queue *queue);
 /* Gives the calling thread's own member back now, if the thread has one. */
 void pq_leave(pq_queue *queue);
 
-/* Joins the queue. Where all members are in use, it takes over one that its thread does not use (pq_own). Else it waits until then for one that
+/* Joins the queue. If all members are in use, it takes over one that its thread does not use (pq_own). Else it waits until then for one that
    is given back. The member may move between threads. PQ_OK; PQ_ALL_JOINED, PQ_NO_MEMORY, PQ_CLOSED, PQ_FORKED: *member is NULL. */
 PQ_CHECKED pq_code pq_join(pq_queue *queue, uint64_t until, pq_member **member);
 
@@ -156,15 +155,15 @@ PQ_CHECKED pq_code pq_join(pq_queue *queue, uint64_t until, pq_member **member);
 void pq_give_back(pq_member *member);
 
 /* The place of the member, by which journal entries name it: 0 to 2079, and no two members have the same at once. Of pq_own it is that of
-   the thread's member, or UINT32_MAX where the thread has none at the moment. */
+   the thread's member, or UINT32_MAX if the thread has none at the moment. */
 uint32_t pq_place(pq_member *member);
 
 /* Requests. Each of these calls may also return PQ_NO_MEMBER, PQ_FORKED, PQ_EXHAUSTED, PQ_JOURNAL_FULL or PQ_UNARCHIVED. It may return
    PQ_TIMED_OUT unless `until` is PQ_FOREVER; a call by pq_own also PQ_CLOSED or PQ_NO_MEMORY. A call without `until` doesn't wait. number
    may be NULL; else *number is the number of the journal entry, if there is one. The first that is true refuses a request: PQ_JOURNAL_FULL,
-   PQ_SHUT, PQ_UNARCHIVED, PQ_FULL, PQ_NO_MEMORY. Where nothing is there to take, a call that takes is refused for PQ_JOURNAL_FULL alone. */
+   PQ_SHUT, PQ_UNARCHIVED, PQ_FULL, PQ_NO_MEMORY. If nothing is there to take, a call that takes is refused for PQ_JOURNAL_FULL alone. */
 
-/* Puts an item in. Where the queue has as many items as pq_options allow, the call waits until one goes out, and keeps its member meanwhile.
+/* Puts an item in. If the queue has as many items as pq_options allow, the call waits until one goes out, and keeps its member meanwhile.
    PQ_OK; PQ_FULL: there was no room until then; PQ_SHUT, PQ_NO_MEMORY. */
 PQ_CHECKED pq_code pq_push(pq_member *member, pq_item item, uint64_t until, uint64_t *number);
 
@@ -177,7 +176,8 @@ PQ_CHECKED pq_code pq_peek(pq_member *member, pq_item *item, uint64_t until, uin
 PQ_CHECKED pq_code pq_pop_due(pq_member *member, uint64_t priority, pq_item *item, uint64_t until, uint64_t *number);
 
 /* Waits for an item, and takes the first one out. PQ_OK; PQ_EMPTY: none came until then; PQ_SHUT: the queue is shut and empty. Only PQ_OK has an
-   entry. A thread that waits keeps its member. But of two or more that are not joined one stays awake: by pq_own a thread then waits without. */
+   entry. A thread that waits keeps its member, and at a queue for one member all others wait meanwhile. But of two or more members that are not
+   joined, one stays awake: the thread that would sleep with it waits without a member. */
 PQ_CHECKED pq_code pq_take(pq_member *member, pq_item *item, uint64_t until, uint64_t *number);
 
 /* Waits until the first item is due, also in a shut queue, and takes it out. Priorities are times (pq_options); by default those of pq_now.
@@ -204,7 +204,8 @@ PQ_CHECKED pq_code pq_remove(pq_member *member, uint64_t ticket, pq_item *item, 
    queue too. PQ_OK; PQ_GONE, which has an entry too; PQ_NO_TICKETS; PQ_NO_MEMORY: the item stays as it was. */
 PQ_CHECKED pq_code pq_reschedule(pq_member *member, uint64_t ticket, uint64_t priority, uint64_t until, uint64_t *number);
 
-/* For event loops and futures. A thread that listens by pq_own keeps its member. The last that is awake (pq_take) doesn't listen: PQ_ALL_JOINED. */
+/* For event loops and futures. A thread that listens by pq_own keeps its member. The last that is awake (pq_take) doesn't listen: PQ_ALL_JOINED.
+   A member listens for one thing at a time: a call to listen for another ends that. It may push, pop and peek meanwhile. */
 
 /* Takes the first item out if it is due (pq_take_due); else the member listens by `timer`, a timerfd of CLOCK_MONOTONIC that no other member
    has. It is readable once the first item is due, when an earlier one comes, on a shut, or sometimes for nothing. Then call again, while this
@@ -214,11 +215,11 @@ PQ_CHECKED pq_code pq_reschedule(pq_member *member, uint64_t ticket, uint64_t pr
 PQ_CHECKED pq_code pq_take_due_or_listen(pq_member *member, int timer, pq_item *item, uint64_t *number);
 
 /* Takes the first item out if its priority is at most this one; else the member listens. It does not wait for the queue's lock.
-   PQ_OK; PQ_EMPTY: it listens; PQ_NOT_DUE: it listens, and *item is the first item, and stays: call again when that is due at the latest;
-   PQ_SHUT; or a refusal. While the member listens, notify(context) is called at most once, after a push, move or shut, or for nothing. Any
-   thread that calls the queue may call it. If another thread has the lock for long, this call does, and returns PQ_EMPTY although items may be
-   there. After notify call again. notify must not wait or call this library. A push notifies one member. So all that listen shall pass the same
-   bound, or the current time. */
+   PQ_OK; PQ_EMPTY: it listens; PQ_NOT_DUE: it listens, and *item is the first item, and stays; PQ_SHUT; or a refusal. After PQ_NOT_DUE call
+   again once *item is within the bound: nothing notifies of that. While the member listens, notify(context) is called at most once, after a
+   push, move or shut, or for nothing. Any thread that calls the queue may call it. If another thread has the lock for long, this call does, and
+   returns PQ_EMPTY although items may be there. After notify call again. notify must not wait or call this library. A push notifies one member.
+   So all that listen shall pass the same bound, or the current time. */
 PQ_CHECKED pq_code pq_take_or_listen(pq_member *member, uint64_t priority, pq_item *item, uint64_t *number,
                                      void (*notify)(void *context), void *context);
 
@@ -277,8 +278,8 @@ PQ_CHECKED pq_code pq_write(const pq_journal *journal, int file);
 /* Reads a journal back from a file descriptor, to the end of the file. The text is what pq_write writes, of a journal from entry 1 on. Each line
    is checked: its checksum, that its number is the next one, and that its reply follows from the entries before. A text of an earlier version
    has no checksums. The journal is as that of a closed queue, and keeps the last 65536 entries. line and bytes may be NULL. Else *line is how many
-   lines are read, and *bytes the length of those before a torn or refused one. PQ_OK; PQ_TORN: the last line has no line feed, and is left out;
-   PQ_NOT_LAWFUL: line *line is refused, and *journal is NULL, as of PQ_NOT_READ, PQ_NO_MEMORY and PQ_PROCESSOR. */
+   lines are read, and *bytes the length of those before a torn or refused one. PQ_OK; PQ_TORN: the last line has no line feed, and is left out.
+   *journal is NULL of PQ_NOT_LAWFUL: line *line is refused; and of PQ_NOT_READ, PQ_NO_MEMORY and PQ_PROCESSOR. */
 PQ_CHECKED pq_code pq_journal_read(int file, pq_journal **journal, uint64_t *line, uint64_t *bytes);
 
 /* Takes the first item out that is left in a closed queue. PQ_OK; PQ_EMPTY. */

@@ -130,7 +130,7 @@ static pq_code try_until(uint32_t request, call *it) {
 }
 
 static pq_code try_and_post(uint32_t request, call *it) {
-    rest resting = flatpq_rest_of(it->member->queue, PQ_FOREVER);
+    rest resting = flatpq_rest_of(it->member->queue, PQ_FOREVER, 1);
     pq_code code = LOCK_HELD;
     while (code == LOCK_HELD && resting.now < resting.posts && flatpq_spins(&resting)) {
         code = try_call(request, it);

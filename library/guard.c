@@ -6,6 +6,7 @@
  */
 #include "inside.h"
 
+#include <errno.h>
 #include <limits.h>
 #include <linux/futex.h>
 #include <linux/membarrier.h>
@@ -21,7 +22,7 @@ void AnnotateIgnoreReadsEnd(const char *file, int line) __attribute__((weak));
 void AnnotateIgnoreWritesBegin(const char *file, int line) __attribute__((weak));
 void AnnotateIgnoreWritesEnd(const char *file, int line) __attribute__((weak));
 
-uint32_t flatpq_special, flatpq_may_spin;
+uint32_t flatpq_special, flatpq_processors;
 static pthread_once_t once = PTHREAD_ONCE_INIT;
 static int sees_forks;
 
@@ -33,7 +34,7 @@ static void begin(void) {
     cpu_set_t processors;
     uint32_t special = __tsan_acquire != NULL ? WATCHED : 0;
     CPU_ZERO(&processors);
-    flatpq_may_spin = sched_getaffinity(0, sizeof processors, &processors) != 0 || CPU_COUNT(&processors) > 1;
+    flatpq_processors = sched_getaffinity(0, sizeof processors, &processors) != 0 ? CPU_SETSIZE : (uint32_t)CPU_COUNT(&processors);
     if (syscall(SYS_membarrier, MEMBARRIER_CMD_REGISTER_PRIVATE_EXPEDITED, 0) != 0) {
         special |= FENCES;
     }
@@ -75,12 +76,18 @@ int flatpq_is_late(uint64_t until) {
     return until != PQ_FOREVER && (until == PQ_NOW || pq_now() >= until);
 }
 
+static struct timespec time_of(uint64_t nanoseconds) {
+    const uint64_t second = 1000000000;
+    struct timespec time = { (time_t)(nanoseconds / second), (long)(nanoseconds % second) };
+    return time;
+}
+
 /* The function syscall is no cancellation point. */
 int flatpq_sleep(const uint32_t *word, uint32_t seen, uint64_t until) {
-    const uint64_t second = 1000000000, farthest = 1000000 * second;
+    const uint64_t farthest = 1000000000000000;
     while (__atomic_load_n(word, SEQ) == seen) {
         uint64_t now = pq_now(), end = until > now + farthest ? now + farthest : until;
-        struct timespec time = { (time_t)(end / second), (long)(end % second) };
+        struct timespec time = time_of(end);
         if (now >= until) {
             return 1;
         }
@@ -90,10 +97,33 @@ int flatpq_sleep(const uint32_t *word, uint32_t seen, uint64_t until) {
     return 0;
 }
 
-void flatpq_nap(uint64_t nanoseconds) {
+/* Linux 5.16 has futex_waitv, which headers may be too old to declare. It ends a wait in time, which FUTEX_WAIT does some 50 us later, to spare
+   wakes of the processor. */
+#ifndef SYS_futex_waitv
+#define SYS_futex_waitv 449
+#endif
+struct waited {
+    uint64_t value, address;
+    uint32_t flags, reserved;
+};
+
+static int naps_exactly(const uint32_t *nobody, uint64_t until) {
+    const uint32_t of_32_bits = 2;
+    struct waited word = { *nobody, (uint64_t)(uintptr_t)nobody, of_32_bits | FUTEX_PRIVATE_FLAG, 0 };
+    struct timespec end = time_of(until);
+    return syscall(SYS_futex_waitv, &word, 1, 0, &end, CLOCK_MONOTONIC) >= 0 || errno == ETIMEDOUT || errno == EINTR;
+}
+
+void flatpq_nap(uint64_t until) {
+    static uint32_t is_refused; /* the system has no futex_waitv */
+    const uint64_t late = 50000;
     const uint32_t nobody = 0;
-    struct timespec time = { (time_t)(nanoseconds / 1000000000), (long)(nanoseconds % 1000000000) };
-    syscall(SYS_futex, &nobody, FUTEX_WAIT | FUTEX_PRIVATE_FLAG, 0, &time, NULL, 0);
+    if (__atomic_load_n(&is_refused, __ATOMIC_RELAXED) || !naps_exactly(&nobody, until)) {
+        uint64_t end = pq_now() + late;
+        struct timespec time = time_of(until > end ? until - end : 1);
+        __atomic_store_n(&is_refused, 1, __ATOMIC_RELAXED);
+        syscall(SYS_futex, &nobody, FUTEX_WAIT | FUTEX_PRIVATE_FLAG, 0, &time, NULL, 0);
+    }
 }
 
 static void wake(const uint32_t *word, int most) {

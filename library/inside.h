@@ -151,13 +151,13 @@ extern __thread pace flatpq_pace HIDDEN __attribute__((tls_model("initial-exec")
    or ThreadSanitizer watches. It changes at the first opening, and in a child. */
 extern uint32_t flatpq_special HIDDEN;
 enum { FORKED = 1, FENCES = 2, WATCHED = 4 };
-extern uint32_t flatpq_may_spin HIDDEN; /* there is more than one processor */
+extern uint32_t flatpq_processors HIDDEN; /* of which the process may use so many; where there is one no call spins */
 
 HIDDEN pq_code flatpq_may_open(void);
 HIDDEN pq_code flatpq_may_read(void);
 HIDDEN int flatpq_barrier(void);                                             /* in all threads of the process: whether it was made */
 HIDDEN int flatpq_sleep(const uint32_t *word, uint32_t seen, uint64_t until); /* while the word is that: 0; 1: the time has come */
-HIDDEN void flatpq_nap(uint64_t nanoseconds);
+HIDDEN void flatpq_nap(uint64_t until);
 HIDDEN void flatpq_wake(const uint32_t *word);
 HIDDEN void flatpq_wake_each(const uint32_t *word);
 HIDDEN int flatpq_is_late(uint64_t until);
@@ -266,12 +266,11 @@ static inline void flatpq_end_keeping(own *mine, const pq_member *member) {
  * resting.c: how a call rests that finds the lock held.
  */
 typedef struct rest {
-    const pq_queue *queue;
-    uint64_t until;
+    uint64_t until, nap; /* how long a nap is */
     uint64_t now, posts, ends; /* the time that it last read; until when it only tries the lock; until when it spins, 0: it spins no more */
     uint32_t pauses, tries;
 } rest;
-HIDDEN rest flatpq_rest_of(const pq_queue *queue, uint64_t until);
+HIDDEN rest flatpq_rest_of(const pq_queue *queue, uint64_t until, int may_post);
 HIDDEN int flatpq_spins(rest *it); /* pauses: 0 where the spin is over */
 HIDDEN int flatpq_rests(rest *it); /* pauses or naps: 0 where the time has come */
 HIDDEN void flatpq_rested(const rest *it);

@@ -4,18 +4,25 @@
  * A thread holds the lock for less than a microsecond a request. So a call first tries the lock again, and then posts its request, if it has no
  * deadline (calls.c). In the end it naps between its tries.
  *
- * A thread that calls nearly all the time does not spin. Where several do so, those that nap let one run on with all that it needs in its
- * processor's caches. Nor does a thread spin for some calls after spins that ended before the lock was free, as where the thread that has the
- * lock has no processor.
+ * A thread that calls nearly all the time does not spin, and naps long. Where several do so, those that nap let one run on with all that it needs
+ * in its processor's caches. So does a call that posts nothing, as a batch, which would take the lock each time. One that posts, of a thread that
+ * works between its calls, naps short while each member may have a processor: then another serves it soon. It posts at once where calls come so
+ * often that the thread which has the lock is to carry out many. Nor does a thread spin for some calls after spins that ended before the lock was
+ * free, as where the thread that has the lock has no processor.
  */
 #include "inside.h"
 
 #include <sched.h>
 
-/* For how long a call only tries the lock, and for how long it spins in all; how far apart the thread's calls are at least, where it spins. */
-enum { TRIES = 1000, SPINS = 10000, APART = 400 };
-/* How long a nap is: at least, and for each member in use, so that fewer threads wake at a time. */
-enum { NAP = 50000, NAP_OF_EACH = 8000 };
+/* For how long a call only tries the lock, and for how long it spins in all. */
+enum { TRIES = 1000, SPINS = 10000 };
+/* How far apart a thread's calls are at least, where it spins; where it is served soon; and where it then tries the lock before it posts, while more
+   than so many members are in use. */
+enum { APART = 400, APART_IF_SERVED = 320, APART_TO_TRY = 1100, PAIR = 2 };
+/* So many members may be of threads that don't call, as one that opened the queue. */
+enum { IDLE = 1 };
+/* How long a nap is: at least, and with a part for each member in use, so that fewer threads wake at a time; and for each where it is served soon. */
+enum { NAP = 100000, NAP_OF_ALL = 50000, NAP_OF_EACH = 8000, SHORT_NAP_OF_EACH = 1250 };
 
 __thread pace flatpq_pace __attribute__((tls_model("initial-exec")));
 
@@ -30,21 +37,25 @@ static uint64_t apart(pace *it, uint64_t now) {
     return it->apart;
 }
 
-rest flatpq_rest_of(const pq_queue *queue, uint64_t until) {
+rest flatpq_rest_of(const pq_queue *queue, uint64_t until, int may_post) {
+    const uint64_t members = __atomic_load_n(&queue->out, __ATOMIC_RELAXED);
+    const uint64_t nap = NAP_OF_ALL + members * NAP_OF_EACH;
+    const int is_served = may_post && members <= flatpq_processors + IDLE;
     pace *calls = &flatpq_pace;
-    rest made = { queue, until, 0, 0, 0, 1, 0 };
-    if (!flatpq_may_spin || until == PQ_NOW) {
+    rest made = { .until = until, .nap = nap > NAP ? nap : NAP, .pauses = 1 };
+    if (flatpq_processors == 1 || until == PQ_NOW) {
         return made;
     }
     made.now = pq_now();
-    if (until <= made.now || apart(calls, made.now) < APART) {
+    if (until <= made.now || apart(calls, made.now) < (is_served ? APART_IF_SERVED : APART)) {
         return made;
     }
+    made.nap = is_served ? members * SHORT_NAP_OF_EACH : made.nap;
     if (calls->skips > 0) {
         calls->skips--;
         return made;
     }
-    made.posts = made.now + TRIES;
+    made.posts = made.now + (is_served && members > PAIR && calls->apart < APART_TO_TRY ? 0 : TRIES);
     made.ends = until < made.now + SPINS ? until : made.now + SPINS;
     return made;
 }
@@ -71,17 +82,13 @@ int flatpq_spins(rest *it) {
 }
 
 /* Naps once, until the deadline at most: 0 where that has come. */
-static int naps(const rest *it) {
-    uint64_t nap = (uint64_t)__atomic_load_n(&it->queue->out, __ATOMIC_RELAXED) * NAP_OF_EACH;
-    nap = nap > NAP ? nap : NAP;
-    if (it->until != PQ_FOREVER) {
-        uint64_t now = it->until == PQ_NOW ? 0 : pq_now();
-        if (now >= it->until) {
-            return 0;
-        }
-        nap = it->until - now < nap ? it->until - now : nap;
+static int naps(rest *it) {
+    uint64_t now = it->until == PQ_NOW ? 0 : pq_now(), end = now + it->nap;
+    if (now >= it->until) {
+        return 0;
     }
-    flatpq_nap(nap);
+    it->nap = it->nap < NAP ? 2 * it->nap : it->nap;
+    flatpq_nap(end < it->until ? end : it->until);
     return 1;
 }
 
@@ -99,7 +106,7 @@ int flatpq_rests(rest *it) {
 }
 
 void flatpq_rested(const rest *it) {
-    if (flatpq_may_spin) {
+    if (flatpq_processors > 1) {
         pace *calls = &flatpq_pace;
         calls->fails = it->ends != 0 ? 0 : calls->fails;
         calls->calls = 0;
@@ -108,7 +115,7 @@ void flatpq_rested(const rest *it) {
 }
 
 pq_code flatpq_try_again(attempt *tries, void *asked, const pq_queue *queue, uint64_t until) {
-    rest resting = flatpq_rest_of(queue, until);
+    rest resting = flatpq_rest_of(queue, until, 0);
     pq_code code = LOCK_HELD;
     while (code == LOCK_HELD && flatpq_rests(&resting)) {
         code = tries(asked);

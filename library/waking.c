@@ -278,7 +278,7 @@ int flatpq_has_room(pq_member *member) {
     uint64_t count = 0;
     uint32_t owes_wake = 0;
     pq_code code = flatpq_count(member, &count, NULL, &owes_wake);
-    for (int tried = 1; code == LOCK_HELD && tried < tries && flatpq_may_spin; tried++) {
+    for (int tried = 1; code == LOCK_HELD && tried < tries && flatpq_processors > 1; tried++) {
         __builtin_ia32_pause();
         code = flatpq_count(member, &count, NULL, &owes_wake);
     }

@@ -5,20 +5,21 @@
 //     while (const auto first = queue.pop()) std::cout << first->priority << ' ' << first->value << '\n';
 //
 // A queue<Key> holds items of a key and a 64-bit value; a task_queue<T, Key> (flatpq_tasks.hpp) holds payloads of any type. Keys are numbers,
-// times, or a type of the program (flatpq_keys.hpp). The item with the smallest key comes out first; items of equal keys come out in the
+// times, or a type of the program (flatpq_keys.hpp). The item with the smallest key comes out first. Items of equal keys come out in the
 // order in which they were pushed or moved there. flatpq.h says what each call does and what it asks of the program; this file adds types and
 // ownership.
 //
-// A queue also has batches (push_many, pop_due_many, drain), an exact size() and peak_size(), a bound on its items (options::with_most_items),
-// tickets by which items are removed and moved (options::with_tickets), and listeners for event loops. A program that writes archives to a file
-// survives a crash: wait_archived waits until a push is on disk, and journal<Key>::read_from reads the file back.
+// A queue also has batches (push_many, pop_due_many, drain), an exact size() and peak_size(), and listeners for event loops. Options add a
+// bound on its items (options::with_most_items), and tickets by which items are removed and moved (options::with_tickets). A program that
+// writes archives to a file survives a crash: wait_archived waits until a push is on disk, and journal<Key>::read_from reads the file back.
 //
-// Any number of threads may call a queue itself. A thread gets a member of its own at its first call; where all members are in use it takes
-// over an idle one, or waits for one. A thread that waits for an item, or for room, keeps its member meanwhile. A program that moves members
-// between threads joins them (queue::join). The last argument is the time until which a call may wait (deadline); drain and clear have none.
+// Any number of threads may call a queue itself. A thread gets a member of its own at its first call. If all members are in use it takes
+// over an idle one, or waits for one. A thread that waits for an item mostly keeps its member meanwhile (pq_take), and one that waits for
+// room does. A program that moves members between threads joins them (queue::join). The last argument is the time until which a call may wait
+// (deadline); drain and clear have none.
 //
 // Queues, members, listeners and journals are moved and never copied, and free what they hold. They may end in any order: a joined member
-// goes on after its queue has ended. Where a queue, member or listener was moved from, its calls return code::no_member; batches of nothing
+// goes on after its queue has ended. If a queue, member or listener was moved from, its calls return code::no_member; batches of nothing
 // do nothing. A journal that was moved from is empty.
 // Members and listeners are in one call at a time, const or not; journals too, but for const calls. A const queue has calls that leave its
 // items as they are.
@@ -53,8 +54,8 @@ namespace flatpq {
 /// What happens to the journal's older entries, as enum pq_keeping says.
 enum class keeping : std::uint32_t { forgets = PQ_FORGETS, refuses = PQ_REFUSES, fills = PQ_FILLS };
 
-/// How a queue is opened, as pq_options says: for how many members at once, 1 to 64; how its journal keeps how many entries; how many items
-/// it may have, where 0 is no bound; and whether items can be removed or moved by ticket: `options{8}`, `options().with_tickets()`.
+/// How a queue is opened, as pq_options says: `options{8}`, `options().with_tickets()`. It has up to `members` members at once, 1 to 64. Its
+/// journal keeps `entries`, 0 for the usual number. It may have `most_items`, where 0 is no bound. With `tickets` items can be removed or moved.
 struct options {
     std::uint32_t members = 64;
     flatpq::keeping keeping = flatpq::keeping::forgets;
@@ -72,8 +73,8 @@ struct options {
     }
 };
 
-/// What push_many did: how many items it put in, why not the next one, and the number of the first one's journal entry; 0 where it put none in.
-/// Up to 64 items have consecutive entries, unless pushes wait for room, or memory for a payload was refused.
+/// What push_many did: how many items it put in, why not the next one, and the number of the first one's journal entry, or 0. Up to 64 items have
+/// consecutive entries, unless pushes wait for room, or memory for a payload was refused.
 struct [[nodiscard]] pushed_many {
     std::size_t count;
     code error;
@@ -113,9 +114,9 @@ public:
     using found = flatpq::found<item, first>;
     using journal = basic_journal<Items>;
 
-    /// Puts a key and a value, or a payload, in: the number of the journal entry, which is the item's ticket. Where the call is refused the
-    /// payload is where it was. One that was made from an argument of another type is dropped, as a std::unique_ptr<base> from one to a derived
-    /// class: convert that before. At a queue with a bound the call waits for room: code::full, where there was none until then.
+    /// Puts a key and a value, or a payload, in, and returns the number of the journal entry: with tickets the item's ticket. If the call is
+    /// refused the payload is where it was. One that was made from an argument of another type is dropped, as a std::unique_ptr<base> from one
+    /// to a derived class: convert that before. At a queue with a bound the call waits for room: code::full, if there was none until then.
     result<std::uint64_t> push(const key &priority, payload &&value, deadline until = {}) noexcept {
         return pushed(priority, value, [=](auto *by, pq_item in, auto *number) { return pq_push(by, in, until.at(), number); });
     }
@@ -136,14 +137,14 @@ public:
     /// Takes the first item out if its key is at most this one. code::not_due: found::first() stays.
     found pop_due(const key &bound, deadline until = {}) noexcept { return due(key_order<key>::number(bound), until); }
 
-    /// Takes the item out that has this ticket, wherever it waits: the number that its push returned. code::gone: no item waits under this
-    /// ticket; code::no_tickets.
+    /// Removes the item with this ticket, the number that its push returned, and returns it. code::gone: no item waits under this ticket;
+    /// code::no_tickets.
     found remove(std::uint64_t ticket, deadline until = {}) noexcept {
         return got([=](auto *by, auto *out, auto at, auto *number) { return pq_remove(by, ticket, out, at, number); }, until);
     }
 
-    /// Moves the item of this ticket to this key, after all items of that one, in one step: its ticket from now on. Its payload stays where it
-    /// is. code::gone, code::no_tickets; code::no_memory: the item stays as it was.
+    /// Moves the item with this ticket to this key, after others of that key, in one step, and returns its new ticket. Its payload stays where
+    /// it is. code::gone, code::no_tickets; code::no_memory: the item stays as it was.
     result<std::uint64_t> reschedule(std::uint64_t ticket, const key &priority, deadline until = {}) noexcept {
         std::uint64_t number = 0;
         const auto why = static_cast<code>(pq_reschedule(member_, ticket, key_order<key>::number(priority), until.at(), &number));
@@ -151,7 +152,7 @@ public:
     }
 
     /// Waits for an item, and takes the first one out. code::empty: none came until then; code::timed_out; code::shut: it is shut and empty. By the
-    /// queue itself a thread waits without a member where the others' wait too, so any number of threads may.
+    /// queue itself a thread waits without a member if the others' wait too, so any number of threads may.
     found take(deadline until = {}) noexcept { return got<pq_take>(until); }
 
     /// The same once the first item is due: it waits for that in a shut queue too, and sleeps as a take does. Keys are times. code::not_due:
@@ -235,21 +236,21 @@ public:
     [[nodiscard]] auto drain() & noexcept { return drained<next_due>(next_due{this, UINT64_MAX}); }
     [[nodiscard]] auto drain(const key &bound) & noexcept { return drained<next_due>(next_due{this, key_order<key>::number(bound)}); }
 
-    /// Takes all items out, and drops them: how many.
+    /// Takes all items out, drops them, and returns how many there were.
     result<std::size_t> clear() noexcept {
         auto all = drain();
         const auto count = static_cast<std::size_t>(std::distance(all.begin(), all.end()));
         return all.error() == code::empty ? result<std::size_t>(count) : all.error();
     }
 
-    /// Takes the first item out, or the first one whose key is at most this one; else the member listens: code::empty, or code::not_due with
+    /// Takes the first item out, or the first one whose key is at most this one. Else the member listens: code::empty, or code::not_due with
     /// found::first(), which stays. It never waits. notify() is called at most once then, in any thread that calls the queue, or in this call. It
     /// must not throw, wait or call the library, and has to live until it was called or the member listens no more.
     template <class Notify> found take_or_listen(Notify &notify) noexcept { return listened(UINT64_MAX, notify); }
     template <class Notify> found take_or_listen(const key &bound, Notify &notify) noexcept {
         return listened(key_order<key>::number(bound), notify);
     }
-    /// Takes the first item out if it is due; else the member listens by a timer, as pq_take_due_or_listen says: code::empty, or code::not_due
+    /// Takes the first item out if it is due. Else the member listens by a timer, as pq_take_due_or_listen says: code::empty, or code::not_due
     /// with found::first(), which stays. Keys are times.
     found take_due_or_listen(int timer) noexcept {
         static_assert(are_times<key>, "keys are times of std::chrono::steady_clock");
@@ -263,7 +264,7 @@ public:
     template <class Notify> result<std::uint64_t> push_or_listen(const key &priority, const payload &value, Notify &notify) {
         return push_or_listen(priority, payload(value), notify);
     }
-    /// Ends the listening: whether the member listened, and was not notified.
+    /// Ends the listening. Returns whether the member listened, and was not notified.
     bool unlisten() noexcept { return member_ != nullptr && pq_unlisten(member_) != 0; }
 
     /// Copies the journal entries after the first `archived`, and counts those first ones as archived from now on. Entries of a task_queue have
@@ -274,7 +275,7 @@ public:
         return why == code::ok ? result<journal>(journal(copied)) : why;
     }
 
-    /// The place by which journal entries name the member; UINT32_MAX where there is none at the moment.
+    /// The place by which journal entries name the member; UINT32_MAX if there is none at the moment.
     [[nodiscard]] std::uint32_t place() const noexcept { return member_ != nullptr ? pq_place(member_) : UINT32_MAX; }
 
     /// A signed number is no unsigned key: write 5u for 5, or name a signed Key. Compilers show these lines.
@@ -385,7 +386,7 @@ public:
     using key = typename Items::key;
     using found = typename calls<Items>::found;
 
-    /// The descriptor: readable from the first, and whenever an item may be there, or be due, or there may be room, or the queue is shut.
+    /// The descriptor. It is readable from the first, and whenever an item may be there or be due, there may be room, or the queue is shut.
     [[nodiscard]] int fd() const noexcept { return fd_; }
 
 protected:
@@ -417,8 +418,9 @@ public:
     using found = typename detail::calls<Items>::found;
 
     /// Takes the first item out, or the first one whose key is at most this one. Call it when the descriptor is readable, until it returns
-    /// code::empty, or code::not_due with found::first(), which stays: then the descriptor is readable no more, until a push, a move or a
-    /// shut. It never waits. Where it returns code::shut or a refusal the descriptor stays readable.
+    /// code::empty, or code::not_due with found::first(), which stays. The descriptor is then readable after the next push, move or shut, or at
+    /// once if another thread had the lock for long. After code::not_due call it again once first() is within the bound. It never waits. If
+    /// it returns code::shut or a refusal the descriptor stays readable.
     found take_or_listen() noexcept { return taken(UINT64_MAX); }
     found take_or_listen(const key &bound) noexcept { return taken(key_order<key>::number(bound)); }
     template <class Number, detail::if_signed_for<key, Number> = 0> void take_or_listen(Number) = delete; // write 5u for 5
@@ -449,8 +451,9 @@ public:
     using found = typename detail::calls<Items>::found;
 
     /// Takes the first item out if it is due. Call it when the descriptor is readable, until it returns code::empty, or code::not_due with
-    /// found::first(), which stays: then the descriptor is readable no more, until the first item is due, an earlier one comes, or the queue
-    /// is shut. It never waits. Where it returns code::shut or a refusal the descriptor stays as it was. The program does not read it.
+    /// found::first(), which stays. The descriptor is then readable once the first item is due, an earlier one comes, or the queue is shut. If
+    /// another thread had the lock for long, it is so within 0.1 ms. It never waits. If it returns code::shut or a refusal the descriptor
+    /// stays as it was. The program does not read it.
     found take_or_listen() noexcept { return this->member_.take_due_or_listen(this->fd_); }
 
 private:
@@ -464,8 +467,8 @@ public:
     using key = typename Items::key;
     using payload = typename Items::payload;
 
-    /// Puts a key and a value, or a payload, in, if there is room; else code::full, and the payload is where it was: call it again when the
-    /// descriptor is readable. That is after a pop, a removal or a shut. It never waits.
+    /// Puts a key and a value, or a payload, in, if there is room. Else it returns code::full, and the payload is where it was. Call it again when
+    /// the descriptor is readable: after a pop, a removal or a shut. It never waits.
     result<std::uint64_t> push_or_listen(const key &priority, payload &&value) noexcept {
         eventfd_t count = 0;
         ::syscall(SYS_read, this->fd_, &count, sizeof count);
@@ -492,7 +495,7 @@ public:
     using room_listener = basic_room_listener<Items>;
     using journal = basic_journal<Items>;
 
-    /// Open a queue. Where open() returns code::bad_option, no_memory, forked or processor, the constructors throw it.
+    /// Open a queue. If open() returns code::bad_option, no_memory, forked or processor, the constructors throw it.
     FLATPQ_MAY_THROW basic_queue() : basic_queue(options()) {}
     FLATPQ_MAY_THROW explicit basic_queue(options asked) : basic_queue(open(asked).value()) {}
     [[nodiscard]] static result<basic_queue> open(options asked = {}) noexcept {
@@ -515,18 +518,18 @@ public:
         std::swap(queue_, moved.queue_);
         return *this;
     }
-    /// The payloads that are left are dropped once the last joined member has ended. Those that are dropped here may call the queue:
-    /// code::closed.
+    /// No thread that waits is woken: shut the queue first. The payloads that are left are dropped once the last joined member has ended. Those
+    /// that are dropped here may call the queue: code::closed.
     ~basic_queue() { pq_free(queue_, Items::drops, nullptr); }
 
-    /// Joins the queue. Where all members are in use it takes over an idle one, or waits until then for one given back: code::all_joined.
+    /// Joins the queue. If all members are in use it takes over an idle one, or waits until then for one given back: code::all_joined.
     result<member> join(deadline until = {}) noexcept {
         pq_member *joined = nullptr;
         const auto why = queue_ != nullptr ? static_cast<code>(pq_join(queue_, until.at(), &joined)) : code::no_member;
         return why == code::ok ? result<member>(member(joined)) : why;
     }
 
-    /// Join so, for an event loop that waits for any item, for what is due, or for room. code::no_memory also where the system gives no descriptor:
+    /// Join so, for an event loop that waits for any item, for what is due, or for room. code::no_memory also if the system gives no descriptor:
     /// errno says why, as EMFILE.
     result<listener> listen(deadline until = {}) noexcept {
         return joined_as<listener>(until, [] { return eventfd(1, EFD_CLOEXEC | EFD_NONBLOCK); });
@@ -561,7 +564,7 @@ public:
         return queue_ != nullptr ? static_cast<code>(pq_wait_archived(queue_, number, until.at())) : code::no_member;
     }
 
-    /// Closes the queue: its journal, with the items that are left. code::members_left, code::no_memory: it stays open.
+    /// Closes the queue, and returns its journal, with the items that are left. code::members_left, code::no_memory: it stays open.
     result<journal> close() noexcept {
         pq_journal *closed = nullptr;
         const auto why = queue_ != nullptr ? static_cast<code>(pq_close(queue_, &closed)) : code::no_member;

@@ -47,17 +47,15 @@ private:
     [[nodiscard]] std::pair<std::uint64_t, std::uint64_t> numbers() const noexcept { return {key_order<Key>::number(priority), value}; }
 };
 
-/// A journal entry: its number, from 1; how many requests its member had made, this one included; the member's place; the request; the reply,
-/// code::ok, or code::empty, which a shut has; the item that a push put in, or that another request found, as it was then, of a payload its
-/// key; and the ticket of request::remove and request::reschedule, and the key that the latter gives.
+/// A journal entry. `number` counts from 1, and `serial` the requests that the member at this place had made, this one included.
 template <class First, class Key> struct entry {
     std::uint64_t number, serial;
     std::uint32_t place;
     flatpq::request request;
-    code reply;
-    std::optional<First> item;
-    std::uint64_t ticket;
-    std::optional<Key> priority;
+    code reply;                ///< code::ok; or code::empty, which a shut has
+    std::optional<First> item; ///< pushed, or found, as it was then; of a payload its key
+    std::uint64_t ticket;      ///< of request::remove and request::reschedule
+    std::optional<Key> priority; ///< of request::reschedule the one that the item gets
 };
 
 namespace detail {
@@ -99,8 +97,8 @@ template <class Key> struct values {
     static first shown(pq_item from) noexcept { return first(key_order<Key>::key(from.priority), from.value); }
 };
 
-/// What a loop takes out, each item when the loop reads it, or asks whether it comes, and none before. The loop ends where no item comes. An
-/// item that came and was not read is the next loop's first. Where a drain is moved that item goes along, and its iterators are valid no more.
+/// An input range that takes each item out when the loop reaches it, and none before. The loop ends where no item comes. An item that came
+/// and was not read is the next loop's first. If a drain is moved that item goes along, and its iterators are valid no more.
 template <class Next> class drained {
     using result_of = std::invoke_result_t<Next &>;
 
@@ -161,9 +159,9 @@ public:
     }
     [[nodiscard]] iterator begin() noexcept { return is_read_ || error() != code::ok ? ++iterator(this) : iterator(this); }
     [[nodiscard]] iterator end() noexcept { return iterator(nullptr); }
-    /// Why the loop ended: code::empty, code::not_due, or a refusal; code::ok where it left off before that.
+    /// Why the loop ended: code::empty, code::not_due, or a refusal; code::ok if it left off before that.
     [[nodiscard]] code error() const noexcept { return last_ ? last_->error() : code::ok; }
-    /// Of a queue's drain: the number of the journal entry of the item that the loop is at; 0 where it is at none.
+    /// Of a queue's drain: the number of the journal entry of the item that the loop is at; 0 if it is at none.
     [[nodiscard]] std::uint64_t number() const noexcept { return last_ ? last_->number() : 0; }
 
 private:

@@ -17,8 +17,8 @@ namespace flatpq {
 ///   and comes out as a quiet one;
 /// - durations and time points of std::chrono, by their counts.
 ///
-/// An order whose keys are times, for take_due, also has two constants, as pq_options has them: time_zero is the number of the key that
-/// stands for the zero of std::chrono::steady_clock, and time_unit is how many nanoseconds a key is later than the one before it.
+/// An order whose keys are times, for take_due, also has two constants, as pq_options has them. time_zero is the number of the key that
+/// stands for the zero of std::chrono::steady_clock. time_unit is how many nanoseconds a key is later than the one before it.
 template <class Key, class = void> struct key_order;
 
 template <class Key> struct key_order<Key, std::enable_if_t<std::is_integral_v<Key> && sizeof(Key) <= sizeof(std::uint64_t)>> {

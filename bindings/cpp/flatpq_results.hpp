@@ -59,7 +59,7 @@ public:
 
     [[nodiscard]] explicit operator bool() const noexcept { return value_.has_value(); }
     [[nodiscard]] bool has_value() const noexcept { return value_.has_value(); }
-    /// code::ok where there is a value.
+    /// code::ok if there is a value.
     [[nodiscard]] code error() const noexcept { return error_; }
 
     [[nodiscard]] T &operator*() & noexcept { return *checked(); }
@@ -105,7 +105,7 @@ public:
     found(code why, std::uint64_t number = 0, std::optional<First> first = {}) noexcept
         : result<Item>(why), number_(number), first_(std::move(first)) {}
 
-    /// The number of the call's journal entry, or of the first one of a batch; 0 where it has none. A pop and a peek of an empty queue have one,
+    /// The number of the call's journal entry, or of the first one of a batch; 0 if it has none. A pop and a peek of an empty queue have one,
     /// and so has a removal that comes to code::gone.
     [[nodiscard]] std::uint64_t number() const noexcept { return number_; }
     /// Of code::not_due the first item, which stays; of payloads its key.
@@ -121,7 +121,7 @@ private:
 struct now_t {};
 inline constexpr now_t now{};
 
-/// The time until which a call may wait: for ever where none is named; `flatpq::now`; a duration from now; or a time of steady_clock. It is
+/// The time until which a call may wait: for ever if none is named; `flatpq::now`; a duration from now; or a time of steady_clock. It is
 /// rounded up to nanoseconds. What lies more than 292 years ahead is for ever. A time of another clock doesn't compile.
 class deadline {
 public:

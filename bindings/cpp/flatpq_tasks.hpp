@@ -5,7 +5,7 @@
 //     while (auto task = queue.pop()) std::cout << task->priority << ' ' << task->payload << '\n';
 //
 // Its calls are those of flatpq::queue (flatpq.hpp). A payload of at most 8 bytes that is copied as bytes (std::is_trivially_copyable) lies in
-// the item itself, and any other in memory of its own, which a push asks for (code::no_memory) and a pop frees. A push moves the payload in,
+// the item itself. Any other has memory of its own, which a push asks for (code::no_memory) and a pop frees. A push moves the payload in,
 // and a pop moves it out; a refused push moves it back. One that was made from an argument of another type is dropped then. Payloads that
 // nobody takes are dropped by clear(), with the journal of a closed queue, or with the last of a queue and its members. A type whose move
 // constructor or destructor may throw is no payload: declare them noexcept, or push a std::unique_ptr.

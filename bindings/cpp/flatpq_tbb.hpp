@@ -4,8 +4,8 @@
 //     queue.emplace(7, "wake");
 //     for (job first; queue.try_pop(first);) std::cout << first.name << '\n';
 //
-// It is there for a program that tries flatpq. What waits, as task_queue::take, and all else that a task_queue has, comes with a move to that
-// one (flatpq_tasks.hpp). As in oneTBB the item that is greatest by Compare comes out first; of equal ones the first that was pushed.
+// Use it to try flatpq without changing call sites. What waits, as task_queue::take, and all else that a task_queue has, comes with a move to
+// that one (flatpq_tasks.hpp). As in oneTBB the item that is greatest by Compare comes out first; of equal ones the first that was pushed.
 //
 // A queue orders items by a 64-bit number (flatpq_keys.hpp), and calls no Compare. So Compare is one of these; no other compiles:
 // - std::less<T>, std::greater<T>, std::less<> or std::greater<>, where T has a key_order: numbers, enumerations, and times;
@@ -15,10 +15,10 @@
 // Any number of threads may call push, emplace, try_pop, size, empty and clear. As in oneTBB, all else is for one thread alone. What differs:
 // - size() is exact, at one moment of the call. A capacity reserves nothing.
 // - There are no allocators. Queues are neither copied nor compared, as no call reads all items. A Compare object is not kept: it has no state.
-// - Where a queue was moved from, calls throw flatpq::error with code::no_member, until another one is assigned.
+// - If a queue was moved from, calls throw flatpq::error with code::no_member, until another one is assigned.
 //
-// No exception loses an item. A push throws what the copy or the key of its item throws, or std::bad_alloc. Then nothing has changed, as where an
-// assign throws. A try_pop calls nothing of T that may throw: where the move assignment is not noexcept, it destroys the value, and makes it anew.
+// No exception loses an item. A push throws what the copy or the key of its item throws, or std::bad_alloc. Then nothing has changed, nor if an
+// assign throws. A try_pop calls nothing of T that may throw: if the move assignment is not noexcept, it destroys the value, and makes it anew.
 #ifndef FLATPQ_TBB_HPP
 #define FLATPQ_TBB_HPP
 
@@ -102,7 +102,7 @@ public:
     }
     ~concurrent_priority_queue() = default;
 
-    /// Puts an item in. Where it throws, the argument is as it was.
+    /// Puts an item in. If it throws, the argument is as it was.
     void push(const T &item) { push(T(item)); }
     void push(T &&item) {
         const auto pushed = queue_.push(ranked::number(item), std::move(item));

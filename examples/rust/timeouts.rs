@@ -39,9 +39,13 @@ impl Requests<'_> {
 }
 
 /// Waits for timeouts until the queue is shut, and no request is left.
-fn watch(timeouts: &Timeouts) {
-    while let Ok((_, name)) = timeouts.take_due() {
-        println!("{name}: timed out");
+fn watch(timeouts: &Timeouts) -> Result<(), Error> {
+    loop {
+        match timeouts.take_due() {
+            Ok((_, name)) => println!("{name}: timed out"),
+            Err(Error::Shut) => return Ok(()),
+            Err(error) => return Err(error),
+        }
     }
 }
 
@@ -55,7 +59,7 @@ fn main() -> Result<(), Error> {
     requests.send("login", Duration::from_secs(10))?;
     requests.send("download", Duration::from_secs(10))?;
     let (login, parts, download) = thread::scope(|threads| {
-        threads.spawn(|| watch(&timeouts));
+        let watcher = threads.spawn(|| watch(&timeouts));
         let login = requests.receive_last("login")?;
         let mut parts = 0;
         while parts < 3 && requests.receive_part("download")? {
@@ -63,6 +67,7 @@ fn main() -> Result<(), Error> {
         }
         let download = requests.receive_last("download")?;
         timeouts.shut()?;
+        watcher.join().expect("the watcher ends")?;
         Ok::<_, Error>((login, parts, download))
     })?;
     println!("login: {login}");

@@ -11,6 +11,7 @@ light   threads that think between their calls, which push and pop in turn over 
 light-busy  the same beside as many busy processes as there are processors
 hold    one thread that pops the first item of so many and pushes one later, over and over: nanoseconds for both; and what the longest
         push took while the queue grew
+instructions    how many the same takes, as callgrind counts them (valgrind)
 batches     threads that take so many items out under one lock, and put as many in: nanoseconds an item, beside a call for each item, and
         a std::mutex that is locked once for as many
 services    a pipeline whose number of items is bounded, beside condition variables and a channel of crossbeam-channel
@@ -178,6 +179,8 @@ def quiet_tables(bench):
         yield from bench_light.light(bench, "light")
     if "hold" in asked:
         yield from bench_hold.hold(bench)
+    if "instructions" in asked:
+        yield from bench_hold.instructions(bench)
     if "programs" in asked:
         yield bench_uses.uses(bench)
     if "batches" in asked:

@@ -12,6 +12,7 @@
 #include <chrono>
 #include <condition_variable>
 #include <cstdint>
+#include <fstream>
 #include <mutex>
 #include <set>
 #include <string>
@@ -171,9 +172,22 @@ static std::uint64_t nanoseconds_of(const rusage &it) {
     return 1000 * (of(it.ru_utime) + of(it.ru_stime));
 }
 
+// The most memory that this program has had, in KiB: that of getrusage counts what the process that started it had.
+static std::uint64_t memory_now() {
+    std::ifstream status("/proc/self/status");
+    std::uint64_t kib = 0;
+    for (std::string word; status >> word;) {
+        if (word == "VmHWM:") {
+            status >> kib;
+        }
+    }
+    return kib;
+}
+
 template <class Timers> static int runs(const char *kind, std::uint64_t count, std::uint64_t milliseconds) {
     run it(count, milliseconds);
     rusage before = {}, after = {};
+    std::uint64_t memory = memory_now();
     getrusage(RUSAGE_SELF, &before);
     {
         Timers all(count);
@@ -182,9 +196,9 @@ template <class Timers> static int runs(const char *kind, std::uint64_t count, s
             return [&, i] { i < setters ? it.set(all, i) : it.work(all); };
         }), "no barrier was made");
         getrusage(RUSAGE_SELF, &after);
+        memory = memory_now() - memory;
     }
     std::sort(it.lateness.begin(), it.lateness.end());
-    const std::uint64_t memory = static_cast<std::uint64_t>(after.ru_maxrss - before.ru_maxrss);
     const std::uint64_t half = it.lateness[it.ran / 2], most = it.lateness[it.ran * 99 / 100];
     const std::uint64_t figures[] = {count, nanoseconds_of(after) - nanoseconds_of(before), memory, half, most};
     return print_figures("cancels", kind, figures, it.ran > 0 && it.ran + it.cancelled == count);

@@ -1,11 +1,11 @@
-// The hold model: one thread, a queue that grows to so many items, and operations each of which pops the first and pushes one
-// later. Over the queue by its calls for C, and, not verified, a std::mutex and a ring of lines around three heaps:
+// The hold model: one thread beside one that sleeps, as a mutex makes no atomic step in a program of one; a queue that grows to so
+// many items; and operations each of which pops the first and pushes one later. Over the queue by its calls for C, and, not verified, a std::mutex and a ring of lines around three heaps:
 // std::priority_queue, a 4-ary heap, and a binary heap with holes. `hold c-queue|std-heap|four-heap|hole-heap ITEMS OPERATIONS` prints
 // `hold,KIND,ITEMS,OPERATIONS,HELD,GREW,LONGEST,audit ok`, or `audit failed` as the last field: nanoseconds of all operations, of
 // all pushes while the queue grew, and of the longest of these.
 #include "c_queues.hpp"
 #include "heaps.hpp"
-#include "load.h"
+#include "load.hpp"
 #include "numbers.hpp"
 
 #include <algorithm>
@@ -52,12 +52,19 @@ template <class Queue> static bool hold(const hold_load &of, Queue &shared, numb
 
 template <class Queue> static int run(const char *kind, const hold_load &of) {
     Queue shared(1);
-    numbers any(7);
+    std::uint64_t held = 0;
     std::uint64_t grew[2] = {0, 0};
-    grow(of, shared, any, grew);
-    const std::uint64_t began = nanoseconds_now();
-    const bool in_order = hold(of, shared, any);
-    const std::uint64_t figures[] = {of.items, of.operations, nanoseconds_now() - began, grew[0], grew[1]};
+    bool in_order = false;
+    run_at_once(1, [&](std::uint32_t) {
+        return [&] {
+            numbers any(7);
+            grow(of, shared, any, grew);
+            const std::uint64_t began = nanoseconds_now();
+            in_order = hold(of, shared, any);
+            held = nanoseconds_now() - began;
+        };
+    });
+    const std::uint64_t figures[] = {of.items, of.operations, held, grew[0], grew[1]};
     return print_figures("hold", kind, figures, in_order && shared.lines() == of.items + 2 * of.operations);
 }
 

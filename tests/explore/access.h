@@ -11,6 +11,8 @@ extern "C" {
 /* What the step after a point does to the word there. FREES: to each word of the block. NOTHING: others see nothing of it. */
 enum access { NOTHING, READS, WRITES, LOCKS, TRIES_LOCK, UNLOCKS, FREES };
 
+void scheduler_choice(const char *what, const void *at, enum access access, const char *file, int line);
+void scheduler_step(const void *at, enum access access);
 void scheduler_point(const char *what, const void *at, enum access access, const char *file, int line);
 
 #ifdef __cplusplus

@@ -14,7 +14,7 @@ enum { MOST_TIMERS = 8, MOST_LATE = 8 };
 /* When an execution begins, in nanoseconds. */
 enum { BEGIN = 1000000 };
 
-enum state { READY, ON_MUTEX, ON_WORD, NAPS, SLEEPS, ENDED };
+enum state { READY, ON_MUTEX, ON_THREAD, ON_WORD, NAPS, SLEEPS, ENDED };
 
 /* A thread of a scenario. */
 typedef struct fiber {
@@ -25,7 +25,7 @@ typedef struct fiber {
     uint64_t number; /* the entry of AWAITS; the bound of LISTENS_FOR */
     uint64_t calls;  /* that it has begun */
     uint64_t begun;  /* when its call began, as check.c counts */
-    const void *at;  /* the mutex or the word for which it waits */
+    const void *at;  /* the mutex, thread or word for which it waits */
     int priority;    /* of a random schedule */
     int is_after_end, is_after_shut; /* a take had returned the end, or a shut had returned, before its call began */
     int found_held;  /* it spins */
@@ -49,6 +49,7 @@ extern int fiber_count;
 extern uint64_t timers[MOST_TIMERS];
 int index_of(const fiber *it);
 uint64_t next_time(void); /* when the first of those that sleep goes on; PQ_FOREVER: none does */
+int is_asleep(const fiber *it);
 int is_ready(const fiber *it);
 void pass_time(uint64_t to);
 void block(enum state state, const void *at, uint64_t until);
@@ -58,22 +59,28 @@ void print_trace(void);
 /* search.c: which fiber goes on. */
 extern int is_random, is_redundant;
 uint64_t next_random(void);
-fiber *choose_fiber(fiber *mine, const void *at, enum access access, int *choice);
+/* Where another thread may make a step in place of the next: by which choice before that, and by which one its thread goes on; -1: by none. */
+typedef struct place {
+    int choice, began;
+} place;
+extern place here;
+fiber *choose_fiber(fiber *mine, const void *at, enum access access);
 int choose_costly(void); /* whether this, which costs a preemption, happens now */
 void search_resumes(int which);
 void search_steps(int which, const void *at, enum access access);
-void want(int choice, int thread);
+void want(place before, int thread);
 void print_replay(void);
 
 /* races.c: which steps can change places. */
 void races_begin(void);
-void races_note(int of, const void *at, enum access access, int choice);
+void races_note(int of, const void *at, enum access access);
 void races_enable(int woken, int by);
 int races_depend(const void *at, enum access access, const void *other, enum access as);
 
 /* system.c, proved.c */
 extern int has_late_stores, refuses_barriers, refuses_keys, is_held;
 int proved_has_posts(void);
+uint64_t proved_naps_until(uint64_t until);
 void system_begin(void);
 void proved_begin(void);
 void end_thread(void); /* the destructor of its key runs */

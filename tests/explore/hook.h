@@ -15,26 +15,43 @@
 
 #define POINT(what, at, access) scheduler_point(what, (const void *)(at), access, __FILE__, __LINE__)
 
-#define __atomic_load_n(p, o)                        \
-    ({                                               \
-        POINT("load " #p, p, READS);                  \
-        __auto_type seen_now = __atomic_load_n(p, o); \
+#define __atomic_load_n(p, o)                                  \
+    ({                                                         \
+        POINT("load " #p, p, READS);                           \
+        __auto_type seen_now = __atomic_load_n(p, o);          \
         system_forward(p, sizeof seen_now, (void *)&seen_now); \
-        seen_now;                                    \
+        seen_now;                                              \
     })
 /* Of the relaxed stores those of a record's owner are delayed, which a barrier is to order (own.c). */
 #define IS_OF_OWNER(text) (__builtin_strstr(text, "busy") != NULL || __builtin_strstr(text, "kept") != NULL)
-#define __atomic_store_n(p, v, o)                                                      \
-    (POINT("store " #p, p, WRITES), (o) == __ATOMIC_SEQ_CST                              \
-         ? (system_drain(), __atomic_store_n(p, v, __ATOMIC_SEQ_CST))                   \
-         : system_store((uint32_t *)(p), sizeof *(p), (uint32_t)(v), IS_OF_OWNER(#p)))
-#define __atomic_exchange_n(p, v, o) (POINT("exchange " #p, p, WRITES), system_drain(), __atomic_exchange_n(p, v, o))
+#define CHOICE(what, at, access) scheduler_choice(what, (const void *)(at), access, __FILE__, __LINE__)
+/* A step that leaves the word as it is reads it alone. */
+#define STEP(at, changes) (system_drain(), scheduler_step((const void *)(at), (changes) ? WRITES : READS))
+#define __atomic_store_n(p, v, o)                                                          \
+    ({                                                                                     \
+        __typeof__(*(p)) stored = (v);                                                     \
+        CHOICE("store " #p, p, WRITES);                                                    \
+        if ((o) == __ATOMIC_SEQ_CST) {                                                     \
+            STEP(p, *(p) != stored);                                                       \
+            __atomic_store_n(p, stored, __ATOMIC_SEQ_CST);                                 \
+        } else {                                                                           \
+            scheduler_step((const void *)(p), WRITES);                                     \
+            system_store((uint32_t *)(p), sizeof *(p), (uint32_t)stored, IS_OF_OWNER(#p)); \
+        }                                                                                  \
+    })
+#define __atomic_exchange_n(p, v, o)       \
+    ({                                     \
+        __typeof__(*(p)) put = (v);        \
+        CHOICE("exchange " #p, p, WRITES); \
+        STEP(p, *(p) != put);              \
+        __atomic_exchange_n(p, put, o);    \
+    })
 #define __atomic_fetch_add(p, v, o) (POINT("add " #p, p, WRITES), system_drain(), __atomic_fetch_add(p, v, o))
 #define __atomic_fetch_sub(p, v, o) (POINT("sub " #p, p, WRITES), system_drain(), __atomic_fetch_sub(p, v, o))
 #define __atomic_compare_exchange_n(p, e, v, w, s, f) \
-    (POINT("compare " #p, p, WRITES), system_drain(), __atomic_compare_exchange_n(p, e, v, w, s, f))
+    (CHOICE("compare " #p, p, WRITES), STEP(p, *(p) == *(e)), __atomic_compare_exchange_n(p, e, v, w, s, f))
 #define __atomic_thread_fence(o) (POINT("fence", NULL, NOTHING), system_drain(), __atomic_thread_fence(o))
-#define pthread_mutex_lock(m) (POINT("lock " #m, m, LOCKS), system_lock(m))
+#define pthread_mutex_lock(m) (CHOICE("lock " #m, m, LOCKS), system_lock(m))
 #define pthread_mutex_trylock(m) (POINT("trylock " #m, m, TRIES_LOCK), system_try_lock(m))
 #define pthread_mutex_unlock(m) (POINT("unlock " #m, m, UNLOCKS), system_unlock(m))
 #define pthread_mutex_destroy(m) system_destroy(m)
@@ -48,14 +65,12 @@
 
 /* A proved call is one step. Where a scenario holds the lock, others may find it held before that step and after it. */
 #define FIRST(first, ...) first
-#define TRIES(call, ...) \
-    (POINT(#call, &proved_core, WRITES), proved_begins(FIRST(__VA_ARGS__), 1) ? proved_ends(call) : LOCK_HELD)
-#define STEPS(call, ...) (POINT(#call, &proved_core, WRITES), proved_begins(FIRST(__VA_ARGS__), 0), (call))
+#define TRIES(call, ...) (CHOICE(#call, &proved_core, WRITES), proved_begins(FIRST(__VA_ARGS__), 1) ? proved_ends(call) : LOCK_HELD)
 #define pq_core_try_push(...) TRIES(pq_core_try_push(__VA_ARGS__), __VA_ARGS__)
 #define pq_core_try_pop(...) TRIES(pq_core_try_pop(__VA_ARGS__), __VA_ARGS__)
 #define pq_core_try_least(...) TRIES(pq_core_try_least(__VA_ARGS__), __VA_ARGS__)
 #define pq_core_post(m, r, p, v) (POINT("pq_core_post", &proved_core, WRITES), proved_post(m, r, p, v))
-#define pq_core_step_answer(m, a) (POINT("pq_core_step_answer", &proved_core, WRITES), proved_answer(m, a))
+#define pq_core_step_answer(m, a) (CHOICE("pq_core_step_answer", &proved_core, WRITES), proved_answer(m, a))
 #define pq_core_step_take(...) TRIES(pq_core_step_take(__VA_ARGS__), __VA_ARGS__)
 #define pq_core_try_pop_or_look(...) TRIES(pq_core_try_pop_or_look(__VA_ARGS__), __VA_ARGS__)
 #define pq_core_try_remove(...) TRIES(pq_core_try_remove(__VA_ARGS__), __VA_ARGS__)
@@ -65,7 +80,7 @@
 #define pq_core_try_push_many(...) TRIES(pq_core_try_push_many(__VA_ARGS__), __VA_ARGS__)
 #define pq_core_try_pop_many(...) TRIES(pq_core_try_pop_many(__VA_ARGS__), __VA_ARGS__)
 #define pq_core_archive(...) TRIES(pq_core_archive(__VA_ARGS__), __VA_ARGS__)
-#define pq_core_end_take(...) STEPS(pq_core_end_take(__VA_ARGS__), __VA_ARGS__)
-#define pq_core_wakes_owed(m, c) STEPS(proved_claim(m, c), m)
+#define pq_core_end_take(m) (POINT("pq_core_end_take", &proved_core, WRITES), proved_begins(m, 0), pq_core_end_take(m))
+#define pq_core_wakes_owed(m, c) (CHOICE("pq_core_wakes_owed", &proved_core, WRITES), proved_begins(m, 0), proved_claim(m, c))
 
 #endif

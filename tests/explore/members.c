@@ -197,8 +197,8 @@ static void hear(int which, const uint64_t *numbers) {
 /* Until this thread sleeps in a call, or has ended. */
 static void await_sleep(int which, const uint64_t *numbers) {
     const fiber *it = &fibers[numbers[0]];
-    while (it->state != ENDED && it->state != SLEEPS && (it->state != ON_WORD || it->call == NO_CALL)) {
-        block(NAPS, NULL, now + 1000);
+    if (!is_asleep(it)) {
+        block(ON_THREAD, it, PQ_FOREVER);
     }
 }
 

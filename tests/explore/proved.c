@@ -13,6 +13,7 @@ enum { MOST_HANDLES = 16 };
 const char proved_core = 0;
 int is_held;
 static const uint64_t stall = 3000000; /* as where a thread has no processor */
+static uint64_t stalls_until;
 /* The thread that holds the lock has answered what was posted, and has not counted the wakes for that. */
 static int has_answered;
 /* The members of requests that are posted, and not carried out yet. */
@@ -27,6 +28,7 @@ static struct {
 
 void proved_begin(void) {
     is_held = has_answered = post_count = 0;
+    stalls_until = 0;
     memset(uses, 0, sizeof uses);
 }
 
@@ -65,6 +67,7 @@ int proved_begins(const void *handle, int may_hold) {
         return 1;
     }
     check_own(handle);
+    scheduler_step(&proved_core, is_held ? READS : WRITES);
     if (is_held || me->posts_until > 0) {
         me->found_held = 1;
         return 0;
@@ -73,10 +76,17 @@ int proved_begins(const void *handle, int may_hold) {
         is_held = 1;
         scheduler_point("(the lock is held)", &proved_core, WRITES, "core", 0);
         if (choose_costly()) {
-            block(NAPS, NULL, now + stall);
+            stalls_until = now + stall;
+            block(NAPS, NULL, stalls_until);
         }
     }
     return 1;
+}
+
+/* While the thread that holds the lock has no processor a nap that ends before is followed by others, of which nobody sees anything: they are one. */
+uint64_t proved_naps_until(uint64_t until) {
+    const uint64_t length = until - now, last = stalls_until < me->limit ? stalls_until : me->limit;
+    return length == 0 || last <= until ? until : until + (last - until) / length * length;
 }
 
 int proved_has_posts(void) {
@@ -168,14 +178,17 @@ pq_code proved_answer(core *member, core_answer *answer) {
     return ends(code, code == NOT_ANSWERED);
 }
 
-/* The thread that holds the lock counts the wakes of those that it has answered before it frees that. */
+/* The thread that holds the lock counts the wakes of those that it has answered before it frees that. A claim of none changes nothing. */
 pq_code proved_claim(core *member, uint32_t *count) {
-    if (has_answered) {
-        *count = 0;
-        if (played.answers_early) {
-            block(NAPS, NULL, now + 2);
-        }
-        return PQ_OK;
+    const int is_early = has_answered;
+    pq_code code = PQ_OK;
+    *count = 0;
+    if (!is_early) {
+        code = pq_core_wakes_owed(member, count);
     }
-    return pq_core_wakes_owed(member, count);
+    scheduler_step(&proved_core, *count > 0 ? WRITES : READS);
+    if (is_early && played.answers_early) {
+        block(NAPS, NULL, now + 2);
+    }
+    return code;
 }

@@ -3,7 +3,7 @@
  * that is not ordered before it by the steps between (dynamic partial-order reduction, Flanagan and Godefroid 2005; bounded by preemptions,
  * Coons, Musuvathi and McKinley 2013: where a thread blocks each other is tried).
  *
- * Steps depend on each other where they touch the same word, and one of them writes it. All proved calls touch one word. That a thread unlocks
+ * Steps depend on each other where they touch the same word, and one of them changes it. All proved calls touch one word. That a thread unlocks
  * is never before that another locks, so that race is between the two that lock.
  */
 #include "explore.h"
@@ -21,10 +21,10 @@ typedef struct moment {
 typedef struct slot {
     uintptr_t at;
     unsigned epoch; /* of which execution it is */
-    int writer, write_choice;
+    int writer;
     uint32_t write_step;
     uint32_t read_steps[MOST_FIBERS];
-    int read_choices[MOST_FIBERS];
+    place written, reads[MOST_FIBERS];
     moment writes, all;
 } slot;
 
@@ -68,60 +68,60 @@ static int is_race(int of, int other, uint32_t step) {
     return other != of && step > moments[of].of[other];
 }
 
-static void read_word(int of, slot *it, int choice) {
+static void read_word(int of, slot *it) {
     if (it->writer >= 0 && is_race(of, it->writer, it->write_step)) {
-        want(it->write_choice, of);
+        want(it->written, of);
     }
     join(&moments[of], &it->writes);
     it->read_steps[of] = moments[of].of[of];
-    it->read_choices[of] = choice;
+    it->reads[of] = here;
     join(&it->all, &moments[of]);
 }
 
-static void write_word(int of, slot *it, int choice) {
+static void write_word(int of, slot *it) {
     if (it->writer >= 0 && is_race(of, it->writer, it->write_step)) {
-        want(it->write_choice, of);
+        want(it->written, of);
     }
     for (int i = 0; i < fiber_count; i++) {
         if (it->read_steps[i] > 0 && is_race(of, i, it->read_steps[i])) {
-            want(it->read_choices[i], of);
+            want(it->reads[i], of);
         }
     }
     join(&moments[of], &it->all);
     it->writer = of;
     it->write_step = moments[of].of[of];
-    it->write_choice = choice;
+    it->written = here;
     memset(it->read_steps, 0, sizeof it->read_steps);
     it->writes = it->all = moments[of];
 }
 
-static void free_block(int of, const void *at, int choice) {
+static void free_block(int of, const void *at) {
     uintptr_t from = (uintptr_t)at, to = from + (at != NULL ? malloc_usable_size((void *)at) : 0);
     for (int i = 0; i < listed_count; i++) {
         if (listed[i]->at >= from && listed[i]->at < to) {
-            write_word(of, listed[i], choice);
+            write_word(of, listed[i]);
         }
     }
 }
 
-/* A thread makes a step. This choice, if any, was made before it. */
-void races_note(int of, const void *at, enum access access, int choice) {
+/* A thread makes a step here. */
+void races_note(int of, const void *at, enum access access) {
     const uintptr_t word = (uintptr_t)at, unlocks = word + 1;
     moments[of].of[of]++;
     if (access == READS) {
-        read_word(of, find(word), choice);
+        read_word(of, find(word));
     } else if (access == WRITES) {
-        write_word(of, find(word), choice);
+        write_word(of, find(word));
     } else if (access == LOCKS) {
-        write_word(of, find(word), choice);
+        write_word(of, find(word));
         join(&moments[of], &find(unlocks)->all);
     } else if (access == UNLOCKS) {
-        write_word(of, find(unlocks), choice);
+        write_word(of, find(unlocks));
     } else if (access == TRIES_LOCK) {
-        write_word(of, find(word), choice);
-        write_word(of, find(unlocks), choice);
+        write_word(of, find(word));
+        write_word(of, find(unlocks));
     } else if (access == FREES) {
-        free_block(of, at, choice);
+        free_block(of, at);
     }
 }
 

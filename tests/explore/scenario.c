@@ -142,7 +142,7 @@ void scenario_begin(void) {
     uint32_t joined;
     (void)flatpq_may_open(); /* it sets these two at first */
     flatpq_special = 0;
-    flatpq_may_spin = 1;
+    flatpq_processors = 4;
     it = read_opening();
     joined = it.own > 0 ? 0 : it.options.members != 0 ? it.options.members : (uint32_t)played.count;
     it.options.members = it.own + joined;

@@ -53,7 +53,7 @@ void print_trace(void) {
 }
 
 void fail(const char *why, ...) {
-    static const char *const states[] = { "ready", "on a mutex", "on a word", "naps", "sleeps", "ended" };
+    static const char *const states[] = { "ready", "on a mutex", "on a thread", "on a word", "naps", "sleeps", "ended" };
     va_list all;
     va_start(all, why);
     printf("FAILED %s: ", played.name);
@@ -133,9 +133,17 @@ static void switch_to(fiber *to) {
     arrive(fake);
 }
 
+/* It sleeps in a call, or has ended. */
+int is_asleep(const fiber *it) {
+    return it->state == ENDED || it->state == SLEEPS || (it->state == ON_WORD && it->call != NO_CALL);
+}
+
 int is_ready(const fiber *it) {
     if (it->state == ON_MUTEX) {
         return *(const int *)it->at == 0;
+    }
+    if (it->state == ON_THREAD) {
+        return is_asleep(it->at);
     }
     return it->state == READY || (it->state != ENDED && it->until <= now);
 }
@@ -159,9 +167,8 @@ void pass_time(uint64_t to) {
 /* Has others go on until this fiber can, or the explorer where nobody ever can. */
 static void run_others(void) {
     fiber *mine = me;
-    int choice;
     for (;;) {
-        fiber *next = choose_fiber(NULL, NULL, NOTHING, &choice);
+        fiber *next = choose_fiber(NULL, NULL, NOTHING);
         if (next != NULL) {
             next->state = READY;
             switch_to(next);
@@ -221,19 +228,16 @@ static void record(const char *what, const char *file, int line) {
     }
 }
 
-/* A step of this thread comes next. Outside of an execution nothing happens. */
-void scheduler_point(const char *what, const void *at, enum access access, const char *file, int line) {
-    fiber *next;
-    int choice = -1, mine;
+/* A step of this thread comes next: who makes it says then what it does there. Outside of an execution nothing happens. */
+void scheduler_choice(const char *what, const void *at, enum access access, const char *file, int line) {
     if (me == NULL) {
         return;
     }
-    mine = index_of(me);
     if (is_random && has_late_stores && next_random() % 4 == 0) {
         system_drain(); /* a processor makes a delayed store some time */
     }
     if (is_random || access != NOTHING) {
-        next = choose_fiber(me, at, access, &choice);
+        fiber *next = choose_fiber(me, at, access);
         if (next != me) {
             next->state = READY;
             switch_to(next);
@@ -241,9 +245,19 @@ void scheduler_point(const char *what, const void *at, enum access access, const
     }
     record(what, file, line);
     if (!is_random) {
-        races_note(mine, at, access, choice);
-        search_steps(mine, at, access);
+        search_steps(index_of(me), at, access);
     }
+}
+
+void scheduler_step(const void *at, enum access access) {
+    if (me != NULL && !is_random) {
+        races_note(index_of(me), at, access);
+    }
+}
+
+void scheduler_point(const char *what, const void *at, enum access access, const char *file, int line) {
+    scheduler_choice(what, at, access, file, line);
+    scheduler_step(at, access);
 }
 
 /*
@@ -326,8 +340,7 @@ void execute(void) {
     }
     for (int round = 0; round < 3; round++) {
         thread kept = flatpq_thread;
-        int choice;
-        fiber *first = choose_fiber(NULL, NULL, NOTHING, &choice);
+        fiber *first = choose_fiber(NULL, NULL, NOTHING);
         if (first != NULL) {
             first->state = READY;
             switch_to(first);

@@ -4,9 +4,9 @@
  *
  * Where a thread blocks, each that can go on is tried, at no cost. Before a step each other that can go on, or that sleeps until the next time,
  * costs a preemption. One is tried where a later step of its own may change places with that step, and each where that one can't go on there
- * (races.c). A schedule that preempts a thread, and resumes it before a step that depends on its next one, is as one that preempts it a step later:
- * no more choices are made in it. This pays: with up to 2 preemptions it plays 3,774 schedules in place of 39,886 (own), and 7,816 of 284,860
- * (close-beside-a-join).
+ * (races.c). It is tried too in place of the thread of that step, where a preemption let that go on. A schedule that preempts a thread, and
+ * resumes it before a step that depends on its next one, is as one that preempts it a step later: no more choices are made in it. This pays: with
+ * up to 2 preemptions it plays 4,308 schedules in place of 39,198 (own), with all 2,323 orders of steps that depend on each other.
  *
  * usage: explore [-b PREEMPTIONS] [-n RANDOM SCHEDULES] [-s SEED] [-t SECONDS] [-r SCHEDULE] NAME SCENARIO
  */
@@ -30,6 +30,8 @@ static struct {
     signed char threads[MOST_FIBERS];
 } choices[MOST_CHOICES];
 static int choice_count, choice_known;
+static int block_began; /* the preemption by which the thread went on that makes steps now; -1: by none */
+place here;
 static uint64_t seed, random_state, points, most_points, change_at[MOST_CHANGES];
 static int lowest_priority;
 /* Of a thread that was preempted: its next step, until another step depends on it. */
@@ -60,8 +62,8 @@ void print_replay(void) {
     printf("\n");
 }
 
-/* A step of this thread races with that after this choice: it is tried there, and where it could not go on each other is. */
-void want(int choice, int thread) {
+/* This thread is tried by this choice, if any, and where it could not go on each other is. */
+static void want_at(int choice, int thread) {
     for (int i = 1; choice >= 0 && i < choices[choice].of; i++) {
         if (choices[choice].threads[i] == thread) {
             choices[choice].wanted |= 1u << i;
@@ -71,6 +73,12 @@ void want(int choice, int thread) {
     if (choice >= 0) {
         choices[choice].wanted = UINT_MAX;
     }
+}
+
+/* A step of this thread races with that at this place: it is tried before that, and in place of the thread that made that, as this costs no more. */
+void want(place before, int thread) {
+    want_at(before.choice, thread);
+    want_at(before.began, thread);
 }
 
 /* One of so many, the first by itself; *index is where that is recorded, or -1. Each is tried, or those that are wanted. */
@@ -147,10 +155,11 @@ static int others(const fiber *mine, fiber **found, int *ready) {
 }
 
 /* Who goes on before the step of this fiber, or where it is NULL, as one has blocked: NULL where nobody can. */
-fiber *choose_fiber(fiber *mine, const void *at, enum access access, int *choice) {
+fiber *choose_fiber(fiber *mine, const void *at, enum access access) {
     fiber *found[MOST_FIBERS + 1];
-    int ready, count, chosen;
-    *choice = -1;
+    int ready, count, chosen, choice;
+    here.choice = -1;
+    here.began = block_began;
     points += mine != NULL;
     if (is_random) {
         return choose_at_random(mine);
@@ -163,10 +172,12 @@ fiber *choose_fiber(fiber *mine, const void *at, enum access access, int *choice
     if (count == 0) {
         return NULL;
     }
-    chosen = choose(count, mine != NULL, mine == NULL, choice);
-    for (int i = 0; *choice >= 0 && i < count; i++) {
-        choices[*choice].threads[i] = found[i] != NULL ? (signed char)index_of(found[i]) : -1;
+    chosen = choose(count, mine != NULL, mine == NULL, &choice);
+    for (int i = 0; choice >= 0 && i < count; i++) {
+        choices[choice].threads[i] = found[i] != NULL ? (signed char)index_of(found[i]) : -1;
     }
+    here.choice = choice;
+    block_began = mine == NULL ? -1 : chosen > 0 ? choice : block_began;
     if (mine != NULL && chosen > 0) {
         int i = index_of(mine);
         waits_with[i].is_set = 1;
@@ -181,6 +192,8 @@ fiber *choose_fiber(fiber *mine, const void *at, enum access access, int *choice
 
 /* A fiber goes on that was preempted, or had blocked. */
 void search_resumes(int which) {
+    here.choice = -1;
+    here.began = block_began;
     is_redundant |= waits_with[which].is_set;
     waits_with[which].is_set = 0;
 }
@@ -206,6 +219,7 @@ static void begin_random(void) {
 
 static void play(void) {
     choice_count = preempted = is_redundant = has_late_stores = 0;
+    block_began = -1;
     points = 0;
     memset(waits_with, 0, sizeof waits_with);
     if (is_random) {

@@ -81,15 +81,20 @@ int system_lock(pthread_mutex_t *mutex) {
             fail("a thread locks a mutex that it has");
         }
         block(ON_MUTEX, mutex, PQ_FOREVER);
-        races_note(index_of(me), mutex, LOCKS, -1);
     }
+    scheduler_step(mutex, LOCKS);
     *owner = mine();
     return 0;
 }
 
 int system_try_lock(pthread_mutex_t *mutex) {
+    int *owner = (int *)mutex;
     system_drain();
-    return *(int *)mutex != 0 ? EBUSY : system_lock(mutex);
+    if (*owner != 0) {
+        return EBUSY;
+    }
+    *owner = mine();
+    return 0;
 }
 
 int system_unlock(pthread_mutex_t *mutex) {
@@ -142,12 +147,16 @@ static void nap(uint64_t until) {
     if (me->limit != PQ_NOW && now > me->limit && ++me->late_naps > 3) {
         fail("a thread naps on after its deadline");
     }
-    block(NAPS, NULL, until);
+    block(NAPS, NULL, proved_naps_until(until));
+}
+
+static uint64_t until_of(const struct timespec *time) {
+    return time != NULL ? (uint64_t)time->tv_sec * second + (uint64_t)time->tv_nsec : PQ_FOREVER;
 }
 
 static void futex(const char *file, int line, uint32_t *word, int what, uint32_t value, const struct timespec *time) {
     const uint64_t farthest = 900000 * second;
-    const uint64_t until = time != NULL ? (uint64_t)time->tv_sec * second + (uint64_t)time->tv_nsec : PQ_FOREVER;
+    const uint64_t until = until_of(time);
     const int command = what & FUTEX_CMD_MASK;
     if (me == NULL && command != FUTEX_WAKE) {
         fail("nobody can go on, and the library sleeps");
@@ -171,6 +180,19 @@ static void futex(const char *file, int line, uint32_t *word, int what, uint32_t
     }
 }
 
+/* Its words: what it waits at, how many, no flags, and until when. */
+static long nap_exactly(const char *file, int line, va_list *all) {
+    const struct timespec *end;
+    (void)va_arg(*all, const void *), (void)va_arg(*all, int), (void)va_arg(*all, int);
+    end = va_arg(*all, const struct timespec *);
+    scheduler_point("nap", &now, READS, file, line);
+    system_drain();
+    check_deadline(0, until_of(end));
+    nap(until_of(end));
+    errno = ETIMEDOUT;
+    return -1;
+}
+
 long system_call(const char *file, int line, long number, ...) {
     va_list all;
     long result = 0;
@@ -180,6 +202,8 @@ long system_call(const char *file, int line, long number, ...) {
         int what = va_arg(all, int);
         uint32_t value = va_arg(all, uint32_t);
         futex(file, line, word, what, value, va_arg(all, const struct timespec *));
+    } else if (number == SYS_futex_waitv) {
+        result = nap_exactly(file, line, &all);
     } else if (number == SYS_membarrier) {
         scheduler_point("barrier", NULL, NOTHING, file, line);
         result = va_arg(all, int) == MEMBARRIER_CMD_PRIVATE_EXPEDITED && refuses_barriers ? -1 : 0;

@@ -127,7 +127,7 @@ fn hand_over(waker: Waker) {
     }
 }
 
-/// A payload that is dropped with this. Where one of many panics, the others are dropped all the same.
+/// A payload that is dropped with this. If one of many panics, the others are dropped all the same.
 pub struct Dropped {
     value: u64,
     drop: unsafe fn(u64),
@@ -143,7 +143,7 @@ impl Dropped {
         Dropped { value, drop }
     }
 
-    /// Drops it after the call in which the thread is, or leaks it where there is none.
+    /// Drops it after the call in which the thread is, or leaks it if there is none.
     pub fn drop_after(self) {
         let after = AFTER.with(Cell::get);
         if after.is_null() {

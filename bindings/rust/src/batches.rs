@@ -18,7 +18,7 @@ const PART: usize = 1 << 16;
 pub struct Pushed {
     /// How many payloads.
     pub count: usize,
-    /// The number of the first one's journal entry; 0 where it put none in. Up to 64 payloads have consecutive entries, unless some waited for
+    /// The number of the first one's journal entry; 0 if it put none in. Up to 64 payloads have consecutive entries, unless some waited for
     /// room.
     pub number: u64,
 }

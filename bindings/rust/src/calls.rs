@@ -96,7 +96,7 @@ impl<K: Key, T> Call<'_, K, T> {
 ///
 /// # Safety
 ///
-/// The code is that of a call that takes items out of a queue of such payloads, and this the one time that the payload is taken out.
+/// The code is that of a call that takes items out of a queue of such payloads. The payload is taken out this one time.
 pub unsafe fn found<T>(code: u32, item: Item) -> Result<Due<u64, T>, Error> {
     match code {
         // SAFETY: all values of the queue are such payloads, and the call took this one out.
@@ -266,18 +266,19 @@ impl<K: Key, T: Number> Call<'_, K, T> {
 macro_rules! calls {
     (($($life:lifetime)?) $Type:ty, $($mutable:tt)?) => {
         impl<$($life,)? K: Key, T: Send> $Type {
-            /// Puts a payload in: the number of its journal entry, which is the payload's ticket. At a queue with a bound
-            /// ([`Options::most_items`](crate::Options::most_items)) it waits for room, until its deadline: then [`Error::Full`].
+            /// Puts a payload in, and returns the number of its journal entry. With [`Options::tickets`](crate::Options::tickets) that is the
+            /// payload's ticket. At a queue with a bound ([`Options::most_items`](crate::Options::most_items)) it waits for room.
             ///
             /// # Errors
             ///
-            /// Those of [each call](crate::TaskQueue#errors), [`Error::Shut`] and [`Error::NoMemory`], each with the payload.
+            /// Those of [each call](crate::TaskQueue#errors), [`Error::Shut`] and [`Error::NoMemory`], each with the payload. [`Error::Full`] if
+            /// there was no room until the deadline.
             pub fn push(&$($mutable)? self, key: K, payload: T) -> Result<u64, NotPushed<T>> {
                 self.call().push(key, payload)
             }
 
             /// Takes the first payload out, with its key, if there is one: of the smallest key the payload that was pushed first. It
-            /// does not wait for one.
+            /// doesn't wait for one.
             ///
             /// # Errors
             ///
@@ -286,8 +287,8 @@ macro_rules! calls {
                 self.call().pop()
             }
 
-            /// Takes the payload out that has this ticket, with its key, wherever it waits: the ticket is what [`Self::push`] returned.
-            /// `None` where no payload waits under it.
+            /// Removes the payload with this ticket, and returns it with its key. The ticket is what [`Self::push`] returned. `None` if no
+            /// payload waits under it.
             ///
             /// # Errors
             ///
@@ -307,8 +308,8 @@ macro_rules! calls {
                 self.call().remove(ticket)
             }
 
-            /// Moves the payload that has this ticket to this key, after all payloads of that one, in one step: its ticket from now on.
-            /// `None` where no payload waits under the ticket.
+            /// Moves the payload with this ticket to this key, after others of that key, in one step. Returns its new ticket, or `None` if no
+            /// payload waits under the old one.
             ///
             /// # Errors
             ///
@@ -390,8 +391,8 @@ macro_rules! calls {
                 self.call().pop_due(key)
             }
 
-            /// Puts payloads in, in their order: how many, and the number of the first one's journal entry. At a queue with a bound each
-            /// waits for room.
+            /// Puts payloads in, in their order. Returns how many, and the number of the first one's journal entry. At a queue with a bound
+            /// each waits for room. If the iterator panics, nothing is pushed.
             ///
             /// # Errors
             ///
@@ -410,23 +411,24 @@ macro_rules! calls {
                 self.call().push_many(payloads)
             }
 
-            /// Takes the first payloads out whose keys are at most this one, and at most `most` of them: up to 64 under one lock where a payload
-            /// has at most 1 KiB. A member's [`number`](crate::TaskMember::number) is then that of the first one's journal entry.
+            /// Takes the first payloads out whose keys are at most this one, and at most `most` of them. Up to 64 are taken under one lock if
+            /// a payload has at most 1 KiB. A member's [`number`](crate::TaskMember::number) is then that of the first one's journal entry.
             ///
             /// # Errors
             ///
-            /// Those of [each call](crate::TaskQueue#errors), where it took none out.
+            /// Those of [each call](crate::TaskQueue#errors), if it took none out. A refusal after some is hidden: the next call returns it.
             pub fn pop_due_many(&$($mutable)? self, key: K, most: usize) -> Result<Vec<(K, T)>, Error> {
                 self.call().pop_due_many(key, most)
             }
 
-            /// Returns the journal entries after the first `archived`, which is how many the program has stored: they may be forgotten from now on.
-            /// An entry has a token for a payload that is no number ([`Item::value`](crate::Item::value)), so nobody gets that back from an
-            /// archive.
+            /// Returns the journal entries after entry `archived`. Entries up to that one count as stored by the program, and may be forgotten
+            /// from now on. An entry has a token for a payload that is no number ([`Item::value`](crate::Item::value)), so nobody gets that
+            /// back from an archive.
             ///
             /// # Errors
             ///
-            /// [`Error::Forgotten`], [`Error::NoMemory`], [`Error::Forked`], with a deadline [`Error::TimedOut`].
+            /// [`Error::BadOption`] if the journal has fewer entries than that, [`Error::Forgotten`], [`Error::NoMemory`], [`Error::Forked`], with
+            /// a deadline [`Error::TimedOut`].
             pub fn archive(&$($mutable)? self, archived: u64) -> Result<Journal, Error> {
                 self.call().archive(archived)
             }
@@ -450,17 +452,17 @@ macro_rules! calls {
 macro_rules! takes {
     ($Type:ident $($mutable:tt)?) => {
         impl<K: Key, T: Send> $Type<K, T> {
-            /// Waits for a payload, and takes the first one out, with its key. The thread keeps its member meanwhile; but by the queue itself it
-            /// waits without one where those of the others wait too, so any number of threads may.
+            /// Waits for a payload, and takes the first one out, with its key. A joined member is kept meanwhile. By the queue itself any number
+            /// of threads may wait.
             ///
             /// # Errors
             ///
-            /// Those of [each call](crate::TaskQueue#errors), and [`Error::Shut`] where the queue is shut and empty.
+            /// Those of [each call](crate::TaskQueue#errors), and [`Error::Shut`] if the queue is shut and empty.
             pub fn take(&$($mutable)? self) -> Result<(K, T), Error> {
                 self.call().take()?.ok_or(Error::TimedOut)
             }
 
-            /// Takes the first payload out, with its key, and never waits: `None` where there is none, or other threads had the lock, or all
+            /// Takes the first payload out, with its key, and never waits. `None` if there is none, or if other threads had the lock, or all
             /// members. It has no journal entry then.
             ///
             /// # Errors
@@ -493,7 +495,7 @@ macro_rules! takes {
             ///
             /// # Errors
             ///
-            /// Those of [`Self::take`], and [`Error::TimedOut`] where other threads had the lock, or all members.
+            /// Those of [`Self::take`], and [`Error::TimedOut`] if other threads had the lock, or all members.
             pub fn try_take_due(&$($mutable)? self) -> Result<Due<K, T>, Error> where K: TimeKey {
                 self.until(Until::NOW).take_due()
             }
@@ -528,12 +530,12 @@ impl<'a, K: Key, T: Send> Limited<'a, K, T> {
         &self.0
     }
 
-    /// Waits for a payload, and takes the first one out: `None` where it got none until the deadline, as none was there, or other threads
-    /// had the lock, or all members.
+    /// Waits for a payload, and takes the first one out. `None` if it got none until the deadline: none was there, or other threads had the
+    /// lock, or all members.
     ///
     /// # Errors
     ///
-    /// Those of [`TaskQueue::take`](crate::TaskQueue::take).
+    /// Those of [`TaskQueue::take`](crate::TaskQueue::take), but never [`Error::TimedOut`].
     pub fn take(&self) -> Result<Option<(K, T)>, Error> {
         self.0.take()
     }

@@ -89,7 +89,7 @@ pub fn nanoseconds(moment: Instant) -> i128 {
     since + i128::from(origin.time)
 }
 
-/// The moment of this time; none where an `Instant` has none.
+/// The moment of this time; none if an `Instant` has none.
 pub fn moment(nanoseconds: i128) -> Option<Instant> {
     const SECOND: u128 = 1_000_000_000;
     let origin = origin();
@@ -114,7 +114,7 @@ pub struct Times {
 }
 
 impl Times {
-    /// Those by which the key of this number is due at this moment, rounded up to a whole unit of the clock. None where a unit is not of 1
+    /// Those by which the key of this number is due at this moment, rounded up to a whole unit of the clock. None if a unit is not of 1
     /// to 2^64 - 1 nanoseconds, or the moment too long ago.
     pub fn since(number: u64, start: Instant, unit: Duration) -> Option<Times> {
         let unit = u64::try_from(unit.as_nanos()).ok().filter(|it| *it > 0)?;
@@ -125,7 +125,7 @@ impl Times {
         Some(Times { zero, unit, above })
     }
 
-    /// The priority of a key. Those of the last keys are the same where they would be too great.
+    /// The priority of a key. Those of the last keys are the same if they would be too great.
     pub fn priority_of<K: Key>(&self, key: K) -> u64 {
         key.to_number().saturating_add(self.above)
     }

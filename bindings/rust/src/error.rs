@@ -28,13 +28,13 @@ macro_rules! errors {
 }
 
 errors! {
-    /// An option is out of its range, or an archive has more entries than the journal.
+    /// An option is out of range, or `archived` is more than the journal has.
     BadOption = 5,
     /// Memory was refused.
     NoMemory = 6,
     /// The journal is full, and stays full.
     JournalFull = 10,
-    /// The member has made all its requests: 2^56, or 2^24 - 1 where the journal fills.
+    /// The member has made all its requests: 2^56, or 2^24 - 1 if the journal fills.
     Exhausted = 11,
     /// A member was not given back, or is in a call.
     MembersLeft = 40,

@@ -75,14 +75,17 @@ unsafe extern "C" fn notified(slot: *mut c_void) {
 impl<K: Key, T: Send> TaskMember<K, T> {
     /// Waits for a payload by a future, and takes the first one out, with its key.
     ///
-    /// A push wakes one of those who wait, a thread or a future. A future that is dropped when it was woken wakes another, and no payload
-    /// is lost with it. A poll that finds none leaves no journal entry. Wakers run after the call of the library that wakes, in the thread
-    /// that pushes; where that thread waits in a call, or pushes by the library for C, in a thread of this crate, which the first poll
-    /// starts. So they may call the queue. Where a waker panics, the call goes on all the same.
+    /// A push wakes one thread in a `take`. If none sleeps there, it wakes one that waits for what is due, and one that listens, as a future
+    /// does. The future is cancel-safe: dropped when it was woken, it wakes another, and no payload is lost with it. A poll that finds none
+    /// leaves no journal entry.
+    ///
+    /// Wakers run after the call of the library that wakes, in the thread that pushes. If that waits in a call, or pushes by the library for C,
+    /// a thread of this crate runs them. The first poll starts it. So they may call the queue. If a waker panics, the call goes
+    /// on all the same.
     ///
     /// # Errors
     ///
-    /// Those of [`TaskMember::take`], [`Error::NoMemory`] where that thread can't start, and [`Error::AllJoined`] where the members of all others
+    /// Those of [`TaskMember::take`], [`Error::NoMemory`] if that thread can't start, and [`Error::AllJoined`] if the members of all others
     /// wait for payloads: calls need the last one.
     ///
     /// ```
@@ -111,7 +114,7 @@ impl<K: Key, T: Send> TaskMember<K, T> {
     }
 
     /// Waits by a future until the first payload is due, and takes it out, with its key. The program gives a sleep until a moment, as of its
-    /// executor's timer: `tokio::time::sleep_until(moment.into())`. What is due goes by the machine's clock: where tokio's is paused, the sleep
+    /// executor's timer: `tokio::time::sleep_until(moment.into())`. What is due goes by the machine's clock: if tokio's is paused, the sleep
     /// ends at once, and the future is polled again and again.
     ///
     /// # Errors
@@ -126,8 +129,8 @@ impl<K: Key, T: Send> TaskMember<K, T> {
         TakeDue::by(Taker::Member(self), sleep)
     }
 
-    /// Puts a payload in, and waits by a future while the queue has no room ([`Options::most_items`](crate::Options::most_items)): the number of
-    /// its journal entry. A future that is dropped when it was woken wakes another, and drops its payload.
+    /// Puts a payload in, and returns the number of its journal entry. It waits by a future while the queue has no room
+    /// ([`Options::most_items`](crate::Options::most_items)). A future that is dropped when it was woken wakes another, and drops its payload.
     ///
     /// # Errors
     ///
@@ -136,7 +139,7 @@ impl<K: Key, T: Send> TaskMember<K, T> {
         Push::by(Taker::Member(self), key, payload)
     }
 
-    // Puts a payload in; where there is no room, `Error::Full`, and the context's task is woken once there may be some, or the queue is shut.
+    // Puts a payload in. If there is no room, `Error::Full`: the context's task is woken once there may be some, or the queue is shut.
     fn push_or_listen(
         &mut self,
         key: K,
@@ -173,8 +176,8 @@ impl<K: Key, T: Send> TaskMember<K, T> {
         taken.map_or(Poll::Pending, |it| Poll::Ready(Ok(it)))
     }
 
-    /// Takes the first payload out if its key is at most this one; else has the context's task woken by the next push, or when the queue is
-    /// shut. Where it finds [`Due::Later`] the program calls it again when that key is due at the latest.
+    /// Takes the first payload out if its key is at most this one. Else the next push, or a shut, wakes the context's task. After
+    /// [`Due::Later`] the program calls it again once that key is within its bound: nothing wakes for that.
     ///
     /// # Errors
     ///
@@ -242,17 +245,17 @@ impl<K: Key, T: Send> TaskMember<K, T> {
 
 impl<K: Key, T: Send> TaskQueue<K, T> {
     /// Waits for a payload by a future, as [`TaskMember::take_async`] does. A future that is polled joins, and gives that member back when
-    /// it is ready or dropped. Where none is left it waits without one, until another such future gives its own back: so any number may wait.
+    /// it is ready or dropped. If none is left it waits without one, until another such future gives its own back: so any number may wait.
     /// A task that takes in a loop joins once, and awaits by that member: this takes half the time.
     ///
     /// # Errors
     ///
-    /// Those of [`TaskMember::take_async`], but [`Error::AllJoined`] only where no member is left, and no other such future has one.
+    /// Those of [`TaskMember::take_async`], but [`Error::AllJoined`] only if no member is left, and no other such future has one.
     pub fn take_async(&self) -> Take<'_, K, T> {
         Take(Taker::by_queue(self, &self.shared.lines.any))
     }
 
-    /// Puts a payload in, and waits by a future while the queue has no room, as [`TaskMember::push_async`] does. Only where it finds none it
+    /// Puts a payload in, and waits by a future while the queue has no room, as [`TaskMember::push_async`] does. Only if it finds none it
     /// joins, and waits so as [`TaskQueue::take_async`] does, for other futures that push.
     ///
     /// # Errors
@@ -281,8 +284,8 @@ impl<K: Key, T: Send> TaskQueue<K, T> {
         Push::by(Taker::by_queue(self, &self.shared.lines.room), key, payload)
     }
 
-    /// Waits by a future until the first payload is due, as [`TaskMember::take_due_async`] does, by a member that it joins, or without one as
-    /// [`TaskQueue::take_async`] does, for other futures that wait for what is due.
+    /// Waits by a future until the first payload is due, as [`TaskMember::take_due_async`] does. It joins as [`TaskQueue::take_async`] does, or
+    /// waits for a member of another future that waits for what is due.
     ///
     /// # Errors
     ///
@@ -444,7 +447,7 @@ impl<K, T> Drop for Taker<'_, K, T> {
     }
 }
 
-/// A take of a payload, by [`TaskQueue::take_async`] or [`TaskMember::take_async`]. Once it is ready it takes another where it is polled
+/// A take of a payload, by [`TaskQueue::take_async`] or [`TaskMember::take_async`]. Once it is ready it takes another if it is polled
 /// again.
 #[must_use = "a future does nothing unless it is polled"]
 pub struct Take<'a, K, T>(Taker<'a, K, T>);

@@ -13,14 +13,14 @@ use std::os::unix::io::{AsFd, AsRawFd};
 use std::sync::Mutex;
 use std::{fmt, io};
 
-/// An item as a queue has it: the number of its key, and the number that its payload is, or by which the queue has it.
+/// An item as a queue has it: the number of its key, and a number for its payload.
 #[derive(Clone, Copy, Debug, Default, PartialEq, Eq, PartialOrd, Ord, Hash)]
 #[repr(C)]
 pub struct Item {
-    /// The number of the key. Where [`Options::times`](crate::Options::times) counts from a moment it may be by some number greater.
+    /// The number of the key. If [`Options::times`](crate::Options::times) counts from a moment it may be by some number greater.
     pub priority: u64,
-    /// The payload where it is an unsigned integer. Of other payloads a token: an address, which is used again, or the payload's own bytes,
-    /// and with them what memory had where it has none.
+    /// The payload if it is an unsigned integer. Of other payloads a token: an address, which is used again, or the payload's own bytes. Bytes
+    /// that it doesn't have are what memory had there.
     pub value: u64,
 }
 
@@ -73,7 +73,7 @@ pub struct Entry {
     pub place: u32,
     /// What the member asked.
     pub request: Request,
-    /// The item that a push put in, or that another request found, as it was then; none where there was none.
+    /// The item that a push put in, or that another request found, as it was then; none if there was none.
     pub item: Option<Item>,
 }
 
@@ -135,9 +135,9 @@ impl fmt::Display for Entry {
 /// Entries of a queue's journal, which [`TaskQueue::close`](crate::TaskQueue::close) or [`TaskQueue::archive`](crate::TaskQueue::archive)
 /// copied. Threads may read it at the same time.
 ///
-/// A journal of payloads that are no numbers is a record of what happened: in place of the payloads it has tokens ([`Item::value`]), also as
+/// A journal of payloads that are no numbers is a record of what happened. In place of the payloads it has tokens ([`Item::value`]), also as
 /// text. A program that has to survive a restart stores its payloads by ids of its own, and pushes the ids into a
-/// [`Queue`](crate::Queue), whose journal [`TaskJournal::read_from`] reads back.
+/// [`Queue`](crate::Queue). [`TaskJournal::read_from`] reads that queue's journal back.
 ///
 /// ```
 /// let queue = flatpq::TaskQueue::new()?;
@@ -179,7 +179,7 @@ impl Journal {
         self.0.read(index).map(Entry::of)
     }
 
-    /// All entries, the first first.
+    /// All entries, in order.
     #[must_use]
     pub fn iter(&self) -> Iter<'_> {
         let (journal, next) = (self, 0);
@@ -269,7 +269,7 @@ impl<K, T> TaskJournal<K, T> {
 }
 
 impl<K: Key, T> TaskJournal<K, T> {
-    /// Takes out the payloads that are left, each with its key, the first first. What the iterator does not take out stays.
+    /// Takes out the payloads that are left, each with its key, in order. What the iterator does not take out stays.
     ///
     /// ```
     /// let queue = flatpq::TaskQueue::new()?;
@@ -324,8 +324,8 @@ impl<K: Key, T: Number> TaskJournal<K, T> {
     ///
     /// # Errors
     ///
-    /// [`Error::NotLawful`] where a line is no entry that may come next, or its checksum is wrong, [`Error::NotRead`], [`Error::NoMemory`]
-    /// and [`Error::Processor`], with the number of the line, and where it begins.
+    /// [`Error::NotLawful`] if a line is no entry that may come next, or its checksum is wrong, with its number, and where it begins.
+    /// [`Error::NotRead`], [`Error::NoMemory`] and [`Error::Processor`].
     ///
     /// ```
     /// # fn main() -> Result<(), Box<dyn std::error::Error>> {

@@ -7,9 +7,15 @@ use std::time::{Duration, Instant};
 /// By what a [`TaskQueue`](crate::TaskQueue) orders its payloads: the smallest key comes out first. The queue orders the numbers of keys,
 /// and gives back the key of a number.
 ///
-/// Integers of at most 64 bits are keys, `NonZeroU32` and the like, pairs of `u32`, `bool`, `char`, an `Option` of `bool`, `char` or an integer
-/// of at most 32 bits, `f32` and `f64`, [`Duration`] and [`Instant`], and [`Reverse`] of each, whose largest comes out first. Those that are times are [`TimeKey`]s. A type of the program's own
-/// is a key by two functions that undo each other:
+/// These are keys:
+///
+/// - integers of at most 64 bits, `NonZeroU32` and the like, `bool`, `char`, `f32` and `f64`;
+/// - `(u32, u32)`, and an `Option` of `bool`, `char` or an integer of at most 32 bits;
+/// - [`Duration`] and [`Instant`];
+/// - [`Reverse`] of each, whose largest comes out first.
+///
+/// Those that are times are [`TimeKey`]s. A type of the program's own is a key by two functions that undo each other. If `to_number` panics, nothing
+/// is pushed; if `from_number` does, the payload that was taken out is dropped.
 ///
 /// ```
 /// use flatpq::{Key, TaskQueue};
@@ -216,8 +222,8 @@ impl Key for Duration {
     }
 }
 
-/// By its nanoseconds: what has the key of a moment is due then. One that is 2^63 nanoseconds from the clock's time 0 or more, which are 292
-/// years, counts as one that is by 1 less away, and comes out as that.
+/// By its nanoseconds: what has the key of a moment is due then. One that is 292 years or more from the clock's time 0, which are 2^63
+/// nanoseconds, counts as 2^63 - 1 away, and comes out so.
 impl Key for Instant {
     const TIME_ZERO: u64 = TOP;
 

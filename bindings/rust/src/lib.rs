@@ -20,14 +20,15 @@
 //! # }
 //! ```
 //!
-//! - Calls: [`push`](TaskQueue::push), [`pop`](TaskQueue::pop) and [`peek`](TaskQueue::peek); [`take`](TaskQueue::take), which waits for a
-//!   payload, and [`try_take`](TaskQueue::try_take), which never waits; [`pop_due`](TaskQueue::pop_due), up to a key, and where keys are times
-//!   [`take_due`](TaskQueue::take_due).
+//! - Calls: [`push`](TaskQueue::push), [`pop`](TaskQueue::pop), [`peek`](TaskQueue::peek), and [`pop_due`](TaskQueue::pop_due), up to a key.
+//! - [`take`](TaskQueue::take) waits for a payload; [`try_take`](TaskQueue::try_take) never waits. If keys are times,
+//!   [`take_due`](TaskQueue::take_due) and [`try_take_due`](TaskQueue::try_take_due) do the same for what is due.
 //! - Batches, up to 64 requests under one lock: [`push_many`](TaskQueue::push_many) and [`pop_due_many`](TaskQueue::pop_due_many).
 //! - Tickets, by which a payload is removed or moved wherever it waits: [`remove`](TaskQueue::remove), [`reschedule`](TaskQueue::reschedule).
 //! - [`len`](TaskQueue::len) is exact, and so is [`peak_len`](TaskQueue::peak_len), the most that it has been. A queue may have a bound, at
 //!   which pushes wait for room ([`Options::most_items`]).
-//! - All these calls wait for other threads as long as it takes. [`until`](TaskQueue::until) limits that: `queue.until(deadline).take()`.
+//! - All these calls but the two `try_` wait for other threads as long as it takes. [`until`](TaskQueue::until) limits that:
+//!   `queue.until(deadline).take()`.
 //! - A [`TaskMember`] moves between threads; a thread that calls the queue itself has one of its own.
 //! - A task of an executor awaits [`take_async`](TaskQueue::take_async), and an event loop has a [`Listener`], or a [`DueListener`] for what is
 //!   due.
@@ -41,8 +42,9 @@
 //!
 //! In a forked child of a process that has opened a queue each call is refused ([`Error::Forked`]), and payloads are not dropped.
 //!
-//! The crate links the static library: that in the folder `FLATPQ_LIB_DIR`, or else the one beside this crate, or else the one that
-//! `pkg-config` knows as `flatpq`. Where `FLATPQ_DYNAMIC` is 1 it links the shared library that `pkg-config` knows.
+//! The crate links the static library in the folder `FLATPQ_LIB_DIR`. Without that it takes the first of these: `lib/` of its own folder,
+//! `out/` of the clone that it is in, what `pkg-config` knows. If `FLATPQ_DYNAMIC` is 1, it links the shared library of `pkg-config`. It
+//! compares versions only where it asks `pkg-config`; else compare [`library_version`].
 #![deny(missing_docs)]
 #![deny(missing_debug_implementations)]
 #![deny(unsafe_op_in_unsafe_fn)]
@@ -89,12 +91,13 @@ pub use options::{Keeping, Options};
 pub use tasks::{Drain, Member, Queue, TaskMember, TaskQueue};
 
 /// The version of the library that is linked: 10,000 times its major number, 100 times its minor number, and its patch. It goes with
-/// this crate where all but the patch are the same, and its patch is not lower.
+/// this crate if all but the patch are the same, and its patch is not lower.
 ///
 /// ```
 /// let numbers = [env!("CARGO_PKG_VERSION_MAJOR"), env!("CARGO_PKG_VERSION_MINOR"), env!("CARGO_PKG_VERSION_PATCH")];
 /// let own = numbers.iter().fold(0, |sum, number| 100 * sum + number.parse::<u32>().unwrap());
 /// assert_eq!(flatpq::library_version() / 100, own / 100);
+/// assert!(flatpq::library_version() >= own);
 /// ```
 #[must_use]
 pub fn library_version() -> u32 {

@@ -28,7 +28,7 @@ fn file_of(descriptor: c_int) -> io::Result<File> {
 
 /// A member with a file descriptor that is readable once there may be a payload, for event loops: poll(2), mio, `tokio::io::unix::AsyncFd`.
 ///
-/// Where the descriptor is readable the event loop takes payloads until there is none. It also does so once before it first waits.
+/// Whenever the descriptor is readable the event loop takes payloads until there is none. It also does so once before it first waits.
 ///
 /// ```
 /// use std::os::unix::io::AsRawFd;
@@ -55,7 +55,7 @@ impl<K: Key, T: Send> TaskQueue<K, T> {
     ///
     /// # Errors
     ///
-    /// Those of [`TaskQueue::join`], and where there is no descriptor left.
+    /// Those of [`TaskQueue::join`], and if there is no descriptor left.
     pub fn listener(&self) -> io::Result<Listener<K, T>> {
         let member = self.join()?;
         // SAFETY: the call makes a descriptor.
@@ -82,22 +82,23 @@ impl<K: Key, T: Send> TaskQueue<K, T> {
 
 impl<K: Key, T: Send> Listener<K, T> {
     /// Takes the first payload out, with its key, if there is one. Else the descriptor becomes readable once there may be one, or the queue
-    /// is shut. The call never waits.
+    /// is shut. The call never waits. After an error the member doesn't listen: call it again.
     ///
     /// # Errors
     ///
-    /// Those of [`TaskMember::take`], and [`Error::AllJoined`] where the members of all others wait for payloads: calls need the last one.
+    /// [`Error::Shut`] if the queue is shut and empty. [`Error::AllJoined`] if the members of all others wait for payloads: calls need the last
+    /// one. Those of [each call](TaskQueue#errors).
     pub fn try_take(&mut self) -> Result<Option<(K, T)>, Error> {
         let found = self.found(u64::MAX)?;
         Ok(self.member.shared.keyed(found).got())
     }
 
-    /// The same, of a payload whose key is at most this one. Where it finds [`Due::Later`] the event loop calls it again when that key is
-    /// due at the latest.
+    /// The same, of a payload whose key is at most this one. After [`Due::Later`] the event loop calls it again once that key is within its
+    /// bound: the descriptor doesn't say that.
     ///
     /// # Errors
     ///
-    /// Those of [`Listener::try_take`].
+    /// Those of [`Listener::try_take`]: [`Error::Shut`] if the queue is shut and empty.
     pub fn pop_due(&mut self, key: K) -> Result<Due<K, T>, Error> {
         let found = self.found(self.member.shared.times.priority_of(key))?;
         Ok(self.member.shared.keyed(found))
@@ -148,7 +149,7 @@ has_descriptor!(DueListener, timer);
 /// A member with a file descriptor that is readable once the first payload is due, for event loops: poll(2), mio,
 /// `tokio::io::unix::AsyncFd`. So the loop needs no timer of its own.
 ///
-/// Where the descriptor is readable the event loop takes payloads until none is due. It also does so once before it first waits. It never
+/// Whenever the descriptor is readable the event loop takes payloads until none is due. It also does so once before it first waits. It never
 /// reads the descriptor.
 ///
 /// ```
@@ -183,7 +184,7 @@ impl<K: Key, T: Send> DueListener<K, T> {
     ///
     /// # Errors
     ///
-    /// Those of [`Listener::try_take`].
+    /// Those of [`Listener::try_take`]: [`Error::Shut`] if the queue is shut and empty.
     pub fn try_take_due(&mut self) -> Result<Due<K, T>, Error> {
         let found = self.member.taken_due_or_listens(self.timer.as_fd())?;
         Ok(self.member.shared.keyed(found))

@@ -10,16 +10,16 @@ use std::time::{Duration, Instant};
 #[derive(Clone, Copy, Debug, PartialEq, Eq, Hash)]
 #[non_exhaustive]
 pub enum Keeping {
-    /// Memory keeps the last so many, 16 to 16,777,216; 0 is 1,024.
+    /// Memory keeps the last N, 16 to 16,777,216; 0 is 1,024.
     Forgets(u32),
     /// The same, 0 is 65,536; but a request that would make memory forget an entry that is not archived is refused, by
     /// [`Error::Unarchived`].
     Refuses(u32),
-    /// The journal has room for so many, 1 to 1,048,576, and then stays full: [`Error::JournalFull`].
+    /// The journal has room for N, 1 to 1,048,576, and then stays full: [`Error::JournalFull`].
     Fills(u32),
 }
 
-/// How a queue is opened, and from what start keys count, where they are times ([`Options::times`]).
+/// How a queue is opened, and from what start keys count, if they are times ([`Options::times`]).
 ///
 /// ```
 /// use flatpq::{Error, Keeping, Options};
@@ -62,7 +62,7 @@ impl Options {
         Options { raw, start }
     }
 
-    /// Opens a queue. Where its keys are times, they are those that [`TimeKey`](crate::TimeKey) says.
+    /// Opens a queue. If its keys are times, they are those that [`TimeKey`](crate::TimeKey) says.
     ///
     /// # Errors
     ///
@@ -107,8 +107,7 @@ impl<S> Options<S> {
     }
 
     /// How many items the queue may have; 0, the default, is no bound. A push to a queue that has so many waits until a payload is taken out,
-    /// and keeps its member meanwhile: open the queue for more members than there are threads that wait. With a deadline it is refused by
-    /// [`Error::Full`] then.
+    /// or until its deadline: [`Error::Full`]. It keeps its member meanwhile, so open the queue for more members than threads that wait.
     ///
     /// ```
     /// use flatpq::{Error, Options, Until};

@@ -1,7 +1,7 @@
 //! Payloads as the values of items. One of at most eight bytes lies in the value itself. Any other lies in a block of memory of its own,
 //! whose address is the value.
 //!
-//! The thread that took an item out has its payload, and no other: all values of a queue are payloads of one type, each in one item.
+//! The thread that took an item out has its payload, and no other. All values of a queue are payloads of one type, each in one item.
 use crate::after::Dropped;
 use crate::journal::Item;
 use std::alloc::{alloc, Layout};
@@ -19,10 +19,10 @@ pub const fn is_dropped<T>() -> bool {
     needs_drop::<T>() || !is_inside::<T>()
 }
 
-/// The value of a payload, or the payload where memory for its block is refused.
+/// The value of a payload, or the payload if memory for its block is refused.
 ///
-/// An instruction reads the payload's bytes, and not the compiler, to which some may be uninitialised, and others part of a pointer: the
-/// first are what memory has there, and the pointer is exposed, as by a cast to a number.
+/// An instruction reads the payload's bytes, not the compiler. To that some may be uninitialised, and others part of a pointer. The first are
+/// what memory has there, and the pointer is exposed, as by a cast to a number.
 pub fn value_of<T>(payload: T) -> Result<u64, T> {
     if !is_inside::<T>() {
         return in_block(payload);
@@ -56,7 +56,7 @@ fn in_block<T>(payload: T) -> Result<u64, T> {
 ///
 /// # Safety
 ///
-/// The value is one of `value_of` for this type, and this is the one time that its payload is taken out; or the payload is a number.
+/// The value is one of `value_of` for this type, and its payload is taken out this one time. Or the payload is a number.
 pub unsafe fn payload_of<T>(value: u64) -> T {
     if !is_inside::<T>() {
         // SAFETY: the block is as that of a box.

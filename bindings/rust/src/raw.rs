@@ -12,7 +12,7 @@ pub enum MemberInside {}
 /// A journal as the library has it.
 pub enum JournalInside {}
 
-/// What the library calls once where a member listens.
+/// What the library calls once while a member listens.
 pub type Notify = unsafe extern "C" fn(*mut c_void);
 /// What it calls with each item that is left in a queue that it frees.
 pub type Left = unsafe extern "C" fn(*mut c_void, Item);
@@ -208,8 +208,8 @@ impl RawJournal {
         NonNull::new(journal).map(RawJournal).ok_or(Error::NoMemory)
     }
 
-    /// Reads one back from a file: the code, the journal if there is one, how many lines were read, and how many bytes those before a torn or
-    /// refused one have.
+    /// Reads one back from a file: the code, the journal if there is one, and how many lines were read. The last is how many bytes the lines
+    /// have before a torn or refused one.
     pub fn read_from(file: c_int) -> (u32, Option<RawJournal>, u64, u64) {
         let (mut journal, mut line, mut bytes) = (ptr::null_mut(), 0, 0);
         // SAFETY: all are borrowed for this call.

@@ -69,15 +69,16 @@ impl<T> Drop for Shared<T> {
 /// A priority queue of payloads of any type, each by a [`Key`], which threads share. The smallest key comes out first, and payloads of
 /// equal keys in the order in which they were pushed or moved there.
 ///
-/// Any number of threads may call the queue itself: each has a member of its own from its first call to its end, and where all members are
-/// in use a call takes over an idle one, or waits for one. A program that wants to move a member between threads joins one
-/// ([`TaskQueue::join`]).
+/// Any number of threads may call the queue itself. Each gets a member of its own at its first call. It has that until it ends, or until a call
+/// of another thread takes the idle member over. If all members are in calls, a call waits for one. A program that wants to move a member
+/// between threads joins one ([`TaskQueue::join`]).
 ///
-/// A payload of at most eight bytes, as a number or a `Box<u32>`, lies in its item; any other, as a `Box<dyn FnOnce()>`, in memory of its own.
-/// Those that are left are dropped with the last of the queue and its members, or with the journal where the queue was closed. Box a payload
+/// A payload of at most eight bytes, as a number or a `Box<u32>`, lies in its item. Any other, as a `Box<dyn FnOnce()>`, has memory of its own.
+/// Those that are left are dropped with the last of the queue and its members, or with the journal if the queue was closed. Box a payload
 /// of more than some KiB: a call of a debug build needs up to 64 times its size of stack.
 ///
-/// A queue whose type is not named has keys of the type of those that are pushed, which of bare numbers is `i32`.
+/// A queue whose type is not named has keys of the type of those that are pushed, which of bare numbers is `i32`. That is so of
+/// `Queue::new()` too: the defaults of [`Queue`] count where it is a type, as in `let queue: Queue = Queue::new()?`.
 ///
 /// ```
 /// use flatpq::TaskQueue;
@@ -107,7 +108,7 @@ impl<T> Drop for Shared<T> {
 ///
 /// Each call may return
 ///
-/// - [`Error::JournalFull`] and [`Error::Unarchived`], where the queue was opened so ([`Options::keeping`]), and [`Error::Exhausted`];
+/// - [`Error::JournalFull`] and [`Error::Unarchived`], if the queue was opened so ([`Options::keeping`]), and [`Error::Exhausted`];
 /// - [`Error::NoMemory`], by the queue itself, for its thread's member;
 /// - [`Error::TimedOut`], with a deadline: other threads had the lock, or all members, until then;
 /// - [`Error::Forked`], in a forked child of a process that has opened a queue.
@@ -117,7 +118,7 @@ pub struct TaskQueue<K, T> {
 }
 
 /// A queue of integers by keys: as any [`TaskQueue`], and with calls that return numbers. Its journal has the values as they were
-/// pushed, where they are unsigned.
+/// pushed, if they are unsigned.
 pub type Queue<K = u64, V = u64> = TaskQueue<K, V>;
 
 /// A member of a [`Queue`].
@@ -155,8 +156,8 @@ impl<K: Key, T: Send> TaskQueue<K, T> {
         self.until(Until::FOREVER).0
     }
 
-    /// Limits how long calls may wait for other threads, and for payloads: until a moment ([`Instant`](std::time::Instant)), for a time
-    /// from now ([`Duration`](std::time::Duration)), or not at all ([`Until::NOW`]).
+    /// Limits how long calls may wait for other threads, and for payloads. That is until a moment ([`Instant`](std::time::Instant)), for a
+    /// time from now ([`Duration`](std::time::Duration)), or not at all ([`Until::NOW`]).
     pub fn until(&self, until: impl Into<Until>) -> Limited<'_, K, T> {
         Limited(Call {
             member: self.shared.queue.own(),
@@ -192,7 +193,7 @@ impl<K: Key, T: Send> TaskQueue<K, T> {
         })
     }
 
-    /// Takes all payloads out, the first first, until there is none or a call is refused.
+    /// Takes all payloads out, in order, until there is none or a call is refused.
     ///
     /// ```
     /// let queue = flatpq::TaskQueue::new()?;
@@ -208,8 +209,8 @@ impl<K: Key, T: Send> TaskQueue<K, T> {
         Drain(Some(self))
     }
 
-    /// Takes all payloads out, and drops them: how many. A payload that holds a [`TaskMember`] of this queue keeps it alive: shut the queue
-    /// and clear it to free both.
+    /// Takes all payloads out, drops them, and returns how many there were. A payload that holds a [`TaskMember`] of this queue keeps it alive:
+    /// shut the queue and clear it to free both.
     ///
     /// # Errors
     ///
@@ -219,8 +220,8 @@ impl<K: Key, T: Send> TaskQueue<K, T> {
             .try_fold(0, |count, drained| drained.map(|_| count + 1))
     }
 
-    /// Ends the queue: its journal, and the payloads that are left. Own members of threads that are in no call are taken back. No thread that
-    /// waits is woken: [`TaskQueue::shut`] does that first.
+    /// Ends the queue, and returns its journal and the payloads that are left. Own members of threads that are in no call are taken back. No
+    /// thread that waits is woken: [`TaskQueue::shut`] does that first.
     ///
     /// # Errors
     ///
@@ -244,7 +245,7 @@ impl<K, T> TaskQueue<K, T> {
         self.shared.shut()
     }
 
-    /// Whether the queue is shut: each push that begins from now on is refused. Where it is not, no push was refused for that before.
+    /// Whether the queue is shut: each push that begins from now on is refused. If `false`, no push has been refused as shut so far.
     ///
     /// ```
     /// let queue = flatpq::TaskQueue::new()?;
@@ -331,8 +332,8 @@ impl<K: Key, T: Send> TaskMember<K, T> {
         })
     }
 
-    /// The number of the journal entry of the member's last call for a payload, or of its last answer; of a batch that of its first entry; 0
-    /// where that has none.
+    /// The number of the journal entry of the member's last call that pushes, takes, removes, moves or peeks. Of a batch it is that of its first
+    /// entry; 0 if there is none.
     ///
     /// ```
     /// let queue = flatpq::TaskQueue::new()?;
@@ -410,8 +411,8 @@ impl<K, T> TaskMember<K, T> {
         }
     }
 
-    /// Ends the listening, and drops the waker: whether the member listened, and no call had begun to wake its task since it listened last. A
-    /// wake that had begun may still come.
+    /// Ends the listening, and drops the waker. Returns whether the member listened, and no call had begun to wake its task since it listened
+    /// last. A wake that had begun may still come.
     pub fn unlisten(&mut self) -> bool {
         // SAFETY: the member is there, and in this call alone.
         let listened = after::calling(|| unsafe { raw::pq_unlisten(self.raw.inside()) } == 1);

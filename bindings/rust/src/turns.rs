@@ -1,7 +1,7 @@
-//! Futures of a queue that wait without a member, where all are in use.
+//! Futures of a queue that wait without a member, if all are in use.
 //!
-//! A future has a turn while it is polled, and while it listens. Where it gets no member, and another has a turn, it gives its own up, and waits
-//! in a line. The one whose turn ends, as it is ready or dropped, gives its member back, and hands its turn to the first in the line. So where some
+//! A future has a turn while it is polled, and while it listens. If it gets no member, and another has a turn, it gives its own up, and waits
+//! in a line. The one whose turn ends, as it is ready or dropped, gives its member back, and hands its turn to the first in the line. So if some
 //! wait there is one that has a turn, and each that is woken for its turn looks for itself.
 //!
 //! A line has those alone that wait for the same. So what comes while they wait wakes one that has a turn, and listens for that.
@@ -39,7 +39,7 @@ pub struct Turn<'a> {
 enum Has {
     Nothing,
     Turn,
-    /// Its waker is in the line under this number. Where it is not any more, it was woken for its turn.
+    /// Its waker is in the line under this number. If it is not any more, it was woken for its turn.
     Number(u64),
 }
 

@@ -1,12 +1,11 @@
 -- What a leader owes to the steps by which it applies a request of its own, or frees the lock.
-use Rattle.std.proofs.Common.{◌≡◌, ℕ, ◌+◌, ◌<◌, Bool, true, List, [], ◌∷◌, arith, refl, ap, sym, ◌∙◌, subst, Some, None}
+use Rattle.std.proofs.Common.{◌≡◌, ℕ, ◌+◌, ◌<◌, Bool, true, List, [], ◌∷◌, ap, sym, ◌∙◌, subst, Some, None}
 use Rattle.std.specs.Prelude.{Option, max, min, length}
 use mathlib.Core.Option.{none}
 use Rattle.atomic_table.specs.Table.{Allows, step, rest}
 use Rattle.pq_types.specs.Asked.{Request, Operation}
 use Rattle.pq_types.specs.Entry.{IsProperOperationOf}
 use Rattle.pq_types.specs.Asked.{Answer}
-use Rattle.pq_types.specs.Asked.{Line}
 use Rattle.pq_types.specs.declared.journal.TheConstants.{GREATEST_NUMBER}
 use Rattle.pq_types.specs.Queue.{IsProperRequestOf}
 use Rattle.pq_types.specs.History.{journal_after, journal_by, MayDo, MayAnswer}
@@ -26,10 +25,6 @@ use Rattle.announce_board.specs.Allowed.{ApplyAllowed, ArchiveAllowed, ReleaseAl
 -- what a Book answers is said of the one in hand, which it is
 pub in_hand : (p : PenState) (b : Volume) (q : Operation) (x : Answer) → b ≡ book_in_hand p → MayDo (limits_of b) b.journal q x → MayDo (limits_in_hand p) p.hand q x
 in_hand p b q x e may = subst (λ (h : Volume). MayDo (limits_of h) h.journal q x) e may
-
--- a Book that keeps its terms, and allows as many lines, has the same limits
-pub same_limits : (b b' : Volume) → KeepsTerms b b' → b'.allowed ≡ b.allowed → limits_of b' ≡ limits_of b
-same_limits b b' terms allowed = cc
 
 pub release_owes : (wide : Bool) (roomy : ℕ → Type 0) → ReleaseAllowed wide roomy → (room : ℕ) (terms : Terms) (places slots id : ℕ) (m n : Seated) (b : Volume) → m.0 ≡ Holder (pen_at m) → (pen_at m).leading ≡ true → b ≡ book_in_hand (pen_at m)
     → ◌≡◌ {A = Seated} n (m.0, (0, with_book b) ∷ rest m.1) → Allows (Keeps wide roomy room terms places) slots id n lock_at (λ _. 0) (λ _. Released (step slots lock_at 0 0 none) n 0)
@@ -90,12 +85,12 @@ apply_owes wide roomy allowed room terms places slots id m n b q x is leads idle
     subst F (sym e) (allowed room terms places slots id now is (rest m.1) q x (ap (λ y. (0, with_book y) ∷ rest m.1) book) leads idle few proper may)
 
 -- and what it is afterwards: it holds the slot with the Book
-pub applied : (m n after : Seated) (word : ℕ) (b : Volume) (q : Request) (x : Answer) → m.1 ≡ (0, out) ∷ []
+pub applied : (m n after : Seated) (word : ℕ) (b : Volume) (q : Request) (x : Answer) (held : Slotted) → m.1 ≡ (0, held) ∷ []
     → MayAnswer (limits_in_hand (pen_at m)) (pen_at m).hand q x
     → b ≡ book_with (pen_at m) (journal_after (pen_at m).hand (pen_at m).place ((pen_at m).posts + 1) q x)
     → ◌≡◌ {A = Seated} n (m.0, (0, with_book b) ∷ rest m.1) → Applied (step 0 lock_at 0 0 none) n word after
     → ((now : ℕ) × ◌≡◌ {A = Seated} after (Holder (after_apply (pen_at m) q x now), (0, with_book b) ∷ [])) × Knows (pen_at m).room (pen_at m) (pen_at m).hand
-applied m n after word b q x slot may book e told =
+applied m n after word b q x held slot may book e told =
     let now : Seated = (m.0, (0, with_book b) ∷ rest m.1) in
     let t : Applied (step 0 lock_at 0 0 none) now word after = subst (λ y. Applied (step 0 lock_at 0 0 none) y word after) e told in
     let s = t q x may (ap (λ y. (0, with_book y) ∷ rest m.1) book) in

@@ -22,3 +22,5 @@ mod Weights
 mod Gathered
 mod Dealing
 mod Lines
+mod Lent
+mod Batched

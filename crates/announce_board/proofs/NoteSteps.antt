@@ -11,11 +11,11 @@ use Rattle.announce_board.specs.declared.terms.Terms.{Terms}
 use Rattle.announce_board.specs.Slots.{Slotted, first_limits}
 use Rattle.desk_core.specs.CallLines.{IsLineOf, CallsAreLines}
 use Rattle.desk_core.specs.Calls.{call}
-use Rattle.desk_core.specs.Dealing.{IsReached, CatchesUp as MovesUp, Writes, Hears, Copies, MovesReach}
+use Rattle.desk_core.specs.Dealing.{IsReached, CatchesUp as MovesUp, Writes, Hears, MovesReach}
 use Rattle.desk_core.specs.Desk.{Desk, with_pen}
 use Rattle.desk_core.specs.Knows.{Knows}
 use Rattle.desk_core.specs.Layout.{lock_at, Loaded}
-use Rattle.desk_core.specs.Notes.{after_catch_up, after_writing, after_hearing, CatchUpKeeps, WritingKeeps, HearingKeeps, CopyingKeeps}
+use Rattle.desk_core.specs.Notes.{after_catch_up, after_writing, after_hearing, CatchUpKeeps, WritingKeeps, HearingKeeps}
 use Rattle.desk_core.specs.Rule.{MeetsRule, StartsWith}
 use Rattle.desk_core.specs.Duties.{DutiesAreKept, weight_of}
 use Rattle.desk_core.specs.declared.model.Call.{Call}
@@ -23,7 +23,7 @@ use Rattle.desk_core.specs.declared.model.View.{View}
 use Rattle.desk_core.specs.declared.model.View.TheVariants.{Holder, Note}
 use Rattle.announce_board.specs.Rule.{Keeps, Seated, desk_of}
 use Rattle.announce_board.specs.Steps.{pen_at, Becomes}
-use Rattle.announce_board.specs.Notes.{told_of, told_in, IsNote, CatchesUp, after_note, while_hearing, after_hearing_all, CatchUpAllowed, WritingAllowed, HearingAllowed, CopyingAllowed, CallsAreFound}
+use Rattle.announce_board.specs.Notes.{told_of, told_in, IsNote, CatchesUp, after_note, while_hearing, after_hearing_all, CatchUpAllowed, WritingAllowed, HearingAllowed, CallsAreFound}
 use Rattle.announce_board.proofs.Agreeing.{longer_in_common, both_begin}
 use Rattle.announce_board.proofs.Duties.{acts_on, quiet_set, quiet_more, note_quiet}
 use Rattle.announce_board.proofs.Weights.{weighs_set, weighs_more, weighs_on}
@@ -95,25 +95,6 @@ hearing_allowed wide roomy goes kept room terms places slots id m is other note 
     (quiet_set (set s.views id w) other (Note told) (Note []) (acts_on s.views id p (while_hearing p told) k.duties here refl refl)
     (there ∙ ap some it) (note_quiet told) (note_quiet []))
     (omega (arith, same, spent, within))
-
-pub copying_allowed : (wide : Bool) (roomy : ℕ → Type 0) → MovesReach → CopyingKeeps → CopyingAllowed wide roomy
-copying_allowed wide roomy goes kept room terms places id note it s k at =
-    let now = d wide roomy room terms places s k in
-    let told = told_of note in
-    let copied : Desk = record now { views = set s.views id (Note told) ++ Note told ∷ [] } in
-    let same = weighs_set places s.views id (Note told) (Note told) (at ∙ ap some it) in
-    let more = weighs_more places (set s.views id (Note told)) (Note told) in
-    let within = k.weight in
-    viewed wide roomy room terms places s k (set s.views id note ++ note ∷ [])
-    (subst (λ (v : View). IsReached places (first_limits room terms) (record now { views = set s.views id v ++ v ∷ [] })) (sym it)
-    (goes places (first_limits room terms) now copied (Copies id) k.reached (told, at ∙ ap some it, refl)))
-    (subst (λ (v : View). MeetsRule (record (d wide roomy room terms places s k) { views = set s.views id v ++ v ∷ [] })) (sym it)
-    (kept (d wide roomy room terms places s k) id (told_of note) k.meets (at ∙ ap some it)))
-    (subst (λ (v : View). DutiesAreKept (set s.views id v ++ v ∷ [])) (sym it)
-    (quiet_more (set s.views id (Note told)) (Note told)
-    (quiet_set s.views id (Note told) (Note told) k.duties (at ∙ ap some it) (note_quiet told) (note_quiet told))
-    (note_quiet told)))
-    (subst (λ (v : View). weight_of places (set s.views id v ++ v ∷ []) ≤ places) (sym it) (omega (arith, same, more, within)))
 
 all_at : (P : Call → Type 0) (xs ys : List Call) → ((i : ℕ) (c : Call) → slice_get (xs ++ ys) i ≡ Some c → P c) → AllByRecursion P xs
 all_at P [] ys f = tt

@@ -7,6 +7,7 @@ pub mod ItemWords
 pub mod Asking
 pub mod Loads
 pub mod Serving
+pub mod Batches
 pub mod Told
 pub mod Opening
 pub mod Leading

@@ -6,7 +6,6 @@ use Rattle.std.specs.List.{AllByRecursion}
 use Rattle.atomic_table.specs.Seated.{TableId}
 use Rattle.atomic_table.specs.Table.{Step, Allows, Splits, Joins, step}
 use Rattle.pq_types.specs.Asked.{Line}
-use Rattle.announce_board.specs.declared.terms.Terms.{Terms}
 use Rattle.announce_board.specs.Slots.{Slotted}
 use Rattle.desk_core.specs.CallLines.{IsLineOf}
 use Rattle.desk_core.specs.Knows.{Knows}
@@ -90,10 +89,6 @@ WritingAllowed wide roomy = AtEachPen (λ room terms places slots id m.
 abbrev pub HearingAllowed : Bool → (ℕ → Type 0) → Type 0
 HearingAllowed wide roomy = AtEachPen (λ room terms places slots id m. (other : ℕ) (note : View) → note ≡ Note (told_of note)
     → Joins (Keeps wide roomy room terms places) id m.0 other note (hearer m.0 note) (Note []))
-
-abbrev pub CopyingAllowed : Bool → (ℕ → Type 0) → Type 0
-CopyingAllowed wide roomy = (room : ℕ) (terms : Terms) (places id : ℕ) (note : View) → note ≡ Note (told_of note)
-    → Splits (Keeps wide roomy room terms places) id note note note
 
 -- a pen finds all its calls in a journal that it knows
 abbrev pub CallsAreFound : Type 0

@@ -1,7 +1,9 @@
 -- What lies in the slot of a desk's table, and the terms of the Book there.
-use Rattle.std.specs.Prelude.{◌≡◌, ◌≤◌, ◌+◌, ℕ, Option, Some, None}
-use Rattle.pq_types.specs.History.{Limits}
-use Rattle.pq_book.specs.Book.{Volume, limits}
+use Rattle.std.specs.Prelude.{◌≡◌, ◌≤◌, ◌+◌, ℕ, Bool, Option, Some, None}
+use Rattle.pq_types.specs.Asked.{Request, Answer}
+use Rattle.pq_types.specs.Mail.{IsProperAnswerOf}
+use Rattle.pq_types.specs.History.{Limits, MayAnswer, journal_after}
+use Rattle.pq_book.specs.Book.{Volume, limits, limits_of, KeepsTerms}
 use Rattle.announce_board.specs.declared.terms.Terms.{Terms}
 
 -- the Book has the bound of these terms, and allows as many lines as they do, or more
@@ -39,3 +41,15 @@ slotted None terms = says terms
 abbrev pub book_of : Slotted → Option Volume
 book_of (with_book book) = Some book
 book_of (says terms) = None
+
+-- the Book in the slot carried out a request of this place under this serial, and was so answered
+pub record CarriesOut (wide : Bool) (place serial : ℕ) (request : Request) (before : Slotted) (answer : Answer) (after : Slotted) : Type 0 where
+  pub book : Volume
+  pub next : Volume
+  pub was : before ≡ with_book book
+  pub is : after ≡ with_book next
+  pub may : MayAnswer (limits_of book) book.journal request answer
+  pub proper : IsProperAnswerOf wide answer
+  pub journal : next.journal ≡ journal_after book.journal place serial request answer
+  pub terms : KeepsTerms book next
+  pub allowed : next.allowed ≡ book.allowed

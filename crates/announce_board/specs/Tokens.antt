@@ -78,12 +78,3 @@ pub record IsPen (table : TableId) (m : Seated) (place posts : ℕ) (idle : Bool
 abbrev pub pen_in : List View → PenState
 pen_in [] = new_pen 0 0
 pen_in (v ∷ vs) = pen_of v
-
--- a badge is that of a pen that does not lead
-pub record IsStowed (table : TableId) (views : List View) (place posts : ℕ) (idle : Bool) : Type 0 where
-  pub one : views ≡ Holder (pen_in views) ∷ []
-  pub leads_not : (pen_in views).leading ≡ false
-  pub here : place ≡ (pen_in views).place
-  pub inside : item_at place + 1 < table.words
-  pub counted : posts ≡ (pen_in views).posts
-  pub waits_not : idle ≡ is_idle (pen_in views).standing

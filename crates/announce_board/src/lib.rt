@@ -15,11 +15,11 @@
 //!   most the entered answer for which it waits. `Desk::serve` answers the request that stands
 //!   posted as the Book does, and no other; `Desk::look` gives an answer to the request that was
 //!   posted.
-//! - `Desk::apply` carries out a request of the leader's own, which posts nothing, and goes on leading: the Book in its hand has
-//!   its line, and the pen its answer. `Desk::release_with` frees the lock with one: the Book that goes home has its line.
-//!   `Desk::release_by_ticket` frees it so with a removal or a move of an item by its ticket, and `Desk::release_shut`
-//!   with a shut of the queue.
-//! - The Book decides under the lock whether an operation is refused, and why. `Desk::serve`, `Desk::apply`
+//! - `Desk::apply_pushes` and `Desk::apply_pops` carry out a batch of the leader's own requests, a step for each, and post nothing.
+//!   The leader goes on leading: the Book in its hand has their lines. Between two of them the Book lies in its slot.
+//!   `Desk::release_with` frees the lock with one request: the Book that goes home has its line. `Desk::release_by_ticket` frees
+//!   it so with a removal or a move of an item by its ticket, and `Desk::release_shut` with a shut of the queue.
+//! - The Book decides under the lock whether an operation is refused, and why. `Desk::serve`, the batches
 //!   and the releases answer as the journal and the limits that the pen has in hand say, a posted request too. All
 //!   of them leave these limits. `Desk::archive` alone, a step of its own, lets the Book allow more lines, by the lines
 //!   that it is told are archived. So the Book of each lead meets the desk's terms: it has their bound, and allows as
@@ -28,7 +28,7 @@
 //! - `Desk::note` writes a note of the journal, which another pen of the desk may `Desk::hear`, in any thread: then each
 //!   later line of that pen is behind the journal that the note tells, which has all calls of the writer.
 //! - A pen that leads may draft, post and look meanwhile: its lead stays its own (`leading::law_leads_stay`).
-//! - Over stores that all have room for as many items as the journal has lines, `Desk::serve`, `Desk::apply` and
+//! - Over stores that all have room for as many items as the journal has lines, `Desk::serve`, `Desk::apply_pushes` and
 //!   `Desk::release_with` give no `NoMemory`, and `Desk::look` finds none.
 //! - `Desk::close` gives the Book of some desk that meets the rule, and `Desk::close_with` one
 //!   whose journal has all calls of that pen.
@@ -36,8 +36,8 @@
 //!   again for a licence.
 //! - `Desk::retire` takes a pen that does not lead for its last testimony. `Desk::close_all`, with a testimony of retired pens that
 //!   has a licence for each other pen, is never refused: its Book has the calls of these pens, and no line of another place.
-//! - But for the opening only `Desk::serve`, `Desk::apply`, `Desk::release_with` and `Desk::release_by_ticket` take memory, for
-//!   a push or a move alone; and no call waits.
+//! - But for the opening only `Desk::serve`, `Desk::apply_pushes`, `Desk::release_with` and `Desk::release_by_ticket` take memory,
+//!   for a push or a move alone; and no call waits.
 //!
 //! That `Desk::serve` tells truly of another pen's post, and that a look finds what another leader
 //! answered, is tested and not proved: a contract speaks of its own pen. Nothing is said of time,
@@ -47,6 +47,7 @@
 mod applying;
 mod archiving;
 mod asking;
+mod batching;
 mod boxed_book;
 mod by_ticket;
 mod closing;
@@ -75,4 +76,4 @@ pub use notes::Note;
 pub use sleeping::Sleeper;
 pub use terms::Terms;
 pub use testimony::Testimony;
-pub use tokens::{Lead, Pen, Stowed};
+pub use tokens::{Lead, Pen};

@@ -9,7 +9,7 @@ ghost use Rattle.desk_core.specs.Rule.{StartsWith};
 ghost use Rattle.desk_core.specs.declared.model.View.TheVariants.{Holder};
 ghost use Rattle.desk_core.specs.declared.model.View.TheVariants as view;
 ghost use Rattle.announce_board.specs.Notes.{CatchesUp, CaughtUp, CatchUpAllowed, WritingAllowed, HearingAllowed};
-ghost use Rattle.announce_board.specs.Notes.{CopyingAllowed, CallsAreFound, HasItsCalls, writer, note_of};
+ghost use Rattle.announce_board.specs.Notes.{CallsAreFound, HasItsCalls, writer, note_of};
 ghost use Rattle.announce_board.specs.Notes.{hearer, after_note, while_hearing, after_hearing_all};
 ghost use Rattle.announce_board.specs.Steps.{pen_at, Becomes};
 
@@ -69,21 +69,11 @@ impl Join<View> for HearNote {
     ghost spent = { view.Note [] };
 }
 
-/// A note is copied.
-struct CopyNote;
-
-impl Split<View> for CopyNote {
-    ghost left = { λ note. note };
-
-    ghost right = { λ note. note };
-}
-
 /// Pens catch up, write notes and hear them as the rule of the table allows.
 fn law_notes_are_allowed<S: Store<Entry<P>>, P: Part>()
     ensures catch_up { CatchUpAllowed P.wide (AllHaveRoom S.room) }
     ensures writing { WritingAllowed P.wide (AllHaveRoom S.room) }
     ensures hearing { HearingAllowed P.wide (AllHaveRoom S.room) }
-    ensures copying { CopyingAllowed P.wide (AllHaveRoom S.room) }
     ensures calls { CallsAreFound }
 {
     law_notes_keep_the_rule();
@@ -175,26 +165,6 @@ fn hear_whole<S: Store<Entry<P>>, P: Part>(
     catch_up(board, seat);
 }
 
-// A note and a copy of it.
-fn copy_note<S: Store<Entry<P>>, P: Part>(board: &Board<S, P>, note: Note) -> (Note, Note)
-    requires lock { lock_at < board.now.table_id.words }
-    requires note { note.table ≡ board.now.table_id }
-    ensures first { result.0 ≡ note }
-    ensures copy { result.1 ≡ note }
-{
-    law_notes_are_allowed::<S, P>();
-    let Note { badge } = note;
-    let mut seat = badge.into_seat();
-    let copy = board.split_seat::<CopyNote>(&mut seat);
-    let first = Note {
-        badge: seat.into_badge(),
-    };
-    let second = Note {
-        badge: copy.into_badge(),
-    };
-    (first, second)
-}
-
 impl<S: Store<Entry<P>>, P: Part> Desk<S, P> {
     /// The pen catches up with the journal, in one step, and writes a note of it, in another. The journal that
     /// the note tells begins with what the pen knew, and has the pen's calls; the pen knows it from then on, and
@@ -220,14 +190,5 @@ impl<S: Store<Entry<P>>, P: Part> Desk<S, P> {
         ensures tells { StartsWith pen.new.state.known note.told }
     {
         hear_whole(&self.table.shared, &mut pen.seat, note);
-    }
-
-    /// A note of this desk and a copy of it, for a third pen, in one step.
-    pub fn copy(&self, note: Note) -> (Note, Note)
-        requires note { note.table ≡ self.now.table }
-        ensures first { result.0 ≡ note }
-        ensures copy { result.1 ≡ note }
-    {
-        copy_note(&self.table.shared, note)
     }
 }

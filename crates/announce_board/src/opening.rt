@@ -2,7 +2,6 @@
 ghost use Rattle.std.specs.Prelude.{◌≡◌, ◌+◌, ◌<◌, ◌≤◌, ◌↔◌, ℕ, [], length, IfOk, IsErrOf};
 ghost use Rattle.pq_types.specs.declared.journal.TheConstants.{GREATEST_NUMBER};
 ghost use Rattle.pq_book.specs.Book.{IsRoom, IsLongRoom};
-ghost use Rattle.pq_book.specs.Pages.{IsLongPage, room_keeping};
 ghost use Rattle.desk_core.specs.Layout.{word_count};
 ghost use Rattle.desk_core.specs.declared.model.View.TheVariants.{Dealer};
 ghost use Rattle.announce_board.specs.Opening.{Opens, ArePens, pen_of_place};
@@ -19,7 +18,6 @@ use crate::tokens::Pen;
 use crate::words::words_of;
 use atomic_table::{Refused, Table};
 use leftist_heap::{Leftist, Store};
-use pq_book::limit::room_keeping;
 use pq_book::{Book, BookError, Entry};
 use pq_types::{MOST_LINES, Part};
 use std::alloc::{AllocError, Allocator, Global};
@@ -50,33 +48,6 @@ impl<S: Store<Entry<P>>, P: Part> Desk<S, P> {
             allowed: room,
         };
         Desk::limited(alloc, store, places, room, plain)
-    }
-
-    /// A desk with this empty store and so many places, and a long journal, of which the last so many
-    /// lines are kept, 16 to 16,777,216; and the pen of each place, in their order. All memory that
-    /// the desk will ever need is taken here, but for the growth of the store; where some was refused,
-    /// there is no desk.
-    pub fn lasting(
-        alloc: Global,
-        store: S,
-        places: u16,
-        kept: usize,
-    ) -> Result<(Desk<S, P>, Vec<Pen<S, P>>), AllocError>
-        requires empty { S.content store ≡ [] }
-        requires kept { IsLongPage kept }
-        ensures ok { IfOk result (λ r. Opens places (room_keeping kept) r.0 r.1.items) }
-        ensures terms { IfOk result (λ r. r.0.terms ≡ plain_terms (room_keeping kept)) }
-    {
-        let room = room_keeping(kept);
-        let plain = Terms {
-            bound: room + 1,
-            allowed: room,
-        };
-        // So many lines are in the range, so that memory alone can be missing.
-        match Desk::limited(alloc, store, places, room, plain) {
-            Ok(made) => Ok(made),
-            Err(_) => Err(AllocError),
-        }
     }
 
     /// A desk with this empty store and so many places, a journal of so many lines, 1 to

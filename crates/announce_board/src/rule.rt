@@ -1,8 +1,10 @@
 // What the table of a desk keeps between any two steps, and what each step tells.
-ghost use Rattle.pq_book.specs.Book.{AllHaveRoom};
-ghost use Rattle.std.specs.Prelude.{◌≡◌};
+ghost use Rattle.pq_book.specs.Book.{AllHaveRoom, Volume};
+ghost use Rattle.leftist_heap.specs.Store.{first_of};
+ghost use Rattle.pq_types.specs.History.{left, last_serial};
+ghost use Rattle.std.specs.Prelude.{◌≡◌, ◌≢◌, ◌+◌, ◌<◌, length};
 ghost use Rattle.announce_board.specs.Rule.{Keeps, dealt_one, pen_dealt};
-ghost use Rattle.announce_board.specs.Slots.{with_book, says, out, book_of};
+ghost use Rattle.announce_board.specs.Slots.{with_book, says, out, book_of, CarriesOut};
 ghost use Rattle.announce_board.specs.Steps.{Drafted, PostStored, LockRead, LockTried, MailRead, ItemRead, ItemLaid};
 ghost use Rattle.announce_board.specs.Steps.{AnswerStored, Applied, Archived, Released, ReleasedWith, AnswerLooked, ItemSeen, ItemTaken};
 ghost use Rattle.desk_core.specs.declared.model.View.TheVariants.{Dealer};
@@ -13,7 +15,7 @@ use atomic_table::{Play, Seat, Shared, Split, Table, TableRule};
 use desk_core::View;
 use leftist_heap::Store;
 use pq_book::Entry;
-use pq_types::Part;
+use pq_types::{Answer, Item, Part, Request};
 use std::marker::{Model, PhantomData};
 
 /// What a desk is made for: the room of its journal, its terms, and the number of its places.
@@ -86,6 +88,38 @@ impl<S: Store<Entry<P>>, P: Part> Slot<S, P> {
     {
         let Slot { book, said: _ } = self;
         book
+    }
+
+    /// Has the Book, which is there, carry out a request.
+    #[inline(always)]
+    pub fn carry_out(
+        &mut self,
+        place: u16,
+        serial: u64,
+        request: Request<Item<P>>,
+    ) -> Answer<Item<P>>
+        requires there { (book : Volume) × (self.old ≡ with_book book) × (last_serial place book.journal < serial) }
+        ensures carries { CarriesOut P.wide place serial request self.old result self.new }
+        ensures memory { (book : Volume) → self.old ≡ with_book book → AllHaveRoom S.room book.room → result ≢ Answer.NoMemory }
+        ensures spare { (book : Volume) → self.old ≡ with_book book → AllHaveRoom S.room (length (left book.journal) + 1)
+            → result ≢ Answer.NoMemory }
+    {
+        match &mut self.book {
+            Some(book) => book.boxed.apply(place, serial, request),
+            None => unreachable!(),
+        }
+    }
+
+    /// The first item of the Book, which is there.
+    #[inline(always)]
+    pub fn first(&self) -> Option<Item<P>>
+        requires there { (book : Volume) × (self.now ≡ with_book book) }
+        ensures { (book : Volume) → self.now ≡ with_book book → result ≡ first_of (left book.journal) }
+    {
+        match &self.book {
+            Some(book) => book.boxed.first(),
+            None => unreachable!(),
+        }
     }
 }
 

@@ -1,16 +1,13 @@
-// What a thread holds of a desk: a pen, which asks; a pen put away; and a lead, while its pen
-// leads.
+// What a thread holds of a desk: a pen, which asks; and a lead, while its pen leads.
 ghost use Rattle.std.specs.Prelude.{◌≡◌, ◌↔◌, ◌+◌, ◌<◌, ◌≤◌, ◌++◌, false, length, drop, OnOk, OnErr, IsErrOf};
 ghost use Rattle.pq_book.specs.Pages.{page_of};
-ghost use Rattle.pq_book.specs.Peak.{IsPeak, KeepsBound};
+ghost use Rattle.pq_book.specs.Peak.{IsPeak};
 ghost use Rattle.pq_types.specs.History.{left, is_shut};
 ghost use Rattle.leftist_heap.specs.Store.{first_of};
 ghost use Rattle.announce_board.specs.Tokens.{is_idle};
 
 use crate::boxed_book::BoxedBook;
 use crate::rule::BoardSeat;
-use atomic_table::Badge;
-use desk_core::View;
 use leftist_heap::Store;
 use pq_book::{Book, Entry, LinesError};
 use pq_types::{Item, Line, Part};
@@ -37,26 +34,6 @@ impl<S: Store<Entry<P>>, P: Part> Model for Pen<S, P> {
     ghost view = { λ p. record { table = p.seat.table_id; state = pen_at p.seat.me } };
 
     ghost invariant = { λ p. IsPen p.seat.table_id p.seat.me p.place p.posts p.idle };
-}
-
-/// A pen put away: it names no store, so that it can lie in a slot of another table. A contract
-/// sees of it what it sees of a pen.
-#[derive(Drop)]
-pub struct Stowed {
-    badge: Badge<View>,
-    place: u16,
-    posts: u64,
-    idle: bool,
-}
-
-impl Model for Stowed {
-    ghost use Rattle.announce_board.specs.Tokens.{AtDesk, IsStowed, pen_in};
-
-    ghost Value = { AtDesk };
-
-    ghost view = { λ s. record { table = s.badge.table_id; state = pen_in s.badge.views } };
-
-    ghost invariant = { λ s. IsStowed s.badge.table_id s.badge.views s.place s.posts s.idle };
 }
 
 /// The Book of a desk, in the hand of the pen that leads. It has no `Drop`: whoever has won the
@@ -113,22 +90,6 @@ impl<S: Store<Entry<P>>, P: Part> Lead<S, P> {
         self.book.boxed.is_shut()
     }
 
-    /// The most items that pushes may leave in the queue: none of the beginnings of the journal of the Book leaves more.
-    pub fn bound(&self) -> u64
-        ensures bound { result ≡ self.now.book.bound }
-        ensures kept { KeepsBound result self.now.book.journal }
-    {
-        self.book.boxed.bound()
-    }
-
-    /// How many lines the journal of the Book may have until more are archived.
-    pub fn allowed(&self) -> u64
-        ensures allowed { result ≡ self.now.book.allowed }
-        ensures kept { length self.now.book.journal ≤ result }
-    {
-        self.book.boxed.allowed()
-    }
-
     /// Copies the lines of the journal behind the first so many, which the archive has already, to its
     /// end, as `Book::lines_from`: `Forgotten` where the first of them is, else `NoMemory` where memory
     /// for them was refused. The archive is as it was then.
@@ -183,44 +144,5 @@ impl<S: Store<Entry<P>>, P: Part> Pen<S, P> {
         ensures { result ≡ is_idle self.now.state.standing }
     {
         self.idle
-    }
-
-    /// The pen, which does not lead, put away as it is. No step is made.
-    pub fn stow(self) -> Stowed
-        requires { self.state.leading ≡ false }
-        ensures { result ≡ self }
-    {
-        let Pen {
-            seat,
-            place,
-            posts,
-            idle,
-        } = self;
-        Stowed {
-            badge: seat.into_badge(),
-            place,
-            posts,
-            idle,
-        }
-    }
-}
-
-impl Stowed {
-    /// The pen that was put away, as it was. No step is made.
-    pub fn pen<S: Store<Entry<P>>, P: Part>(self) -> Pen<S, P>
-        ensures { result ≡ self }
-    {
-        let Stowed {
-            badge,
-            place,
-            posts,
-            idle,
-        } = self;
-        Pen {
-            seat: badge.into_seat(),
-            place,
-            posts,
-            idle,
-        }
     }
 }

@@ -27,7 +27,7 @@ use Rattle.announce_board.specs.Serving.{Wins}
 use Rattle.flat_queue.specs.Members.{Joined, StaysAtPlace}
 use Rattle.flat_queue.specs.OwnRequest.{SweepsWhereBy}
 use Rattle.flat_queue.specs.Limits.{most_posts}
-use Rattle.flat_queue.specs.Batches.{Told, pushes_of, pops_of, is_first_due, IsPushAt, AppliesEach, EndsBatch, AppliesBatch, ReleasesBatch, CarriesOutBatchBy, EntersTogether, batch_calls, batch_lines, refusals, with_serials, KeepsBatchTimes}
+use Rattle.flat_queue.specs.Batches.{Told, AppliesEach, EndsBatch, AppliesBatch, ReleasesBatch, CarriesOutBatchBy, EntersTogether, batch_calls, batch_lines, refusals, with_serials, KeepsBatchTimes}
 use Rattle.flat_queue.specs.declared.batches.Batch.{Batch}
 use Rattle.flat_queue.specs.declared.error.CallError.{CallError}
 use Rattle.flat_queue.specs.declared.error.CallError.TheVariants.{NoMemory, BookFull, Refused, Spent, GaveUp}
@@ -36,75 +36,6 @@ use Rattle.desk_core.specs.declared.model.Word.{Word}
 use Rattle.flat_queue.proofs.Waits.{starts_trans}
 use Rattle.flat_queue.proofs.Misses.{missed_as, misses_keep}
 use Rattle.flat_queue.proofs.OwnRequests.{is_ready}
-
--- one request more
-pub applies_more : (limits : Limits) (p q : PenState) (ts : List Told) (t : Told) (now : ℕ) → AppliesEach limits p ts q → MayAnswer limits q.hand t.0 (Entered (length q.hand + 1) t.1)
-    → AppliesEach limits p (ts ++ t ∷ []) (after_apply q t.0 (Entered (length q.hand + 1) t.1) now)
-applies_more limits p q [] t now h may =
-    (now, subst (λ (z : PenState). MayAnswer limits z.hand t.0 (Entered (length z.hand + 1) t.1)) h may, ap (λ (z : PenState). after_apply z t.0 (Entered (length z.hand + 1) t.1) now) h)
-applies_more limits p q (s ∷ ts) t now h may = (h.0, h.1, applies_more limits (after_apply p s.0 (Entered (length p.hand + 1) s.1) h.0) q ts t now h.2 may)
-
--- the next push of so many
-pushes_more : (limits : Limits) (p q : PenState) (xs : List Item) (k : ℕ) (x : Item) (n : ℕ) (r : Reply) (now : ℕ) → k < length xs → x ≡ get_or xs k x → AppliesEach limits p (pushes_of (take k xs)) q
-    → MayAnswer limits q.hand (Push x) (Entered n r) → AppliesEach limits p (pushes_of (take (k + 1) xs)) (after_apply q (Push x) (Entered n r) now)
-pushes_more limits p q xs k x n r now lt read h may =
-    let next : MayAnswer limits q.hand (Push x) (Entered (length q.hand + 1) Pushed) = (may.0, refl, refl) in
-    let same : after_apply q (Push x) (Entered (length q.hand + 1) Pushed) now ≡ after_apply q (Push x) (Entered n r) now =
-    ap (λ m. after_apply q (Push x) (Entered m Pushed) now) (sym may.1) ∙ ap (λ y. after_apply q (Push x) (Entered n y) now) (sym may.2) in
-    let longer : take (k + 1) xs ≡ take k xs ++ x ∷ [] = take_more xs k x lt ∙ ap (λ (y : Item). take k xs ++ y ∷ []) (sym read) in
-    subst (λ l. AppliesEach limits p l (after_apply q (Push x) (Entered n r) now)) (sym (ap pushes_of longer ∙ map-append (λ (y : Item). (Push y, Pushed)) (take k xs) (x ∷ [])))
-    (subst (AppliesEach limits p (pushes_of (take k xs) ++ (Push x, Pushed) ∷ [])) same (applies_more limits p q (pushes_of (take k xs)) (Push x, Pushed) now h next))
-
-pub pushed_on : (limits : Limits) (p q q' : PenState) (xs : List Item) (k : ℕ) (x : Item) (a : Answer) (n : ℕ) (r : Reply) (now : ℕ) → k < length xs → x ≡ get_or xs k x
-    → AppliesEach limits p (pushes_of (take k xs)) q → MayAnswer limits q.hand (Push x) a → q' ≡ after_apply q (Push x) a now → a ≡ Entered n r
-    → AppliesEach limits p (pushes_of (take (k + 1) xs)) q'
-pushed_on limits p q q' xs k x a n r now lt read h may next is =
-    subst (AppliesEach limits p (pushes_of (take (k + 1) xs))) (sym (next ∙ ap (λ y. after_apply q (Push x) y now) is))
-    (pushes_more limits p q xs k x n r now lt read h (subst (MayAnswer limits q.hand (Push x)) is may))
-
--- the item that follows so many is the next one to be pushed
-pub next_push : (xs : List Item) (k : ℕ) (x : Item) → k < length xs → x ≡ get_or xs k x → IsPushAt xs k (Push x)
-next_push xs k x lt read = (x, slice_get_read xs (length xs) k x refl lt read, refl)
-
--- the next request was refused
-pub out_of_memory : (limits : Limits) (most : ℕ) (is_next : Request → Type 0) (p q q' : PenState) (told : List Told) (request : Request) (a : Answer) (now : ℕ) → is_next request
-    → AppliesEach limits p told q → MayAnswer limits q.hand request a → q' ≡ after_apply q request a now → a ≡ answer.NoMemory → AppliesBatch limits most is_next p told (Some NoMemory) q'
-out_of_memory limits most is_next p q q' told request a now follows h may next is =
-    (q, h, (request, follows, now, subst (MayAnswer limits q.hand request) is may, next ∙ ap (λ y. after_apply q request y now) is))
-
-pub out_of_lines : (limits : Limits) (most : ℕ) (is_next : Request → Type 0) (p q q' : PenState) (told : List Told) (request : Request) (a : Answer) (now : ℕ) → is_next request
-    → AppliesEach limits p told q → MayAnswer limits q.hand request a → q' ≡ after_apply q request a now → a ≡ answer.BookFull → AppliesBatch limits most is_next p told (Some BookFull) q'
-out_of_lines limits most is_next p q q' told request a now follows h may next is =
-    (q, h, (request, follows, now, subst (MayAnswer limits q.hand request) is may, next ∙ ap (λ y. after_apply q request y now) is))
-
-pub ruled_out : (limits : Limits) (most : ℕ) (is_next : Request → Type 0) (p q q' : PenState) (told : List Told) (request : Request) (a : Answer) (why : Refusal) (now : ℕ) → is_next request
-    → AppliesEach limits p told q → MayAnswer limits q.hand request a → q' ≡ after_apply q request a now → a ≡ answer.Refused why → AppliesBatch limits most is_next p told (Some (Refused why)) q'
-ruled_out limits most is_next p q q' told request a why now follows h may next is =
-    (q, h, (request, follows, now, subst (MayAnswer limits q.hand request) is may, next ∙ ap (λ y. after_apply q request y now) is))
-
--- the next pop, whose item was written behind those before
-pops_more : (limits : Limits) (p q : PenState) (xs : List Item) (k : ℕ) (x : Item) (n now : ℕ) → k < length xs → AppliesEach limits p (pops_of (take k xs)) q
-    → MayAnswer limits q.hand Pop (Entered n (Got x)) → AppliesEach limits p (pops_of (take (k + 1) (slice_set xs k x))) (after_apply q Pop (Entered n (Got x)) now)
-pops_more limits p q xs k x n now lt h may =
-    let next : MayAnswer limits q.hand Pop (Entered (length q.hand + 1) (Got x)) = (may.0, refl, may.2) in
-    let same : after_apply q Pop (Entered (length q.hand + 1) (Got x)) now ≡ after_apply q Pop (Entered n (Got x)) now = ap (λ m. after_apply q Pop (Entered m (Got x)) now) (sym may.1) in
-    subst (λ l. AppliesEach limits p l (after_apply q Pop (Entered n (Got x)) now)) (sym (ap pops_of (take_more_set xs k x lt) ∙ map-append (λ (y : Item). (Pop, Got y)) (take k xs) (x ∷ [])))
-    (subst (AppliesEach limits p (pops_of (take k xs) ++ (Pop, Got x) ∷ [])) same (applies_more limits p q (pops_of (take k xs)) (Pop, Got x) now h next))
-
-pub popped_on : (limits : Limits) (p q q' : PenState) (xs : List Item) (k : ℕ) (x : Item) (a : Answer) (n now : ℕ) → k < length xs → AppliesEach limits p (pops_of (take k xs)) q
-    → MayAnswer limits q.hand Pop a → q' ≡ after_apply q Pop a now → a ≡ Entered n (Got x) → AppliesEach limits p (pops_of (take (k + 1) (slice_set xs k x))) q'
-popped_on limits p q q' xs k x a n now lt h may next is =
-    subst (AppliesEach limits p (pops_of (take (k + 1) (slice_set xs k x)))) (sym (next ∙ ap (λ y. after_apply q Pop y now) is))
-    (pops_more limits p q xs k x n now lt h (subst (MayAnswer limits q.hand Pop) is may))
-
--- the item that such a pop took out, where the first one was due
-pub popped_due : (bound : ℕ) (first : Option Item) (xs : List Item) (x : Item) → first ≡ first_of xs → is_first_due bound first ≡ true → Got x ≡ reply_to xs Pop → x.priority ≤ bound
-popped_due bound first [] x is due told = absurd (let e : false ≡ true = ap (is_first_due bound) (sym is) ∙ due in cc)
-popped_due bound first (y ∷ ys) x is due told =
-    let same : x ≡ y = cc in
-    let low : nat_le y.priority bound ≡ true = ap (is_first_due bound) (sym is) ∙ due in
-    let le : y.priority ≤ bound = grind (arith, nat_tests, low) in
-    subst (λ (z : Item). z.priority ≤ bound) (sym same) le
 
 times_none : (p : PenState) → KeepsBatchTimes p p 0
 times_none p = record { began = []; number = refl; begins = sym (append-nil p.begins); ends = sym (append-nil p.ends) }

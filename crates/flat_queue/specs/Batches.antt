@@ -1,11 +1,8 @@
 -- Batches: several requests of its own that a member applies under one lock.
 use Rattle.std.specs.Prelude.{◌≡◌, ℕ, ◌+◌, ◌<◌, ◌≤◌, nat_le, if◌then◌else◌, Bool, true, false}
 use Rattle.std.specs.Prelude.{List, [], ◌∷◌, ◌++◌, length, map, slice_get, Option, Some, None}
-use Rattle.pq_types.specs.Item.{Item}
 use Rattle.pq_types.specs.Asked.{Request}
-use Rattle.pq_types.specs.declared.request.Request.TheVariants.{Push, Pop}
-use Rattle.pq_types.specs.Asked.{Reply}
-use Rattle.pq_types.specs.declared.answer.Reply.TheVariants.{Pushed, Got}
+use Rattle.pq_types.specs.Asked.{Answer}
 use Rattle.pq_types.specs.declared.answer.Answer.TheVariants.{Entered}
 use Rattle.pq_types.specs.declared.answer.Answer.TheVariants as answer
 use Rattle.pq_types.specs.Asked.{Line}
@@ -15,6 +12,7 @@ use Rattle.desk_core.specs.Calls.{call}
 use Rattle.desk_core.specs.Pen.{after_apply, after_release, book_in_hand, limits_in_hand}
 use Rattle.desk_core.specs.declared.model.Call.{Call}
 use Rattle.desk_core.specs.declared.model.PenState.{PenState}
+pub use Rattle.announce_board.specs.Batches.{Told, pushes_of, pops_of, AppliesEach, IsPushAt, IsPop, is_first_due}
 use Rattle.announce_board.specs.Asking.{IsFullFor}
 use Rattle.announce_board.specs.Serving.{Wins}
 use Rattle.announce_board.specs.Slots.{MeetsTerms}
@@ -29,33 +27,6 @@ use Rattle.flat_queue.specs.declared.error.CallError.TheVariants.{NoMemory, Book
 use Rattle.flat_queue.specs.declared.error.CallError.TheVariants as error
 use Rattle.flat_queue.specs.declared.batches.Batch.{Batch}
 use Rattle.flat_queue.specs.declared.batches.TheConstants.{MOST_BATCH}
-
--- a request that was entered, and its reply
-abbrev pub Told : Type 0
-Told = Request × Reply
-
--- pushes of these items; and pops that took these out
-abbrev pub pushes_of : List Item → List Told
-pushes_of xs = map (λ x. (Push x, Pushed)) xs
-
-abbrev pub pops_of : List Item → List Told
-pops_of xs = map (λ x. (Pop, Got x)) xs
-
--- The leader applied these requests of its own, one after another, and each was entered on the next line with this reply,
--- which the one-thread queue gives there, as a Book with these limits may.
-abbrev pub AppliesEach : Limits → PenState → List Told → PenState → Type 0
-AppliesEach limits p [] q = q ≡ p
-AppliesEach limits p (t ∷ ts) q =
-    (now : ℕ) × MayAnswer limits p.hand t.0 (Entered (length p.hand + 1) t.1)
-    × AppliesEach limits (after_apply p t.0 (Entered (length p.hand + 1) t.1) now) ts q
-
--- the request is the push of the item at this index
-abbrev pub IsPushAt : List Item → ℕ → Request → Type 0
-IsPushAt items index request = (x : Item) × (slice_get items index ≡ Some x) × (request ≡ Push x)
-
--- the request is a pop
-abbrev pub IsPop : Request → Type 0
-IsPop request = request ≡ Pop
 
 -- Why it applied no more: nothing refused it; or the next request, of which this holds, was so answered, and has no line; or no
 -- serial was left, of so many.
@@ -77,6 +48,23 @@ EndsBatch limits most is_next p (Some GaveUp) q = ⊥
 abbrev pub AppliesBatch : Limits → ℕ → (is_next : Request → Type 0) → PenState → List Told → Option CallError → PenState → Type 0
 AppliesBatch limits most is_next p told refused q =
     (m : PenState) × AppliesEach limits p told m × EndsBatch limits most is_next m refused q
+
+-- no request was entered by this answer
+abbrev pub IsNoEntry : Option Answer → Type 0
+IsNoEntry None = Unit {0}
+IsNoEntry (Some (Entered number reply)) = ⊥
+IsNoEntry (Some answer.BookFull) = Unit {0}
+IsNoEntry (Some answer.NoMemory) = Unit {0}
+IsNoEntry (Some (answer.Refused why)) = Unit {0}
+
+-- why a batch ended whose next request was so answered, or was none, where no serial was left or one was
+abbrev pub why_of : Option Answer → Bool → Option CallError
+why_of None false = None
+why_of None true = Some Spent
+why_of (Some (Entered number reply)) spent = Some GaveUp
+why_of (Some answer.BookFull) spent = Some BookFull
+why_of (Some answer.NoMemory) spent = Some NoMemory
+why_of (Some (answer.Refused why)) spent = Some (error.Refused why)
 
 -- The leader applied these requests of its own, as the limits of the Book in its hand say, which meets the queue's terms. The
 -- first has the line that the batch tells. Then it released. It posted nothing.
@@ -112,11 +100,6 @@ pub record MissesThenBatchBy (words : ℕ) (before : Joined) (told : List Told) 
 -- how many of so many requests one batch carries out, if none is refused
 abbrev pub in_one_batch : ℕ → ℕ
 in_one_batch requests = if nat_le requests MOST_BATCH then requests else MOST_BATCH
-
--- the first item's priority is at most this one, and there is one
-abbrev pub is_first_due : ℕ → Option Item → Bool
-is_first_due bound None = false
-is_first_due bound (Some x) = nat_le x.priority bound
 
 -- the calls of a batch, from this line and this serial on
 abbrev pub batch_calls : ℕ → ℕ → List Told → List Call

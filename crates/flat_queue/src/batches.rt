@@ -1,5 +1,5 @@
 // How a member carries several requests of its own out under one lock: a batch, whose lines stand together in the journal.
-ghost use Rattle.std.specs.Prelude.{◌≡◌, ◌≢◌, ◌≤◌, ◌<◌, true, false, length, take, Some, None, IfSome, IfNone, IfOk, IfErr};
+ghost use Rattle.std.specs.Prelude.{◌≡◌, ◌≢◌, ◌↔◌, ◌+◌, ◌≤◌, ◌<◌, true, false, length, take, Some, None, IfSome, IfNone, IfOk, IfErr};
 ghost use Rattle.std.specs.List.{All};
 ghost use Rattle.pq_types.specs.declared.journal.TheConstants.{GREATEST_NUMBER};
 ghost use Rattle.pq_types.specs.History.{left};
@@ -12,6 +12,7 @@ ghost use Rattle.flat_queue.specs.Members.{HasRoomForAll, pen_of};
 ghost use Rattle.flat_queue.specs.Turns.{FindsLockHeld};
 ghost use Rattle.flat_queue.specs.Batches.{AppliesBatch, ReleasesBatch, CarriesOutBatchBy, MissesThenBatchBy};
 ghost use Rattle.flat_queue.specs.Batches.{EntersTogether, IsPushAt, IsPop, pushes_of, pops_of, in_one_batch, is_first_due};
+ghost use Rattle.flat_queue.specs.Batches.{IsNoEntry, why_of};
 ghost use Rattle.flat_queue.specs.Looking.{FindsNext};
 
 use crate::error::CallError;
@@ -23,7 +24,7 @@ use crate::queue::Queue;
 use announce_board::{Desk, Lead, Pen};
 use leftist_heap::Store;
 use pq_book::Entry;
-use pq_types::{Answer, Item, Part, Reply, Request};
+use pq_types::{Answer, Item, Part};
 use std::sync::Wait;
 
 /// How many requests one batch carries out at most, as all others wait meanwhile: what is left is its caller's next batch.
@@ -303,25 +304,11 @@ fn push_each<S: Store<Entry<P>>, P: Part>(
     ensures whole { result.2 ≡ None → result.1 ≡ in_one_batch (length items.now) }
     ensures next { result.2 ≢ None → result.1 < in_one_batch (length items.now) }
 {
-    let mut lead = lead;
     let end = bounded(items.len());
-    let mut done = 0;
-    while done < end {
-        if pen.posts() >= most {
-            return (lead, done, Some(CallError::Spent));
-        }
-        let (next, answer) = desk.apply(pen, lead, Request::Push(items[done]));
-        lead = next;
-        match answer {
-            Answer::Entered(_, _) => done += 1,
-            Answer::BookFull => return (lead, done, Some(CallError::BookFull)),
-            Answer::NoMemory => return (lead, done, Some(CallError::NoMemory)),
-            Answer::Refused(refusal) => {
-                return (lead, done, Some(CallError::Refused(refusal.why())));
-            }
-        }
-    }
-    (lead, done, None)
+    let tries = in_serials(pen.posts(), most, end);
+    let (lead, done, refused) = desk.apply_pushes(pen, lead, items, tries);
+    let spent = is_spent(done, end, pen.posts(), most);
+    (lead, done, why_refused(refused, spent))
 }
 
 // The leader takes the first item out while its priority is at most this one and there is room for it.
@@ -352,35 +339,11 @@ fn pop_each<S: Store<Entry<P>>, P: Part>(
     ensures left { result.2 ≡ None → result.1 < in_one_batch (length into.old)
         → is_first_due (P.number priority) (first_of (left pen.new.state.hand)) ≡ false }
 {
-    let mut lead = lead;
     let end = bounded(into.len());
-    let mut done = 0;
-    while done < end {
-        if pen.posts() >= most {
-            return (lead, done, Some(CallError::Spent));
-        }
-        if !is_due(lead.first(), priority) {
-            return (lead, done, None);
-        }
-        let (next, answer) = desk.apply(pen, lead, Request::Pop);
-        lead = next;
-        let reply = match answer {
-            Answer::Entered(_, reply) => reply,
-            Answer::BookFull => return (lead, done, Some(CallError::BookFull)),
-            Answer::NoMemory => unreachable!(),
-            Answer::Refused(refusal) => {
-                return (lead, done, Some(CallError::Refused(refusal.why())));
-            }
-        };
-        match reply {
-            Reply::Got(item) => {
-                into[done] = item;
-                done += 1;
-            }
-            _ => unreachable!(),
-        }
-    }
-    (lead, done, None)
+    let tries = in_serials(pen.posts(), most, end);
+    let (lead, done, refused) = desk.apply_pops(pen, lead, priority, into, tries);
+    let spent = is_spent(done, end, pen.posts(), most);
+    (lead, done, why_refused(refused, spent))
 }
 
 // How many of so many requests one batch carries out.
@@ -395,12 +358,40 @@ fn bounded(requests: usize) -> usize
     }
 }
 
-// Whether there is a first item, and its priority is at most this one.
-fn is_due<P: Part>(first: Option<Item<P>>, priority: P) -> bool
-    ensures { result ≡ is_first_due (P.number priority) first }
+// How many of so many requests have a serial, where the last one given out is this one, and the greatest is that.
+fn in_serials(posts: u64, most: u64, requests: usize) -> usize
+    ensures within { result ≤ requests }
+    ensures few { 0 < result → posts + result ≤ most }
+    ensures whole { result < requests → most ≤ posts + result }
 {
-    match first {
-        None => false,
-        Some(item) => item.priority.as_u64() <= priority.as_u64(),
+    let left = most.saturating_sub(posts);
+    if requests as u64 <= left {
+        requests
+    } else {
+        left as usize
+    }
+}
+
+// Whether a request is left of so many, and no serial for it.
+fn is_spent(done: usize, end: usize, posts: u64, most: u64) -> bool
+    ensures { result ≡ true ↔ ((done < end) × (most ≤ posts)) }
+{
+    done < end && posts >= most
+}
+
+// Why a batch ended: the answer by which its next request was refused, or that no serial was left for it.
+fn why_refused<P: Part>(refused: Option<Answer<Item<P>>>, spent: bool) -> Option<CallError>
+    requires { IsNoEntry refused }
+    ensures { result ≡ why_of refused spent }
+{
+    match refused {
+        None if spent => Some(CallError::Spent),
+        None => None,
+        Some(answer) => match answer {
+            Answer::Entered(_, _) => unreachable!(),
+            Answer::BookFull => Some(CallError::BookFull),
+            Answer::NoMemory => Some(CallError::NoMemory),
+            Answer::Refused(refusal) => Some(CallError::Refused(refusal.why())),
+        },
     }
 }

@@ -31,15 +31,6 @@ impl<S: Store<Entry<P>>, P: Part> Queue<S, P> {
     {
         self.desk.hear(&mut member.pen, note);
     }
-
-    /// A note of this queue and a copy of it, for a third member. Takes no memory, and never waits.
-    pub fn copy_note(&self, note: Note) -> (Note, Note)
-        requires note { note.table ≡ self.now.desk }
-        ensures first { result.0 ≡ note }
-        ensures copy { result.1 ≡ note }
-    {
-        self.desk.copy(note)
-    }
 }
 
 impl<'q, S: Store<Entry<P>>, P: Part> Handle<'q, S, P> {
@@ -57,15 +48,6 @@ impl<'q, S: Store<Entry<P>>, P: Part> Handle<'q, S, P> {
         ensures hears { HearsNote self.old note.told self.new }
     {
         self.queue.hear(&mut self.member, note);
-    }
-
-    /// A note of its queue and a copy of it, for a third member. Takes no memory, and never waits.
-    pub fn copy_note(&self, note: Note) -> (Note, Note)
-        requires note { note.table ≡ self.now.queue.desk }
-        ensures first { result.0 ≡ note }
-        ensures copy { result.1 ≡ note }
-    {
-        self.queue.copy_note(note)
     }
 }
 

@@ -63,6 +63,7 @@ impl<A: Allocator, P: Part> Journal<A, P> {
     }
 
     /// One line more. Where the page is full, its oldest line is forgotten.
+    #[inline(always)]
     pub fn add(&mut self, line: Line<P>)
         requires { length (all self.old) < 2 ^ 63 }
         ensures lines { all self.new ≡ all self.old ++ line ∷ [] }

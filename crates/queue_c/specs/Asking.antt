@@ -8,10 +8,10 @@ use Rattle.flat_queue.specs.Members.{Joined}
 use Rattle.flat_queue.specs.declared.counting.Counts.{Counts}
 use Rattle.flat_queue.specs.declared.looking.Wanted.{Wanted}
 use Rattle.queue_c.specs.Handles.{member_in, owner_in}
-use Rattle.queue_c.specs.Calls.{IsOneOf, Posting, Looking, Waiting, Rounding, Missing}
+use Rattle.queue_c.specs.Calls.{IsOneOf, Posting, Missing}
 use Rattle.queue_c.specs.Looking.{PoppingOrLooking}
 use Rattle.queue_c.specs.Counting.{Counting}
-use Rattle.queue_c.specs.declared.codes.TheConstants.{IDLE, LOCK_HELD, NO_HANDLE, OK, POSTS_SPENT}
+use Rattle.queue_c.specs.declared.codes.TheConstants.{LOCK_HELD, NO_HANDLE, OK, POSTS_SPENT}
 use Rattle.queue_c.specs.declared.codes.TheConstants.{UNKNOWN, WAITS}
 use Rattle.queue_c.specs.declared.contents.Contents.{Contents}
 use Rattle.queue_c.specs.declared.plain.PlainAnswer.{PlainAnswer}
@@ -52,24 +52,4 @@ pub record CountAnswers (before : Option Contents) (code : ℕ) (counts : Counts
   pub codes : IsOneOf code (OK ∷ LOCK_HELD ∷ NO_HANDLE ∷ WAITS ∷ [])
   pub no_member : (code ≡ NO_HANDLE) ↔ (member_in before ≡ None)
   pub waits : (code ≡ WAITS) ↔ MatchOption (member_in before) ⊥ (λ m. is_idle m.pen.standing ≡ false)
-  pub owner : owner_in after ≡ owner_in before
-
--- a look for the answer to the last request
-pub record LookAnswers (before : Option Contents) (code : ℕ) (told : PlainAnswer)
-    (after : Option Contents) : Type 0 where
-  pub codes : IsOneOf code (OK ∷ NO_HANDLE ∷ WAITS ∷ IDLE ∷ [])
-  pub looked : code ≡ OK → Looking (member_in before) told (member_in after)
-  pub not_yet : code ≡ WAITS → Waiting (member_in before) (member_in after)
-  pub idle : code ≡ IDLE → (after ≡ before) × IfSome (member_in before) (λ m. is_idle m.pen.standing ≡ true)
-  pub no_member : (code ≡ NO_HANDLE) ↔ (member_in before ≡ None)
-  pub refused : code ≡ NO_HANDLE → after ≡ before
-  pub owner : owner_in after ≡ owner_in before
-
--- a round
-pub record RoundAnswers (before : Option Contents) (code : ℕ) (after : Option Contents) : Type 0 where
-  pub codes : IsOneOf code (OK ∷ LOCK_HELD ∷ NO_HANDLE ∷ [])
-  pub round : code ≡ OK → Rounding (member_in before) (member_in after)
-  pub misses : code ≡ LOCK_HELD → Missing (member_in before) (member_in after)
-  pub no_member : (code ≡ NO_HANDLE) ↔ (member_in before ≡ None)
-  pub refused : code ≡ NO_HANDLE → after ≡ before
   pub owner : owner_in after ≡ owner_in before

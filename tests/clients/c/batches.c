@@ -234,7 +234,32 @@ static void what_is_left_after_a_part_stays(void) {
     close_and_free(queue);
 }
 
+/* By the million, of the greatest priority: they come out in the order in which they were pushed, after one of a smaller priority. */
+static void equal_priorities_keep_their_order(void) {
+    const uint64_t count = requests(1000000);
+    pq_queue *queue = opened(1);
+    pq_member *own = pq_own(queue);
+    uint64_t next = 0;
+    size_t done = 0;
+    for (uint64_t i = 0; i < count; i += done) {
+        for (uint64_t k = 0; k < PART; k++) {
+            items[k] = item_of(UINT64_MAX, i + k);
+        }
+        CHECK(pq_push_many(own, items, PART, PQ_FOREVER, &done, NULL) == PQ_OK && done == PART);
+    }
+    CHECK(pq_pop_due(own, UINT64_MAX - 1, out, PQ_FOREVER, NULL) == PQ_NOT_DUE && pq_push(own, item_of(UINT64_MAX - 1, 7), PQ_FOREVER, NULL) == PQ_OK);
+    CHECK(pq_pop(own, out, PQ_FOREVER, NULL) == PQ_OK && is_item(out[0], UINT64_MAX - 1, 7));
+    while (pq_pop_due_many(own, UINT64_MAX, out, PART - 1, PQ_FOREVER, &done, NULL) == PQ_OK) {
+        for (size_t i = 0; i < done; i++, next++) {
+            CHECK(is_item(out[i], UINT64_MAX, next));
+        }
+    }
+    CHECK(next >= count);
+    close_and_free(queue);
+}
+
 int main(void) {
+    equal_priorities_keep_their_order();
     what_is_left_after_a_part_stays();
     fill();
     batches_of_each_size();

@@ -4,6 +4,7 @@
 #include "../wrapped.h"
 #include "system_calls.h"
 
+#include <errno.h>
 #include <sched.h>
 
 int __wrap_clock_gettime(clockid_t clock, struct timespec *time);
@@ -38,13 +39,18 @@ int __wrap_clock_gettime(clockid_t clock, struct timespec *time) {
     return 0;
 }
 
-/* It isn't known how many processors there are, or there is one. */
-static int has_one_processor, barriers;
+/* How many processors there are; 0: that isn't known. */
+static unsigned processors;
+static int barriers;
+/* The system has no futex_waitv. */
+static int is_old;
 
 int __wrap_sched_getaffinity(pid_t process, size_t size, cpu_set_t *set) {
     (void)process, (void)size;
-    CPU_SET(0, set);
-    return has_one_processor ? 0 : -1;
+    for (unsigned i = 0; i < processors; i++) {
+        CPU_SET(i, set);
+    }
+    return processors > 0 ? 0 : -1;
 }
 
 static void nap(uint64_t longest) {
@@ -68,6 +74,11 @@ static void sleep_until(uint64_t time) {
     }
 }
 
+static uint64_t nanoseconds_of(long word) {
+    const struct timespec *time = (const struct timespec *)word;
+    return (uint64_t)time->tv_sec * SECOND + (uint64_t)time->tv_nsec;
+}
+
 long __wrap_syscall(long number, ...) {
     long words[6], operation;
     va_list rest;
@@ -76,13 +87,18 @@ long __wrap_syscall(long number, ...) {
     va_end(rest);
     operation = words[1] & FUTEX_CMD_MASK;
     barriers += number == SYS_membarrier;
-    if (number == SYS_membarrier && has_one_processor) {
+    if (number == SYS_membarrier && processors == 1) {
+        return -1;
+    }
+    if (is_here && number == SYS_futex_waitv) {
+        errno = is_old ? ENOSYS : ETIMEDOUT;
+        if (!is_old) {
+            nap(nanoseconds_of(words[3]) - now);
+        }
         return -1;
     }
     if (is_here && number == SYS_futex && operation != FUTEX_WAKE) {
-        const struct timespec *time = (const struct timespec *)words[3];
-        uint64_t nanoseconds = (uint64_t)time->tv_sec * SECOND + (uint64_t)time->tv_nsec;
-        operation == FUTEX_WAIT ? nap(nanoseconds) : sleep_until(nanoseconds);
+        operation == FUTEX_WAIT ? nap(nanoseconds_of(words[3])) : sleep_until(nanoseconds_of(words[3]));
         return 0;
     }
     return __real_syscall(number, words[0], words[1], words[2], words[3], words[4], words[5]);
@@ -162,7 +178,7 @@ static void what_is_there_is_taken_at_once(void) {
 
 /* Each call that finds the lock held until its deadline naps until exactly then. The clock stands still, so it doesn't spin longer. */
 static void a_call_times_out_at_its_deadline(void) {
-    const uint64_t longest[] = { 1, 50 * US - 1, 50 * US, 50 * US + 1, 1000 * US };
+    const uint64_t longest[] = { 1, 100 * US - 1, 100 * US, 100 * US + 1, 2000 * US };
     begin_held(0);
     ticks = 100;
     for (size_t i = 0; i < 4 * sizeof longest / sizeof *longest; i++) {
@@ -179,15 +195,18 @@ static void a_call_times_out_at_its_deadline(void) {
         for (int k = 0; k < napped; k++) {
             most = naps[k] > most ? naps[k] : most;
         }
-        CHECK(most <= 50 * US && (longest[i / 4] < 1000 * US || (most == 50 * US && napped >= 19 && napped <= 21)));
+        CHECK(most <= 100 * US && (longest[i / 4] < 2000 * US || (most == 100 * US && napped >= 19 && napped <= 21)));
     }
     ticks = 0;
     end_held();
 }
 
-/* 8 microseconds for each member in use, and never less than 50; the call is done once the lock is free. */
+/* While there are no more members than processors, but for one, a call that posts, of a thread that works between its calls, naps 1.25 microseconds for each
+   member in use, and twice as long each time. Else it is 8 for each, and 50, and never less than 100. The call is done once the lock is free. */
 static void a_nap_is_as_long_as_there_are_members(void) {
     for (uint64_t members = 2; members <= 64; members += members < 8 ? 1 : 14) {
+        const int is_crowd = processors > 0 && members > processors + 1;
+        const uint64_t first = !is_crowd ? members * 1250 : members <= 6 ? 100 * US : (50 + members * 8) * US;
         pq_member *more[64];
         begin_held(3);
         for (uint64_t i = 2; i < members; i++) {
@@ -197,7 +216,7 @@ static void a_nap_is_as_long_as_there_are_members(void) {
         CHECK(pq_pop(member, &item, PQ_FOREVER, NULL) == PQ_OK && napped == 3);
         ticks = 0;
         for (int i = 0; i < 3; i++) {
-            CHECK(naps[i] == (members <= 6 ? 50 : 8 * members) * US);
+            CHECK(naps[i] == (i == 0 || is_crowd ? first : naps[i - 1] >= 100 * US ? naps[i - 1] : 2 * naps[i - 1]));
         }
         for (uint64_t i = 2; i < members; i++) {
             pq_give_back(more[i]);
@@ -216,7 +235,7 @@ static void *nap_at_once(void *unused) {
 
 /* Nor does the system have barriers there, for which the library asks once. */
 static void calls_do_not_spin_on_one_processor(void) {
-    has_one_processor = 1;
+    processors = 1;
     begin_held(0);
     ended(started(nap_at_once, NULL));
     ticks = 0;
@@ -238,7 +257,7 @@ static void *spin(void *unused) {
     begun = now;
     napped = 0;
     CHECK(pq_pop(member, &item, begun + 1000 * US, NULL) == PQ_TIMED_OUT);
-    CHECK(now - begun >= 1000 * US && naps[0] == 50 * US);
+    CHECK(now - begun >= 1000 * US && naps[0] == 100 * US);
     /* It is 10 microseconds: a deadline before that ends in the spin. After one that failed, one wait has none; then three. */
     for (int wait = 0; wait < 6; wait++) {
         now += SECOND;
@@ -280,8 +299,45 @@ static void calls_spin_at_first(void) {
     end_held();
 }
 
+/* Also by a call that posts. */
+static void a_thread_that_calls_all_the_time_naps_long(void) {
+    pq_queue *free_queue = opened(1);
+    for (int wait = 0; wait < 2; wait++) {
+        begin_held(2);
+        for (int i = 0; i < 1000; i++) {
+            CHECK(pq_push(pq_own(free_queue), item_of(1, 2), PQ_FOREVER, NULL) == PQ_OK);
+        }
+        CHECK(pq_pop(member, &item, PQ_FOREVER, NULL) == PQ_OK && napped >= 2);
+        CHECK(wait == 0 || (napped == 2 && naps[0] == 100 * US && naps[1] == 100 * US));
+        end_held();
+    }
+    close_and_free(free_queue);
+}
+
+/* FUTEX_WAIT wakes a thread 50 microseconds late, so a nap by it is shorter, and none at all is one of a nanosecond. The library asks once for the other
+   kind. */
+static void naps_are_as_long_where_the_system_is_old(void) {
+    processors = 2;
+    is_here = is_old = 1;
+    for (uint64_t i = 0; i < 2; i++) {
+        begin_held(3);
+        ticks = SECOND;
+        CHECK(pq_pop(member, &item, PQ_FOREVER, NULL) == PQ_OK && napped == 3 && naps[0] == 1 && naps[2] == 1);
+        ticks = 0;
+        end_held();
+    }
+}
+
+static void naps_are_short_where_processors_are_not_counted(void) {
+    is_here = 1;
+    a_nap_is_as_long_as_there_are_members();
+}
+
 int main(void) {
     in_child(calls_do_not_spin_on_one_processor);
+    in_child(naps_are_as_long_where_the_system_is_old);
+    in_child(naps_are_short_where_processors_are_not_counted);
+    processors = 4;
     is_here = 1;
     queue = opened(2);
     member = joined(queue);
@@ -295,6 +351,7 @@ int main(void) {
     close_and_free(queue);
     a_call_times_out_at_its_deadline();
     a_nap_is_as_long_as_there_are_members();
+    a_thread_that_calls_all_the_time_naps_long();
     calls_spin_at_first();
     return 0;
 }

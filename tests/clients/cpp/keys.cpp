@@ -98,10 +98,10 @@ namespace {
 
 enum class urgency : std::int8_t { high = -1, middle, low };
 
-/// A key of the program's own.
-struct version {
-    std::uint16_t major, minor;
-    friend bool operator==(const version &a, const version &b) { return a.major == b.major && a.minor == b.minor; }
+/// A key of the program's own: the greatest level comes first, and of one level the smallest time.
+struct severity {
+    std::uint32_t level, since;
+    friend bool operator==(const severity &a, const severity &b) { return a.level == b.level && a.since == b.since; }
 };
 
 /// One that is not made of nothing.
@@ -123,10 +123,10 @@ struct tick {
 
 } // namespace
 
-template <> struct flatpq::key_order<version> {
-    static std::uint64_t number(version key) noexcept { return key.major * 65536u + key.minor; }
-    static version key(std::uint64_t number) noexcept {
-        return {static_cast<std::uint16_t>(number >> 16), static_cast<std::uint16_t>(number)};
+template <> struct flatpq::key_order<severity> {
+    static std::uint64_t number(severity key) noexcept { return std::uint64_t{~key.level} << 32 | key.since; }
+    static severity key(std::uint64_t number) noexcept {
+        return {~static_cast<std::uint32_t>(number >> 32), static_cast<std::uint32_t>(number)};
     }
 };
 
@@ -228,7 +228,7 @@ int main() {
     times_are_ordered<std::chrono::nanoseconds>({std::chrono::nanoseconds::min(), -1h, -1ns, 0ns, 1ns, 4294967296ns, 8589934592ns, 1h});
     times_are_ordered<std::chrono::hours>({std::chrono::hours::min(), -1h, 0h, 1h, std::chrono::hours::max()});
     times_are_ordered<std::chrono::duration<double>>({std::chrono::duration<double>(-0.5), 0s, std::chrono::duration<double>(0.25)});
-    are_ordered<version>({{0, 0}, {0, 65535}, {1, 0}, {1, 2}, {65535, 65535}});
+    are_ordered<severity>({{UINT32_MAX, 0}, {UINT32_MAX, UINT32_MAX}, {1, 0}, {1, 2}, {0, 0}, {0, UINT32_MAX}});
     types_of_the_program_will_do();
     what_is_due_comes_out_in_time();
     times_have_units();

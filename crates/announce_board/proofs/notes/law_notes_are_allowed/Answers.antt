@@ -1,4 +1,4 @@
-use Rattle.announce_board.proofs.NoteSteps.{catch_up_allowed, writing_allowed, hearing_allowed, copying_allowed, calls_are_found}
+use Rattle.announce_board.proofs.NoteSteps.{catch_up_allowed, writing_allowed, hearing_allowed, calls_are_found}
 use Rattle.announce_board.proofs.notes.law_notes_are_allowed.Goals as goal
 
 pub returns : goal.returns
@@ -9,6 +9,5 @@ returns g c =
       catch_up = catch_up_allowed _ _ goes kept.catch_up c.law_words_show_the_desk.ensures.loaded;
       writing = writing_allowed _ _ goes kept.writing;
       hearing = hearing_allowed _ _ goes kept.hearing;
-      copying = copying_allowed _ _ goes kept.copying;
       calls = calls_are_found c.law_calls_are_lines.ensures.lines;
     }

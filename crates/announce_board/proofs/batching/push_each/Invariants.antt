@@ -1,0 +1,19 @@
+use Rattle.std.proofs.Common.{◌≡◌, ◌+◌, ◌-◌, ◌≤◌}
+use Rattle.std.specs.Prelude.{take}
+use Rattle.desk_core.specs.Pen.{limits_in_hand}
+use Rattle.announce_board.specs.Batches.{IsLent, AppliesEach, pushes_of}
+use Rattle.announce_board.specs.Steps.{pen_at}
+use Rattle.announce_board.proofs.batching.push_each.Given as goal
+
+abbrev pub invariant-loop-done : goal.invariant-loop-done
+invariant-loop-done g l = record {
+  table : l.seat.table_id ≡ l.fn.seat.table_id;
+  lent : IsLent l.board.table_id l.place l.posts l.seat.me;
+  limits : limits_in_hand (pen_at l.seat.me) ≡ limits_in_hand (pen_at l.fn.seat.me);
+  counted : l.posts ≡ l.fn.posts + l.done;
+  applies : AppliesEach (limits_in_hand (pen_at l.fn.seat.me)) (pen_at l.fn.seat.me) (pushes_of (take l.done l.items)) (pen_at l.seat.me);
+  few : l.done ≤ l.end;
+}
+
+abbrev pub decreases-loop-done : goal.decreases-loop-done
+decreases-loop-done g l = l.end - l.done

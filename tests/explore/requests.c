@@ -29,11 +29,11 @@ void put(uint64_t priority) {
     ticket = code == PQ_OK && ticket == 0 ? entry : ticket;
 }
 
-/* Makes so many entries before the threads begin. */
+/* Makes so many entries before there is any item. */
 void use_entries(uint64_t count) {
     pq_item item;
     while (count-- > 0) {
-        (void)!pq_peek(used[0], &item, PQ_NOW, NULL);
+        (void)!pq_pop(used[0], &item, PQ_NOW, NULL);
     }
 }
 
@@ -219,11 +219,6 @@ static void post_pop(int which, const uint64_t *numbers) {
     post(pop, which, until, numbers[0]);
 }
 
-static void post_peek(int which, const uint64_t *numbers) {
-    const uint64_t until[] = { PQ_FOREVER };
-    post(peek, which, until, numbers[0]);
-}
-
 const word request_words[] = {
     { "push", push },
     { "push-archived", push_archived },
@@ -244,6 +239,5 @@ const word request_words[] = {
     { "size", count_items },
     { "post-push", post_push },
     { "post-pop", post_pop },
-    { "post-peek", post_peek },
     { NULL, NULL },
 };

@@ -143,8 +143,15 @@ static void take_due_all(int which, const uint64_t *numbers) {
 }
 
 static void peek(int which, const uint64_t *numbers) {
-    pq_item item;
-    (void)!pq_peek(used[which], &item, numbers[0], NULL);
+    pq_item item = none;
+    uint64_t before = 0;
+    pq_code code;
+    check_call_begins(CALLS, numbers[0], 0);
+    code = pq_peek(used[which], &item, numbers[0], &before);
+    check_call_ends(PEEKED, code, item, before);
+    if (code != PQ_OK && code != PQ_EMPTY && code != PQ_TIMED_OUT && code != PQ_CLOSED) {
+        fail("a peek returns %s", pq_code_text(code));
+    }
 }
 
 static void pop_due(int which, const uint64_t *numbers) {

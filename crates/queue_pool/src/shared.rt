@@ -14,7 +14,8 @@ ghost use Rattle.queue_pool.specs.Shared.{MayCall, UndoneBy, PostsBy, SeesBy, Tr
 ghost use Rattle.queue_pool.specs.Shared.{TriesCallBy, TriesCountBy, TriesPeekBy, TriesTicketBy, TriesRemovalBy, TriesMoveBy, TriesShutBy};
 
 use flat_queue::{
-    ArchiveError, Batch, Counts, DueStage, EventCount, Looked, Member, Peeked, Popped, Queue, Round, Wanted,
+    ArchiveError, Batch, Counts, DueStage, EventCount, Looked, Member, Peeked, Popped, Queue,
+    Round, Wanted,
 };
 use leftist_heap::{Store, TicketStore};
 use pq_book::Entry;

@@ -126,8 +126,8 @@ typedef struct done {
     uint64_t begun, ended; /* counted as they come */
 } done;
 /* SIZED: a request of the size: its item has that, and the peak. LEAVES_NONE: a batch of pops that had room for more, with its last entry and its
-   bound. */
-enum { SIZED = 100, LEAVES_NONE };
+   bound. PEEKED: its number is how many entries came before it. */
+enum { SIZED = 100, LEAVES_NONE, PEEKED };
 enum { MOST_DONE = 64 };
 extern pq_queue *queue;
 extern enum ending { STANDS, CLOSED, FREED } ending; /* what the scenario has done to its queue */

@@ -10,7 +10,7 @@ use Rattle.wait_list.specs.declared.waiter.Wants.TheVariants.{Any, UpTo, Due, Al
 use Rattle.wait_list.specs.declared.waiter.Waiter.{Waiter}
 use Rattle.wait_list.specs.Waiters.{is_in, is_asleep, is_awake, OneSleeps, OneIsAwake, has, count_awake, is_by, watches}
 use Rattle.wait_list.specs.Settled.{IsSettled}
-use Rattle.wait_list.specs.Runs.{Event, World, run, opening, happens, changed, stock_of, least, least_with, HasNothing, MaySleep, AllAreBack}
+use Rattle.wait_list.specs.Runs.{Event, World, run, opening, happens, after, stock_of, least, least_with, HasNothing, MaySleep, AllAreBack}
 use Rattle.wait_list.proofs.FirstOnes.{neither}
 use Rattle.wait_list.proofs.OnlyWakings.{both, left_or, right_or, awake_in_larger, asleep_in_larger, has_either, counts_one}
 use Rattle.wait_list.proofs.Settling.{is_settled, never}
@@ -34,7 +34,7 @@ at_opening bound =
 
 along : (events : List Event) (w : World) → Stands w → Stands (run events w)
 along [] w h = h
-along (e ∷ es) w h = along es (happens w e) (is_settled (stock_of (changed w e)) (changed w e).waiters)
+along (e ∷ es) w h = along es (happens w e) (is_settled (stock_of (after w e)) (after w e).waiters)
 
 pub every_run : (bound : ℕ) (events : List Event) → Stands (run events (opening bound))
 every_run bound events = along events (opening bound) (at_opening bound)

@@ -9,3 +9,4 @@ pub mod Fewest
 pub mod Least
 pub mod FirstCome
 pub mod EveryRun
+pub mod Changes

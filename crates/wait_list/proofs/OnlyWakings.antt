@@ -103,7 +103,7 @@ only_settled stock ws =
       | false ↦ only_trans ws a (settled_for_room stock a) (only_items stock.items stock.first ws) (only_room stock a)
     ]
 
-same_number : (v w : Waiter) → IsSameOrWoken v w → w.number ≡ v.number
+pub same_number : (v w : Waiter) → IsSameOrWoken v w → w.number ≡ v.number
 same_number v w (inl e) = ap (λ (x : Waiter). x.number) e
 same_number v w (inr e) = ap (λ (x : Waiter). x.number) e
 

@@ -1,24 +1,22 @@
 -- Runs of a queue and those who wait at it: whatever happens, in whatever order, the list is settled behind each event.
-use Rattle.std.specs.Prelude.{◌≡◌, ◌≢◌, ℕ, ◌<◌, ◌≤◌, List, [], ◌∷◌, ◌++◌, Bool, true, false, ◌==◌, if◌then◌else◌, min, length, Option, Some, None}
+use Rattle.std.specs.Prelude.{◌≡◌, ◌≢◌, ℕ, ◌<◌, ◌≤◌, List, [], ◌∷◌, Bool, true, false, ◌==◌, if◌then◌else◌, min, length, Option, Some, None}
 use Rattle.std.specs.List.{list_any, AllByRecursion}
 use Rattle.wait_list.specs.declared.group.Group.TheVariants.{Watchers, Everybody}
 use Rattle.wait_list.specs.declared.waiter.Wants.{Wants}
 use Rattle.wait_list.specs.declared.waiter.Wants.TheVariants.{Any, UpTo, Due, Alarm, Room}
 use Rattle.wait_list.specs.declared.waiter.Waiter.{Waiter}
 use Rattle.wait_list.specs.declared.stock.Stock.{Stock}
-use Rattle.wait_list.specs.Waiters.{is_awake, OneSleeps, without, without_all, asleep, is_by}
+use Rattle.wait_list.specs.Waiters.{is_awake, OneSleeps, is_by, Change, changed}
 use Rattle.wait_list.specs.Settled.{settled}
 
--- what happens under the lock: an item of a priority comes or goes, the queue is shut, its journal is full, one
--- waits, one comes back or gives up, or several do
+-- what happens under the lock: an item of a priority comes or goes, the queue is shut, its journal is full, or the list
+-- changes
 pub data Event : Type 0 where
   Comes : (priority : ℕ) → Event
   Goes : (priority : ℕ) → Event
   Shuts : Event
   Fills : Event
-  Waits : (number : ℕ) (wants : Wants) → Event
-  Leaves : (number : ℕ) → Event
-  AllLeave : (mask : ℕ) → Event
+  Changes : (change : Change) → Event
 
 -- a queue, by the priorities of its items, and those who wait at it
 pub record World : Type 0 where
@@ -50,21 +48,20 @@ without_one p (x ∷ xs) = if p == x then xs else x ∷ without_one p xs
 abbrev pub stock_of : World → Stock
 stock_of w = record { first = least w.items; items = length w.items; bound = w.bound; is_shut = w.is_shut; is_spent = w.is_spent }
 
-abbrev pub changed : World → Event → World
-changed w (Comes p) = record w { items = p ∷ w.items }
-changed w (Goes p) = record w { items = without_one p w.items }
-changed w Shuts = record w { is_shut = true }
-changed w Fills = record w { is_spent = true }
-changed w (Waits number wants) = record w { waiters = w.waiters ++ asleep number wants ∷ [] }
-changed w (Leaves number) = record w { waiters = without number w.waiters }
-changed w (AllLeave mask) = record w { waiters = without_all mask w.waiters }
+-- the world after an event, but for the wakes
+abbrev pub after : World → Event → World
+after w (Comes p) = record w { items = p ∷ w.items }
+after w (Goes p) = record w { items = without_one p w.items }
+after w Shuts = record w { is_shut = true }
+after w Fills = record w { is_spent = true }
+after w (Changes change) = record w { waiters = changed change w.waiters }
 
 -- the world once those are woken who are to be
 abbrev pub settle : World → World
 settle w = record w { waiters = settled (stock_of w) w.waiters }
 
 abbrev pub happens : World → Event → World
-happens w e = settle (changed w e)
+happens w e = settle (after w e)
 
 abbrev pub run : List Event → World → World
 run [] w = w

@@ -1,5 +1,5 @@
 -- Those who wait, in the order in which they came.
-use Rattle.std.specs.Prelude.{◌≡◌, ℕ, ◌+◌, ◌<◌, List, [], ◌∷◌, Bool, true, false, not, ◌&&◌, ◌==◌, if◌then◌else◌, nat_le, map}
+use Rattle.std.specs.Prelude.{◌≡◌, ℕ, ◌+◌, ◌<◌, List, [], ◌∷◌, ◌++◌, Bool, true, false, not, ◌&&◌, ◌==◌, if◌then◌else◌, nat_le, map}
 use Rattle.std.specs.Prelude.{Option, Some, None}
 use Rattle.std.specs.List.{list_any, AllByRecursion}
 use Rattle.std.specs.Int.{bit_at}
@@ -136,3 +136,15 @@ asleep number wants = record { number = number; wants = wants; is_woken = false 
 -- the same one, woken
 abbrev pub woken : Waiter → Waiter
 woken w = record { number = w.number; wants = w.wants; is_woken = true }
+
+-- what happens to the list itself: one with a number waits; one comes back or gives up; or those of a mask do
+pub data Change : Type 0 where
+  Waits : (number : ℕ) (wants : Wants) → Change
+  Leaves : (number : ℕ) → Change
+  AllLeave : (mask : ℕ) → Change
+
+-- the list afterwards: who waits comes behind all others
+abbrev pub changed : Change → List Waiter → List Waiter
+changed (Waits number wants) ws = ws ++ asleep number wants ∷ []
+changed (Leaves number) ws = without number ws
+changed (AllLeave mask) ws = without_all mask ws

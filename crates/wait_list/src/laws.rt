@@ -3,7 +3,7 @@ ghost use Rattle.std.specs.Prelude.{◌≡◌, ◌≤◌, ℕ, List};
 ghost use Rattle.wait_list.specs.declared.group.Group.{Group};
 ghost use Rattle.wait_list.specs.declared.waiter.Waiter.{Waiter};
 ghost use Rattle.wait_list.specs.declared.stock.Stock.{Stock};
-ghost use Rattle.wait_list.specs.Waiters.{count_awake};
+ghost use Rattle.wait_list.specs.Waiters.{count_awake, Change, changed};
 ghost use Rattle.std.specs.List.{AllByRecursion};
 ghost use Rattle.wait_list.specs.Runs.{Event, run, opening, stock_of, AllAreBack, MaySleep};
 ghost use Rattle.wait_list.specs.Settled.{IsSettled, OnlyWakes, settled, woken_first, WakesTheFirst};
@@ -18,6 +18,12 @@ pub fn law_settled()
         → count_awake Group.Everybody (settled stock ws) ≤ count_awake Group.Everybody vs }
     ensures quiet { (stock : Stock) (ws : List Waiter) → IsSettled stock ws → settled stock ws ≡ ws }
     ensures first_come { (n : ℕ) (group : Group) (ws : List Waiter) → WakesTheFirst group ws (woken_first n group ws) }
+{}
+
+/// A list of which more are awake has the same waiters: so it is after each change too, and of what it was before.
+pub fn law_same_waiters()
+    ensures changes { (change : Change) (vs ws : List Waiter) → OnlyWakes vs ws → OnlyWakes (changed change vs) (changed change ws) }
+    ensures goes_on { (us vs ws : List Waiter) → OnlyWakes us vs → OnlyWakes vs ws → OnlyWakes us ws }
 {}
 
 /// For every list of events, at a queue with any bound, with `settle` behind each: the list is settled. And where all

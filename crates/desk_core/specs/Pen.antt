@@ -16,6 +16,7 @@ use Rattle.pq_types.specs.declared.control.Control.TheVariants.{Nothing, Posted,
 use Rattle.pq_types.specs.Asked.{Line}
 use Rattle.pq_types.specs.Control.{answer_with, posted, answered}
 use Rattle.pq_types.specs.History.{journal_by, journal_after, Limits}
+use Rattle.wait_list.specs.Waiters.{Change, changed}
 use Rattle.pq_book.specs.Book.{Volume, limits}
 use Rattle.pq_book.specs.Pages.{page_of}
 use Rattle.desk_core.specs.Calls.{gained, gained_by}
@@ -41,6 +42,7 @@ new_pen room place =
       hand = [];
       bound = 0;
       allowed = 0;
+      waiters = [];
       dealt = [];
       known = [];
       due = None;
@@ -79,7 +81,7 @@ after_post p request now =
 
 -- the Book that a pen has in its hand, or had last, once its journal is this one
 abbrev pub book_with : PenState → List Line → Volume
-book_with p journal = record { room = p.room; bound = p.bound; allowed = p.allowed; journal = journal }
+book_with p journal = record { room = p.room; bound = p.bound; allowed = p.allowed; journal = journal; waiters = p.waiters }
 
 -- the Book in its hand
 abbrev pub book_in_hand : PenState → Volume
@@ -97,6 +99,7 @@ after_lead p book =
       hand = book.journal;
       bound = book.bound;
       allowed = book.allowed;
+      waiters = book.waiters;
       dealt = [];
       due = None;
       read = Some (word.Lock false);
@@ -224,6 +227,10 @@ allowed_by room allowed archived = max allowed (archived + page_of room)
 abbrev pub after_archive : PenState → ℕ → PenState
 after_archive p lines =
     record p { allowed = allowed_by p.room p.allowed (min lines (length p.hand)); steps = p.steps + 1 }
+
+-- as the leader it has changed the list of those who wait at the Book in its hand
+abbrev pub after_change : PenState → Change → PenState
+after_change p change = record p { waiters = changed change p.waiters; steps = p.steps + 1 }
 
 -- the answer that this control tells by itself: none where it is no answer, or one whose item is
 -- still to be read

@@ -18,6 +18,7 @@ returns c =
       answer = kept.answer laws;
       apply = kept.apply laws;
       archive = kept.archive;
+      change = kept.change;
       release = kept.release;
       release_by = kept.release_by laws;
       look = kept.look;

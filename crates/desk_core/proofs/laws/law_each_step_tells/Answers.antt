@@ -13,6 +13,7 @@ returns c =
       answer = told.answer_tells;
       apply = told.apply_tells;
       archive = told.archive_tells;
+      change = told.change_tells;
       release = told.release_tells;
       release_by = told.release_by_tells;
       look = told.look_tells;

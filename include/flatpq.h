@@ -167,9 +167,12 @@ uint32_t pq_place(pq_member *member);
    PQ_OK; PQ_FULL: there was no room until then; PQ_SHUT, PQ_NO_MEMORY. */
 PQ_CHECKED pq_code pq_push(pq_member *member, pq_item item, uint64_t until, uint64_t *number);
 
-/* Take the first item out, or only return it. They don't wait for an item. PQ_OK; PQ_EMPTY, which has an entry too. */
+/* Takes the first item out. It doesn't wait for an item. PQ_OK; PQ_EMPTY, which has an entry too. */
 PQ_CHECKED pq_code pq_pop(pq_member *member, pq_item *item, uint64_t until, uint64_t *number);
-PQ_CHECKED pq_code pq_peek(pq_member *member, pq_item *item, uint64_t until, uint64_t *number);
+
+/* Returns the first item, which stays. It has no entry. entries may be NULL; else *entries is how many entries came before the peek.
+   PQ_OK; PQ_EMPTY; never PQ_EXHAUSTED, PQ_JOURNAL_FULL or PQ_UNARCHIVED. */
+PQ_CHECKED pq_code pq_peek(pq_member *member, pq_item *item, uint64_t until, uint64_t *entries);
 
 /* Takes the first item out if its priority is at most this one. PQ_OK; PQ_NOT_DUE: *item is the first item, and stays; PQ_EMPTY. Only PQ_OK
    has an entry, so polling by this call leaves none. */

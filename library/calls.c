@@ -2,7 +2,7 @@
  * Requests of a member.
  *
  * A call that finds the lock held tries it again for a microsecond. Then it posts its request, which the thread that has the lock carries out,
- * and waits for the answer. A call with a deadline posts nothing, and only tries. So it has done nothing where it times out.
+ * and waits for the answer. A call with a deadline, and a peek, posts nothing, and only tries. So it has done nothing where it times out.
  */
 #include "inside.h"
 
@@ -18,7 +18,7 @@ typedef struct call {
     pq_item item; /* of a push */
     uint64_t until;
     pq_item *first; /* where the item goes that a pop or a peek finds */
-    uint64_t *number;
+    uint64_t *number; /* where the number in the answer goes */
     core_answer answer;
 } call;
 
@@ -34,11 +34,12 @@ static void watch_answer(const core_answer *answer) {
     }
 }
 
-/* Carries the request out where the lock is free, and does not look at what comes of it. What keeps a shut from being made is no answer. */
+/* Carries the request out where the lock is free, and does not look at what comes of it. What keeps a shut from being made is no answer. A peek is
+   made where a shut has to wait for the archive. */
 INLINE pq_code try_once(uint32_t request, call *it) {
     core *proved = &it->member->proved;
     pq_code code = flatpq_before(it->member);
-    if (!LIKELY(code == PQ_OK)) {
+    if (!LIKELY(code == PQ_OK) && (request != PQ_PEEK || code == LOCK_HELD)) {
         return code == LOCK_HELD || code == PQ_UNARCHIVED ? code : PQ_EXHAUSTED;
     }
     switch (request) {
@@ -47,7 +48,7 @@ INLINE pq_code try_once(uint32_t request, call *it) {
     case PQ_POP:
         return pq_core_try_pop(proved, it->first, &it->answer);
     default:
-        return pq_core_try_least(proved, it->first, &it->answer);
+        return pq_core_try_peek(proved, it->first, &it->answer);
     }
 }
 
@@ -142,9 +143,9 @@ static pq_code try_and_post(uint32_t request, call *it) {
     return code;
 }
 
-/* Carries a request out that found the lock held. */
+/* Carries a request out that found the lock held. A peek is never posted. */
 static pq_code ask_again(uint32_t request, call *it) {
-    return it->until == PQ_FOREVER ? try_and_post(request, it) : try_until(request, it);
+    return it->until == PQ_FOREVER && request != PQ_PEEK ? try_and_post(request, it) : try_until(request, it);
 }
 
 pq_code flatpq_refusal(uint32_t kind) {
@@ -285,8 +286,8 @@ pq_code pq_pop(pq_member *member, pq_item *item, uint64_t until, uint64_t *numbe
     return ask_first(PQ_POP, member, item, until, number);
 }
 
-pq_code pq_peek(pq_member *member, pq_item *item, uint64_t until, uint64_t *number) {
-    return ask_first(PQ_PEEK, member, item, until, number);
+pq_code pq_peek(pq_member *member, pq_item *item, uint64_t until, uint64_t *entries) {
+    return ask_first(PQ_PEEK, member, item, until, entries);
 }
 
 /*

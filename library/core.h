@@ -18,7 +18,7 @@ typedef struct core_inside *core;
 
 enum { KIND_PUSHED, KIND_POPPED, KIND_FIRST, KIND_EMPTY, KIND_JOURNAL_FULL, KIND_NO_MEMORY, KIND_SHUT, KIND_UNARCHIVED, KIND_FULL };
 
-/* The answer to a request: its journal entry, 0 where it has none, and the item of KIND_POPPED and KIND_FIRST. */
+/* The answer to a request: the number of its journal entry, 0 where it has none, and the item of KIND_POPPED and KIND_FIRST. */
 typedef struct core_answer {
     uint32_t kind;
     uint32_t owes_wake; /* not 0: the call carried requests out, and threads that wait for an item are to be woken (pq_core_wakes_owed) */
@@ -67,10 +67,11 @@ pq_code pq_core_close(core *queue, core *journal);
 /* Members. */
 pq_code pq_core_place(core *member, uint32_t *place);
 /* The next three return PQ_OK where the request was carried out, the answer is KIND_PUSHED, KIND_POPPED or KIND_FIRST, and nobody is to be woken: then of
-   the answer only the number is written. ANSWERED: else, and all of the answer is written, but no item. */
+   the answer only the number is written. ANSWERED: else, and all of the answer is written, but no item. A peek adds no entry: the number in its
+   answer, KIND_FIRST or KIND_EMPTY, is how many entries the journal has. */
 pq_code pq_core_try_push(core *member, uint64_t priority, uint64_t value, core_answer *answer);
 pq_code pq_core_try_pop(core *member, pq_item *item, core_answer *answer);
-pq_code pq_core_try_least(core *member, pq_item *item, core_answer *answer);
+pq_code pq_core_try_peek(core *member, pq_item *item, core_answer *answer);
 pq_code pq_core_post(core *member, uint32_t request, uint64_t priority, uint64_t value);
 pq_code pq_core_step_answer(core *member, core_answer *answer);
 pq_code pq_core_try_pop_or_look(core *member, uint32_t takes, uint64_t priority, core_answer *answer);

@@ -124,14 +124,12 @@ public:
         return push(priority, payload(value), until);
     }
 
-    /// Take the first item out, or show it: of payloads its key. They don't wait for an item.
+    /// Take the first item out, or show it: of payloads its key. They don't wait for an item. A peek has no journal entry.
     found pop(deadline until = {}) noexcept { return got<pq_pop>(until); }
-    flatpq::found<first, first> peek(deadline until = {}) const noexcept {
-        using shown = flatpq::found<first, first>;
+    result<first> peek(deadline until = {}) const noexcept {
         pq_item raw = {};
-        std::uint64_t number = 0;
-        const auto why = static_cast<code>(pq_peek(member_, &raw, until.at(), &number));
-        return why == code::ok ? shown(std::in_place, number, Items::shown(raw)) : shown(why, number);
+        const auto why = static_cast<code>(pq_peek(member_, &raw, until.at(), nullptr));
+        return why == code::ok ? result<first>(Items::shown(raw)) : why;
     }
 
     /// Takes the first item out if its key is at most this one. code::not_due: found::first() stays.

@@ -96,7 +96,7 @@ private:
     code error_ = code::ok;
 };
 
-/// What a call found that takes or peeks: an item, or code::empty, code::not_due, code::shut, or a refusal.
+/// What a call found that takes: an item, or code::empty, code::not_due, code::shut, or a refusal.
 template <class Item, class First> class [[nodiscard]] found : public result<Item> {
 public:
     template <class... From>
@@ -105,8 +105,8 @@ public:
     found(code why, std::uint64_t number = 0, std::optional<First> first = {}) noexcept
         : result<Item>(why), number_(number), first_(std::move(first)) {}
 
-    /// The number of the call's journal entry, or of the first one of a batch; 0 if it has none. A pop and a peek of an empty queue have one,
-    /// and so has a removal that comes to code::gone.
+    /// The number of the call's journal entry, or of the first one of a batch; 0 if it has none. A pop of an empty queue has one, and so has
+    /// a removal that comes to code::gone.
     [[nodiscard]] std::uint64_t number() const noexcept { return number_; }
     /// Of code::not_due the first item, which stays; of payloads its key.
     [[nodiscard]] const std::optional<First> &first() const & noexcept { return first_; }

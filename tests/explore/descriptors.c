@@ -89,7 +89,7 @@ int await_readable(int descriptor, uint64_t until) {
         return all[i].count > 0;
     }
     scheduler_point("wait for the timer", &all[i].time, READS, __FILE__, __LINE__);
-    while (all[i].time > now && until > now) {
+    while (all[i].time > now && is_to_come(until)) {
         block(SLEEPS, &all[i].time, all[i].time < until ? all[i].time : until);
     }
     return all[i].time <= now;

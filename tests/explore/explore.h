@@ -68,12 +68,17 @@ fiber *choose_fiber(fiber *mine, const void *at, enum access access);
 int choose_costly(void); /* whether this, which costs a preemption, happens now */
 void search_resumes(int which);
 void search_steps(int which, const void *at, enum access access);
+void search_passes_time(void);
 void want(place before, int thread);
 void print_replay(void);
 
 /* races.c: which steps can change places. */
+extern int counts_orders;
+extern long order_count;
 void races_begin(void);
+void races_end(void);
 void races_note(int of, const void *at, enum access access);
+void races_block(int of, const void *mutex);
 void races_enable(int woken, int by);
 int races_depend(const void *at, enum access access, const void *other, enum access as);
 
@@ -126,8 +131,8 @@ typedef struct done {
     uint64_t begun, ended; /* counted as they come */
 } done;
 /* SIZED: a request of the size: its item has that, and the peak. LEAVES_NONE: a batch of pops that had room for more, with its last entry and its
-   bound. */
-enum { SIZED = 100, LEAVES_NONE };
+   bound. PEEKED: its number is how many entries came before it. */
+enum { SIZED = 100, LEAVES_NONE, PEEKED };
 enum { MOST_DONE = 64 };
 extern pq_queue *queue;
 extern enum ending { STANDS, CLOSED, FREED } ending; /* what the scenario has done to its queue */

@@ -68,7 +68,7 @@
 #define TRIES(call, ...) (CHOICE(#call, &proved_core, WRITES), proved_begins(FIRST(__VA_ARGS__), 1) ? proved_ends(call) : LOCK_HELD)
 #define pq_core_try_push(...) TRIES(pq_core_try_push(__VA_ARGS__), __VA_ARGS__)
 #define pq_core_try_pop(...) TRIES(pq_core_try_pop(__VA_ARGS__), __VA_ARGS__)
-#define pq_core_try_least(...) TRIES(pq_core_try_least(__VA_ARGS__), __VA_ARGS__)
+#define pq_core_try_peek(...) TRIES(pq_core_try_peek(__VA_ARGS__), __VA_ARGS__)
 #define pq_core_post(m, r, p, v) (POINT("pq_core_post", &proved_core, WRITES), proved_post(m, r, p, v))
 #define pq_core_step_answer(m, a) (CHOICE("pq_core_step_answer", &proved_core, WRITES), proved_answer(m, a))
 #define pq_core_step_take(...) TRIES(pq_core_step_take(__VA_ARGS__), __VA_ARGS__)

@@ -16,6 +16,7 @@ static struct {
 static size_t size, peak, shut;
 static struct {
     size_t size, peak;
+    pq_item first;
 } after[MOST_ENTRIES + 1]; /* so many entries */
 
 void journal_begin(void) {
@@ -47,17 +48,23 @@ static int comes_before(size_t one, size_t other) {
     return key < than || (key == than && model[one].ticket < model[other].ticket);
 }
 
+/* Where the first item stands, if there is one. */
+static size_t first_of_all(void) {
+    size_t at = 0;
+    for (size_t i = 1; i < size; i++) {
+        at = comes_before(i, at) ? i : at;
+    }
+    return at;
+}
+
 /* Where the item of an entry stands: `size` where it is not there. */
 static size_t place_of(const pq_entry *entry) {
     size_t at = 0;
-    if (entry->request == PQ_PUSH || entry->request == PQ_REMOVE || entry->request == PQ_RESCHEDULE) {
-        while (at < size && model[at].ticket != entry->ticket) {
-            at++;
-        }
-        return at;
+    if (entry->request != PQ_PUSH && entry->request != PQ_REMOVE && entry->request != PQ_RESCHEDULE) {
+        return first_of_all();
     }
-    for (size_t i = 1; i < size; i++) {
-        at = comes_before(i, at) ? i : at;
+    while (at < size && model[at].ticket != entry->ticket) {
+        at++;
     }
     return at;
 }
@@ -159,12 +166,19 @@ static int fits(const done *it, size_t at) {
     if (it->request == SIZED) {
         return after[at].size == it->item.priority && after[at].peak == it->item.value;
     }
+    if (it->request == PEEKED && it->number != at) {
+        return 0;
+    }
+    if (it->code == PQ_OK) {
+        return after[at].size > 0 && memcmp(&after[at].first, &it->item, sizeof it->item) == 0;
+    }
     return it->code == PQ_FULL ? after[at].size >= queue->most_items : after[at].size == 0;
 }
 
 /* The order of the journal is that of the calls: one that began after another had ended comes after it, with an entry or without. */
 static void check_order(const done *it, const done *all, int count) {
-    const int is_look = it->number == 0 && (it->request == SIZED || it->code == PQ_EMPTY || it->code == PQ_FULL);
+    const int has_peeked = it->request == PEEKED && (it->code == PQ_OK || it->code == PQ_EMPTY);
+    const int is_look = has_peeked || (it->number == 0 && (it->request == SIZED || it->code == PQ_EMPTY || it->code == PQ_FULL));
     size_t from = 0, to = entry_count;
     for (int i = 0; i < count; i++) {
         if (has_number(&all[i])) {
@@ -210,6 +224,7 @@ void check_journal(const pq_journal *journal, const done *all, int count, int he
         peak = size > peak ? size : peak;
         after[i + 1].size = size;
         after[i + 1].peak = peak;
+        after[i + 1].first = model[first_of_all()].item;
         check_batch(&entries[i], all, count);
         if (count < MOST_DONE) {
             check_returned(&entries[i], all, count);

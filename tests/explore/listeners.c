@@ -13,6 +13,11 @@ void listeners_begin(void) {
     memset(may_notify, 0, sizeof may_notify);
 }
 
+static int is_notified(int which) {
+    scheduler_point("is it notified", &notified[which], READS, __FILE__, __LINE__);
+    return notified[which] != 0;
+}
+
 static void notify(void *context) {
     uint32_t *it = context;
     const int which = (int)(it - notified);
@@ -31,18 +36,19 @@ static pq_code begin_listening(int which, uint64_t priority, pq_item *first) {
     uint64_t entry = 0;
     pq_code code;
     may_notify[which]++;
+    scheduler_point("not notified yet", &notified[which], WRITES, __FILE__, __LINE__);
     notified[which] = notified_itself[which] = 0;
     check_call_begins(LISTENS_FOR, PQ_NOW, priority);
     code = pq_take_or_listen(used[which], priority, first, &entry, notify, &notified[which]);
     check_call_ends(PQ_POP, code, *first, code == PQ_OK ? entry : 0);
     may_notify[which] = code == PQ_EMPTY || code == PQ_NOT_DUE;
-    was_notified[which] = notified[which];
+    was_notified[which] = is_notified(which);
     return code;
 }
 
 void sleep_at(const uint32_t *at, uint32_t seen, uint64_t until) {
     scheduler_point("wait", at, READS, __FILE__, __LINE__);
-    while (*at == seen && until > now && !(is_over && me->call == SERVES)) {
+    while (*at == seen && is_to_come(until) && !(is_over && me->call == SERVES)) {
         block(ON_WORD, at, until);
     }
 }
@@ -67,7 +73,7 @@ static pq_code listen_until(int which, uint64_t priority, uint64_t until) {
         if (code == PQ_EMPTY || code == PQ_NOT_DUE) {
             await_notify(which, LISTENS_FOR, priority, until);
         }
-    } while ((code == PQ_EMPTY || code == PQ_NOT_DUE) && notified[which]);
+    } while ((code == PQ_EMPTY || code == PQ_NOT_DUE) && is_notified(which));
     return code;
 }
 
@@ -80,7 +86,7 @@ static void listen_due(int which, const uint64_t *numbers) {
         if (code == PQ_EMPTY || code == PQ_NOT_DUE) {
             await_notify(which, LISTENS_FOR_DUE, 0, first.priority < numbers[0] ? first.priority : numbers[0]);
         }
-    } while ((code == PQ_EMPTY || code == PQ_NOT_DUE) && now < numbers[0]);
+    } while ((code == PQ_EMPTY || code == PQ_NOT_DUE) && is_to_come(numbers[0]));
 }
 
 static void listen(int which, const uint64_t *numbers) {
@@ -132,17 +138,26 @@ static pq_code begin_listening_for_room(int which, uint64_t priority) {
     uint64_t entry = 0;
     pq_code code;
     may_notify[which]++;
+    scheduler_point("not notified yet", &notified[which], WRITES, __FILE__, __LINE__);
     notified[which] = notified_itself[which] = 0;
     check_call_begins(CALLS, PQ_NOW, 0);
     code = pq_push_or_listen(used[which], item, &entry, notify, &notified[which]);
     check_call_ends(PQ_PUSH, code, item, entry);
     may_notify[which] = code == PQ_FULL;
-    was_notified[which] = notified[which];
+    was_notified[which] = is_notified(which);
     return code;
 }
 
 static void push_once(int which, const uint64_t *numbers) {
     (void)begin_listening_for_room(which, numbers[0]);
+}
+
+/* As listen_held. */
+static void push_held(int which, const uint64_t *numbers) {
+    push_once(which, numbers);
+    if (!notified_itself[which]) {
+        unlisten(which, numbers);
+    }
 }
 
 /* Pushes, or listens until it is notified, up to this time. */
@@ -153,7 +168,7 @@ static void push_until(int which, const uint64_t *numbers) {
         if (code == PQ_FULL) {
             await_notify(which, PUSHES, 0, numbers[1]);
         }
-    } while (code == PQ_FULL && notified[which]);
+    } while (code == PQ_FULL && is_notified(which));
 }
 
 static pq_code begin_alarm(int which) {
@@ -176,12 +191,13 @@ static void alarm_until(int which, const uint64_t *numbers) {
     while ((code = begin_alarm(which)) == PQ_EMPTY || code == PQ_NOT_DUE) {
         check_call_begins(HAS_ALARM, PQ_FOREVER, 0);
         scheduler_point("wait for the timer", &timers[which], READS, __FILE__, __LINE__);
-        while (timers[which] > now) {
+        while (is_to_come(timers[which])) {
             block(SLEEPS, &timers[which], timers[which]);
         }
+        scheduler_point("unset the timer", &timers[which], WRITES, __FILE__, __LINE__);
         timers[which] = PQ_FOREVER;
         check_call_begins(NO_CALL, PQ_FOREVER, 0);
-        if (now >= numbers[0]) {
+        if (!is_to_come(numbers[0])) {
             unlisten(which, numbers);
             return;
         }
@@ -197,6 +213,7 @@ const word listener_words[] = {
     { "listen-held", listen_held },
     { "listen-room", push_until },
     { "listen-room-once", push_once },
+    { "listen-room-held", push_held },
     { "unlisten", unlisten },
     { "alarm", alarm_until },
     { "alarm-once", alarm_once },

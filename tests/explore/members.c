@@ -171,7 +171,7 @@ static void free_queue(int which, const uint64_t *numbers) {
  */
 
 static void sleep_to(int which, const uint64_t *numbers) {
-    if (numbers[0] > now) {
+    if (is_to_come(numbers[0])) {
         block(SLEEPS, NULL, numbers[0]);
     }
 }

@@ -140,7 +140,7 @@ pq_code proved_ends(pq_code code) {
 static void stay(const void *handle) {
     const uint64_t until = me->posts_until;
     me->posts_until = 0;
-    if (until > now) {
+    if (is_to_come(until)) {
         me->stays_by = handle;
         block(NAPS, NULL, until);
         me->stays_by = NULL;

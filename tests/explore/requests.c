@@ -29,11 +29,11 @@ void put(uint64_t priority) {
     ticket = code == PQ_OK && ticket == 0 ? entry : ticket;
 }
 
-/* Makes so many entries before the threads begin. */
+/* Makes so many entries before there is any item. */
 void use_entries(uint64_t count) {
     pq_item item;
     while (count-- > 0) {
-        (void)!pq_peek(used[0], &item, PQ_NOW, NULL);
+        (void)!pq_pop(used[0], &item, PQ_NOW, NULL);
     }
 }
 
@@ -143,8 +143,15 @@ static void take_due_all(int which, const uint64_t *numbers) {
 }
 
 static void peek(int which, const uint64_t *numbers) {
-    pq_item item;
-    (void)!pq_peek(used[which], &item, numbers[0], NULL);
+    pq_item item = none;
+    uint64_t before = 0;
+    pq_code code;
+    check_call_begins(CALLS, numbers[0], 0);
+    code = pq_peek(used[which], &item, numbers[0], &before);
+    check_call_ends(PEEKED, code, item, before);
+    if (code != PQ_OK && code != PQ_EMPTY && code != PQ_TIMED_OUT && code != PQ_CLOSED) {
+        fail("a peek returns %s", pq_code_text(code));
+    }
 }
 
 static void pop_due(int which, const uint64_t *numbers) {
@@ -219,11 +226,6 @@ static void post_pop(int which, const uint64_t *numbers) {
     post(pop, which, until, numbers[0]);
 }
 
-static void post_peek(int which, const uint64_t *numbers) {
-    const uint64_t until[] = { PQ_FOREVER };
-    post(peek, which, until, numbers[0]);
-}
-
 const word request_words[] = {
     { "push", push },
     { "push-archived", push_archived },
@@ -244,6 +246,5 @@ const word request_words[] = {
     { "size", count_items },
     { "post-push", post_push },
     { "post-pop", post_pop },
-    { "post-peek", post_peek },
     { NULL, NULL },
 };

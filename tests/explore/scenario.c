@@ -148,10 +148,10 @@ void scenario_begin(void) {
     it.options.members = it.own + joined;
     check_begin(it.options, !it.is_unobserved);
     use_members(joined == 0 ? it.item_count > 0 || it.used > 0 : (int)joined);
+    use_entries(it.used);
     for (int i = 0; i < it.item_count; i++) {
         put(it.items[i]);
     }
-    use_entries(it.used);
     for (int i = 0; i < MOST_FIBERS && (joined == 0 || played.wraps != NULL); i++) {
         give_back(i);
     }

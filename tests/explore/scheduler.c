@@ -161,7 +161,20 @@ uint64_t next_time(void) {
 
 void pass_time(uint64_t to) {
     now = to;
-    search_steps(-1, &now, WRITES);
+    search_passes_time();
+}
+
+/* Lets this fiber go on. Where its time has come, that depends on steps at the word at which it sleeps. */
+static void resume(fiber *it) {
+    if ((it->state == ON_WORD || it->state == SLEEPS || it->state == NAPS) && !is_random) {
+        races_note(index_of(it), &now, WRITES);
+        if (it->at != NULL) {
+            races_note(index_of(it), it->at, WRITES);
+            search_steps(index_of(it), it->at, WRITES);
+        }
+    }
+    it->state = READY;
+    switch_to(it);
 }
 
 /* Has others go on until this fiber can, or the explorer where nobody ever can. */
@@ -170,8 +183,7 @@ static void run_others(void) {
     for (;;) {
         fiber *next = choose_fiber(NULL, NULL, NOTHING);
         if (next != NULL) {
-            next->state = READY;
-            switch_to(next);
+            resume(next);
             return;
         }
         if (is_held && next_time() == PQ_FOREVER) {
@@ -188,12 +200,25 @@ static void run_others(void) {
     }
 }
 
+/* From now on those that sleep longer than that are not the next ones: they are tried before. */
+static void sleep_before_others(uint64_t until) {
+    scheduler_step(&now, READS);
+    for (int i = 0; i < fiber_count && !is_random; i++) {
+        if (fibers[i].state != READY && fibers[i].until != PQ_FOREVER && fibers[i].until >= until) {
+            want(here, i);
+        }
+    }
+}
+
 void block(enum state state, const void *at, uint64_t until) {
     fiber *mine = me;
     if (mine == NULL) {
         fail("nobody can go on, and the library waits");
     }
     mine->calls += state == ON_WORD; /* a thread that sleeps may give its member up, and go on by another */
+    if (until != PQ_FOREVER) {
+        sleep_before_others(until);
+    }
     mine->state = state;
     mine->at = at;
     mine->until = until;
@@ -210,6 +235,14 @@ void wake_word(const void *word) {
             }
         }
     }
+}
+
+/* Whether this time is to come. It is a step that reads the time. */
+int is_to_come(uint64_t time) {
+    if (time != PQ_NOW && time != PQ_FOREVER) {
+        scheduler_step(&now, READS);
+    }
+    return time > now;
 }
 
 void nap_for(uint64_t nanoseconds) {
@@ -239,8 +272,7 @@ void scheduler_choice(const char *what, const void *at, enum access access, cons
     if (is_random || access != NOTHING) {
         fiber *next = choose_fiber(me, at, access);
         if (next != me) {
-            next->state = READY;
-            switch_to(next);
+            resume(next);
         }
     }
     record(what, file, line);
@@ -342,8 +374,7 @@ void execute(void) {
         thread kept = flatpq_thread;
         fiber *first = choose_fiber(NULL, NULL, NOTHING);
         if (first != NULL) {
-            first->state = READY;
-            switch_to(first);
+            resume(first);
         }
         flatpq_thread = kept;
         if (round == 0) {

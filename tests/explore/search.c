@@ -6,9 +6,11 @@
  * costs a preemption. One is tried where a later step of its own may change places with that step, and each where that one can't go on there
  * (races.c). It is tried too in place of the thread of that step, where a preemption let that go on. A schedule that preempts a thread, and
  * resumes it before a step that depends on its next one, is as one that preempts it a step later: no more choices are made in it. This pays: with
- * up to 2 preemptions it plays 4,308 schedules in place of 39,198 (own), with all 2,323 orders of steps that depend on each other.
+ * up to 2 preemptions it plays 5,988 schedules in place of 39,198 (own), with all 2,323 orders of steps that depend on each other.
  *
- * usage: explore [-b PREEMPTIONS] [-n RANDOM SCHEDULES] [-s SEED] [-t SECONDS] [-r SCHEDULE] NAME SCENARIO
+ * usage: explore [-b PREEMPTIONS] [-n RANDOM SCHEDULES] [-s SEED] [-t SECONDS] [-r SCHEDULE] [-o | -a] NAME SCENARIO
+ *
+ * With -o it counts the orders of steps that depend on each other; with -a it counts them over all schedules, and leaves none out.
  */
 #include "explore.h"
 
@@ -22,10 +24,13 @@
 enum { MOST_CHOICES = 100000, MOST_CHANGES = 6 };
 
 int is_random, is_redundant;
+static int is_whole; /* each choice is tried */
 static int bound, preempted;
-/* A choice: the alternatives as bits, and which threads they are. */
+/* A choice at this time: the alternatives as bits, and which threads they are. */
 static struct {
     int chosen, of;
+    int costs, ready; /* another than the first is a preemption; so many can go on, and the others sleep until the next time */
+    uint64_t now;
     unsigned wanted, tried;
     signed char threads[MOST_FIBERS];
 } choices[MOST_CHOICES];
@@ -62,16 +67,26 @@ void print_replay(void) {
     printf("\n");
 }
 
-/* This thread is tried by this choice, if any, and where it could not go on each other is. */
-static void want_at(int choice, int thread) {
-    for (int i = 1; choice >= 0 && i < choices[choice].of; i++) {
-        if (choices[choice].threads[i] == thread) {
-            choices[choice].wanted |= 1u << i;
-            return;
-        }
+/* Those that sleep until the next time are tried by this choice, or where it costs nothing, and so has none of them, by the last that does. */
+static void want_time_to_pass(int choice) {
+    while (choice > 0 && !choices[choice].costs) {
+        choice--;
     }
-    if (choice >= 0) {
-        choices[choice].wanted = UINT_MAX;
+    choices[choice].wanted |= UINT_MAX << choices[choice].ready;
+}
+
+/* This thread is tried by this choice, if any, and where it could not go on each other is. Its step may be later only as time has passed. */
+static void want_at(int choice, int thread) {
+    int i = 1;
+    if (choice < 0) {
+        return;
+    }
+    while (i < choices[choice].of && choices[choice].threads[i] != thread) {
+        i++;
+    }
+    choices[choice].wanted |= i < choices[choice].of ? 1u << i : UINT_MAX;
+    if (i == choices[choice].of || now > choices[choice].now) {
+        want_time_to_pass(choice);
     }
 }
 
@@ -94,7 +109,7 @@ static int choose(int count, int costs, int is_each_tried, int *index) {
     if (i < choice_known) {
         chosen = choices[i].chosen < count ? choices[i].chosen : 0;
     } else {
-        choices[i].wanted = is_each_tried ? UINT_MAX : 0;
+        choices[i].wanted = is_each_tried || is_whole ? UINT_MAX : 0;
         choices[i].tried = 0;
     }
     choices[i].chosen = chosen;
@@ -102,6 +117,9 @@ static int choose(int count, int costs, int is_each_tried, int *index) {
     choices[i].of = count;
     choice_count++;
     preempted += costs && chosen > 0;
+    choices[i].now = now;
+    choices[i].costs = costs;
+    choices[i].ready = count;
     *index = i;
     return chosen;
 }
@@ -176,6 +194,10 @@ fiber *choose_fiber(fiber *mine, const void *at, enum access access) {
     for (int i = 0; choice >= 0 && i < count; i++) {
         choices[choice].threads[i] = found[i] != NULL ? (signed char)index_of(found[i]) : -1;
     }
+    if (choice >= 0) {
+        choices[choice].ready = ready + (mine != NULL);
+        choices[choice].now = now;
+    }
     here.choice = choice;
     block_began = mine == NULL ? -1 : chosen > 0 ? choice : block_began;
     if (mine != NULL && chosen > 0) {
@@ -194,7 +216,7 @@ fiber *choose_fiber(fiber *mine, const void *at, enum access access) {
 void search_resumes(int which) {
     here.choice = -1;
     here.began = block_began;
-    is_redundant |= waits_with[which].is_set;
+    is_redundant |= waits_with[which].is_set && !is_whole;
     waits_with[which].is_set = 0;
 }
 
@@ -205,6 +227,11 @@ void search_steps(int which, const void *at, enum access access) {
             waits_with[i].is_set = 0;
         }
     }
+}
+
+/* Time passes, which each next step may depend on. */
+void search_passes_time(void) {
+    memset(waits_with, 0, sizeof waits_with);
 }
 
 static void begin_random(void) {
@@ -291,6 +318,7 @@ static int explore_bound(int preemptions, double end, long *count, long *redunda
     choice_known = 0;
     while (more && seconds() < end) {
         play();
+        races_end();
         ++*count;
         *redundant += is_redundant;
         more = next_schedule();
@@ -309,8 +337,12 @@ static void explore(int most, long random, double most_seconds) {
     for (; tried < random && seconds() - begun < most_seconds; tried++, seed++) {
         play();
     }
-    printf("%s: all schedules with up to %d preemptions, %ld, of which %ld were cut; %ld at random; %.1f s\n", played.name, whole - 1, each,
+    printf("%s: all schedules with up to %d preemptions, %ld, of which %ld were cut; %ld at random; %.1f s", played.name, whole - 1, each,
            redundant, tried, seconds() - begun);
+    if (counts_orders) {
+        printf("; %ld orders", order_count);
+    }
+    printf("\n");
 }
 
 int main(int count, char **words) {
@@ -319,13 +351,15 @@ int main(int count, char **words) {
     double most = 2;
     const char *replayed = NULL;
     seed = 1;
-    while ((option = getopt(count, words, "b:n:s:t:r:")) != -1) {
+    while ((option = getopt(count, words, "b:n:s:t:r:oa")) != -1) {
         switch (option) {
         case 'b': preemptions = atoi(optarg); break;
         case 'n': random = atol(optarg); break;
         case 's': seed = strtoull(optarg, NULL, 10); break;
         case 't': most = atof(optarg); break;
         case 'r': replayed = optarg; break;
+        case 'o': counts_orders = 1; break;
+        case 'a': counts_orders = is_whole = 1; break;
         default: return 2;
         }
     }

@@ -80,6 +80,9 @@ int system_lock(pthread_mutex_t *mutex) {
         if (*owner == mine()) {
             fail("a thread locks a mutex that it has");
         }
+        if (me != NULL && !is_random) {
+            races_block(index_of(me), mutex);
+        }
         block(ON_MUTEX, mutex, PQ_FOREVER);
     }
     scheduler_step(mutex, LOCKS);
@@ -119,13 +122,19 @@ int system_destroy(pthread_mutex_t *mutex) {
 
 int system_clock(struct timespec *time) {
     const uint64_t spin = 1500;
+    uint64_t to;
     if (me != NULL) {
-        scheduler_point("clock", &now, READS, __FILE__, __LINE__);
+        scheduler_choice("clock", &now, me->found_held || next_time() != PQ_FOREVER ? WRITES : READS, __FILE__, __LINE__);
+        to = now;
         if (me->found_held) {
             me->found_held = 0;
-            pass_time(now + spin); /* so a spin ends */
+            to = now + spin; /* so a spin ends */
         } else if (!is_random && next_time() != PQ_FOREVER && choose_costly()) {
-            pass_time(next_time());
+            to = next_time();
+        }
+        scheduler_step(&now, to != now ? WRITES : READS);
+        if (to != now) {
+            pass_time(to);
         }
     }
     time->tv_sec = (time_t)(now / second);
@@ -174,7 +183,7 @@ static void futex(const char *file, int line, uint32_t *word, int what, uint32_t
         scheduler_point("sleep", word, WRITES, file, line);
         system_drain();
         check_deadline(value, until > now + farthest ? PQ_FOREVER : until);
-        if (*word == value && until > now) {
+        if (*word == value && is_to_come(until)) {
             block(ON_WORD, word, until > now + farthest ? PQ_FOREVER : until);
         }
     }

@@ -116,7 +116,7 @@ void listen_due(int which, const std::uint64_t *numbers) {
         check_call_begins(CALLS, PQ_NOW, 0);
         const auto first = listener.take_or_listen();
         const bool listens = ends(first);
-        goes_on = first || (listens && now < numbers[0]);
+        goes_on = first || (listens && is_to_come(numbers[0]) != 0);
         check_call_begins(NO_CALL, PQ_FOREVER, 0);
     } while (goes_on);
 }
@@ -191,6 +191,11 @@ void replace_listener(int which, const std::uint64_t *) {
     *threads[which].listener = *std::move(other);
 }
 
+bool is_notified(const thread &it) {
+    scheduler_point("is it notified", &it.is_notified, READS, __FILE__, __LINE__);
+    return it.is_notified != 0;
+}
+
 // Calls by a member that listens, and again whenever it is notified, up to this time.
 template <class Call> void call_while_notified(int which, enum call as, std::uint64_t until, Call listens_after) {
     auto &mine = threads[which];
@@ -198,7 +203,8 @@ template <class Call> void call_while_notified(int which, enum call as, std::uin
     if (!mine.notify) {
         mine.notify = std::make_unique<notifying>(&mine.is_notified);
     }
-    for (bool listens = true; listens && (mine.is_notified != 0 || now < until);) {
+    for (bool listens = true; listens && (is_notified(mine) || is_to_come(until) != 0);) {
+        scheduler_point("not notified yet", &mine.is_notified, WRITES, __FILE__, __LINE__);
         mine.is_notified = 0;
         mine.notify->may_notify++;
         listens = listens_after(member, *mine.notify);

@@ -41,6 +41,7 @@ extern int is_over; /* all threads have ended but those that serve */
 int scheduler_thread(void); /* -1 outside of all */
 void wake_word(const void *word);
 void sleep_at(const uint32_t *at, uint32_t seen, uint64_t until);
+int is_to_come(uint64_t time);
 void nap_for(uint64_t nanoseconds);
 void fail(const char *why, ...) __attribute__((format(printf, 1, 2), noreturn));
 

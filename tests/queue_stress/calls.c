@@ -75,9 +75,11 @@ static int is_late(const caller *own, pq_code code) {
     return code == PQ_TIMED_OUT || (code == PQ_ALL_JOINED && !own->outcome.has_joined);
 }
 
-/* Takes an answer down. */
+/* Takes an answer down. A peek has no entry: its number is how many came before it, those of calls that had returned among them. */
 static void answered(caller *own, uint32_t request, pq_code code, uint64_t number, pq_item item) {
-    if (code == PQ_OK || code == PQ_EMPTY) {
+    if (request == PQ_PEEK && (code == PQ_OK || code == PQ_EMPTY)) {
+        own->outcome.wrong = number < own->outcome.seen ? "a peek did not see what had returned before" : own->outcome.wrong;
+    } else if (code == PQ_OK || code == PQ_EMPTY) {
         add(&own->outcome, number, request, code, item);
         own->outcome.wrong = number == 0 ? "a call returned no number" : own->outcome.wrong;
     } else if (code == PQ_JOURNAL_FULL) {

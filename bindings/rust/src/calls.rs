@@ -67,12 +67,11 @@ impl<K: Key, T> Call<'_, K, T> {
     }
 
     fn peeked(&self) -> Result<Option<Item>, Error> {
-        let (mut item, mut number) = (Item::default(), 0);
+        let mut item = Item::default();
         // SAFETY: as above.
         let code = after::calling(|| unsafe {
-            raw::pq_peek(self.member, &mut item, self.until, &mut number)
+            raw::pq_peek(self.member, &mut item, self.until, ptr::null_mut())
         });
-        self.has_number(number);
         match code {
             raw::EMPTY => Ok(None),
             code => Error::unless_ok(code).map(|()| Some(item)),
@@ -329,11 +328,11 @@ macro_rules! calls {
                 self.call().reschedule(ticket, key)
             }
 
-            /// Returns the first key, if there is one. Its payload stays.
+            /// Returns the first key, if there is one. Its payload stays. It has no journal entry.
             ///
             /// # Errors
             ///
-            /// Those of [each call](crate::TaskQueue#errors).
+            /// Those of [`len`](Self::len).
             pub fn peek(&$($mutable)? self) -> Result<Option<K>, Error> {
                 self.call().peek()
             }
@@ -436,11 +435,11 @@ macro_rules! calls {
 
         /// Of numbers.
         impl<$($life,)? K: Key, T: Number> $Type {
-            /// Returns the first key and number, if there is one. It stays.
+            /// Returns the first key and number, if there is one. It stays. It has no journal entry.
             ///
             /// # Errors
             ///
-            /// Those of [each call](crate::TaskQueue#errors).
+            /// Those of [`len`](Self::len).
             pub fn peek_item(&$($mutable)? self) -> Result<Option<(K, T)>, Error> {
                 self.call().peek_item()
             }

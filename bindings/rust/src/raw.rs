@@ -74,7 +74,7 @@ extern "C" {
     pub fn pq_place(member: *mut MemberInside) -> u32;
     pub fn pq_push(member: *mut MemberInside, item: Item, until: u64, number: *mut u64) -> u32;
     pub fn pq_pop(member: *mut MemberInside, item: *mut Item, until: u64, number: *mut u64) -> u32;
-    pub fn pq_peek(member: *mut MemberInside, item: *mut Item, until: u64, number: *mut u64) -> u32;
+    pub fn pq_peek(member: *mut MemberInside, item: *mut Item, until: u64, entries: *mut u64) -> u32;
     pub fn pq_pop_due(member: *mut MemberInside, priority: u64, item: *mut Item, until: u64, number: *mut u64) -> u32;
     pub fn pq_take(member: *mut MemberInside, item: *mut Item, until: u64, number: *mut u64) -> u32;
     pub fn pq_take_due(member: *mut MemberInside, item: *mut Item, until: u64, number: *mut u64) -> u32;

@@ -332,7 +332,7 @@ impl<K: Key, T: Send> TaskMember<K, T> {
         })
     }
 
-    /// The number of the journal entry of the member's last call that pushes, takes, removes, moves or peeks. Of a batch it is that of its first
+    /// The number of the journal entry of the member's last call that pushes, takes, removes or moves. Of a batch it is that of its first
     /// entry; 0 if there is none.
     ///
     /// ```

@@ -9,7 +9,7 @@ use Rattle.pq_types.specs.declared.journal.TheConstants.{GREATEST_NUMBER}
 use Rattle.pq_types.specs.Queue.{IsProperRequestOf}
 use Rattle.pq_types.specs.History.{journal_after, MayAnswer, last_serial}
 use Rattle.pq_book.specs.Book.{Volume}
-use Rattle.desk_core.specs.Knows.{NoneAbove}
+use Rattle.desk_core.specs.Knows.{Knows, NoneAbove}
 use Rattle.desk_core.specs.Layout.{lock_at}
 use Rattle.desk_core.specs.Pen.{IsIdle, after_apply, book_with, book_in_hand, limits_in_hand}
 use Rattle.desk_core.specs.declared.model.PenState.{PenState}
@@ -56,12 +56,13 @@ lent_owes wide roomy allowed room terms places slots id table place posts m n q 
     apply_owes wide roomy allowed room terms places slots id m n b q x lent.is lent.leads lent.idle (subst (λ k. k < GREATEST_NUMBER) lent.counted few) proper d.1 refl
     (is ∙ ap (λ y. (m.0, (0, y) ∷ rest m.1)) d.0)
 
--- what the leader is afterwards, and may have answered
+-- what the leader is afterwards, may have answered, and knew
 pub record Lent (table : TableId) (place posts : ℕ) (m after : Seated) (q : Request) (x : Answer) : Type 0 where
   pub now : ℕ
   pub lent : IsLent table place (posts + 1) after
   pub after_is : pen_at after ≡ after_apply (pen_at m) q x now
   pub may : MayAnswer (limits_in_hand (pen_at m)) (pen_at m).hand q x
+  pub knows : Knows (pen_at m).room (pen_at m) (pen_at m).hand
 
 pub lent_told : (wide : Bool) (table : TableId) (place posts : ℕ) (m n after : Seated) (word : ℕ) (q : Request) (x : Answer) (s t : Slotted) → IsLent table place posts m
     → m.1 ≡ (0, s) ∷ rest m.1 → CarriesOut wide place (posts + 1) q s x t → ◌≡◌ {A = Seated} n (m.0, (0, t) ∷ rest m.1) → Applied (step 0 lock_at 0 0 none) n word after → Lent table place posts m after q x
@@ -69,7 +70,8 @@ lent_told wide table place posts m n after word q x s t lent e c is told =
     let p = pen_at m in
     let b = book_with p (journal_after p.hand p.place (p.posts + 1) q x) in
     let d = carried_in wide p place posts q x s t (value_lent table place posts m s lent e) lent.here lent.counted c in
-    let a = (applied m n after word b q x (with_book (book_in_hand p)) lent.slot d.1 refl (is ∙ ap (λ y. (m.0, (0, y) ∷ rest m.1)) d.0) told).0 in
+    let both = applied m n after word b q x (with_book (book_in_hand p)) lent.slot d.1 refl (is ∙ ap (λ y. (m.0, (0, y) ∷ rest m.1)) d.0) told in
+    let a = both.0 in
     record {
       now = a.0;
       lent = subst (IsLent table place (posts + 1)) (sym a.1)
@@ -85,6 +87,7 @@ lent_told wide table place posts m n after word q x s t lent e c is told =
           };
       after_is = ap pen_at a.1;
       may = d.1;
+      knows = both.1;
     }
 
 -- the next serial is above each one that the place has in the Book there

@@ -10,8 +10,10 @@ use Rattle.pq_types.specs.History.{Limits, MayAnswer}
 use Rattle.desk_core.specs.Knows.{NoneAbove}
 use Rattle.desk_core.specs.Layout.{lock_at}
 use Rattle.desk_core.specs.Pen.{IsIdle, after_apply, book_in_hand}
+use Rattle.desk_core.specs.declared.model.Call.{Call}
 use Rattle.desk_core.specs.declared.model.PenState.{PenState}
 use Rattle.desk_core.specs.declared.model.View.TheVariants.{Holder}
+use Rattle.announce_board.specs.Asking.{IsAnswerTo, IsAboveAll}
 use Rattle.announce_board.specs.Rule.{Seated}
 use Rattle.announce_board.specs.Slots.{with_book}
 use Rattle.announce_board.specs.Steps.{pen_at}
@@ -65,6 +67,20 @@ EndsEach limits is_next p (Some (Refused why)) q = IsRefusedAs limits is_next p 
 abbrev pub AppliesUntil : Limits → (is_next : Request → Type 0) → PenState → List Told → Option Answer → PenState → Type 0
 AppliesUntil limits is_next p told refused q =
     (m : PenState) × AppliesEach limits p told m × EndsEach limits is_next m refused q
+
+-- These requests have answers to them, at a journal with room for so many lines: the first is entered on the line behind so many.
+abbrev pub AreAnswersTo : (room lines : ℕ) → List Told → Type 0
+AreAnswersTo room lines [] = Unit {0}
+AreAnswersTo room lines (t ∷ ts) = IsAnswerTo room t.0 (Entered (lines + 1) t.1) × AreAnswersTo room (lines + 1) ts
+
+-- what refused the next request, of which this holds, is an answer to it
+abbrev pub IsAnswerToNext : (room : ℕ) → (is_next : Request → Type 0) → Option Answer → Type 0
+IsAnswerToNext room is_next None = Unit {0}
+IsAnswerToNext room is_next (Some answer) = (request : Request) × is_next request × IsAnswerTo room request answer
+
+-- each of so many lines that follow so many is behind those of all these calls
+abbrev pub AreAboveAll : (lines count : ℕ) → List Call → Type 0
+AreAboveAll lines count calls = (i : ℕ) → i < count → IsAboveAll (lines + 1 + i) calls
 
 -- The seat is that of an idle pen which leads, at this place and with so many posts, and the Book that it has in its hand lies in
 -- the slot.

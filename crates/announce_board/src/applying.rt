@@ -1,11 +1,14 @@
 // How a leader applies requests of its own, and goes on leading: it posts nothing. Meanwhile the Book lies in its slot, and the
 // leader uses it there.
 ghost use Rattle.std.specs.Prelude.{◌≡◌, ◌≢◌, ℕ, ◌+◌, ◌<◌, [], ◌∷◌, length};
+ghost use Rattle.pq_types.specs.Asked.{Reply};
+ghost use Rattle.pq_types.specs.declared.answer.Answer.TheVariants.{Entered};
 ghost use Rattle.pq_types.specs.declared.journal.TheConstants.{GREATEST_NUMBER};
 ghost use Rattle.pq_types.specs.History.{left, MayAnswer};
 ghost use Rattle.pq_book.specs.Book.{AllHaveRoom, Volume};
 ghost use Rattle.leftist_heap.specs.Store.{first_of};
 ghost use Rattle.desk_core.specs.Pen.{after_apply, book_in_hand, limits_in_hand};
+ghost use Rattle.announce_board.specs.Asking.{IsAnswerTo, IsAboveAll, IsFullFor};
 ghost use Rattle.announce_board.specs.Batches.{IsLent, is_first_due};
 ghost use Rattle.announce_board.specs.Slots.{with_book, out};
 ghost use Rattle.announce_board.specs.Steps.{pen_at};
@@ -14,6 +17,7 @@ use crate::boxed_book::BoxedBook;
 use crate::laws::law_steps_are_allowed;
 use crate::rule::{Apply, Board, BoardSeat, Slot};
 use crate::words::LOCK;
+use desk_core::laws::law_calls_are_lines;
 use leftist_heap::Store;
 use pq_book::Entry;
 use pq_types::laws::law_request_is_proper;
@@ -66,11 +70,15 @@ pub fn apply_in_slot<S: Store<Entry<P>>, P: Part>(
     ensures table { seat.new.table_id ≡ seat.old.table_id }
     ensures lent { IsLent board.now.table_id place (posts + 1) seat.new.me }
     ensures may { MayAnswer (limits_in_hand (pen_at seat.old.me)) (pen_at seat.old.me).hand request result }
+    ensures answers { IsAnswerTo (pen_at seat.old.me).room request result }
+    ensures behind { (number : ℕ) (reply : Reply) → result ≡ Entered number reply → IsAboveAll number (pen_at seat.old.me).mine }
+    ensures barred { IsFullFor (pen_at seat.old.me) → (number : ℕ) (reply : Reply) → result ≢ Entered number reply }
     ensures memory { AllHaveRoom S.room (pen_at seat.old.me).room → result ≢ Answer.NoMemory }
     ensures spare { AllHaveRoom S.room (length (left (pen_at seat.old.me).hand) + 1) → result ≢ Answer.NoMemory }
     ensures after { (now : ℕ) × (pen_at seat.new.me ≡ after_apply (pen_at seat.old.me) request result now) }
 {
     law_steps_are_allowed::<S, P>();
+    law_calls_are_lines();
     law_request_is_proper(&request);
     let slot = seat.slot_mut(board, 0);
     let answer = slot.carry_out(place, posts + 1, request);

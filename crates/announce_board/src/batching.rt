@@ -8,6 +8,7 @@ ghost use Rattle.leftist_heap.specs.Store.{first_of};
 ghost use Rattle.desk_core.specs.Pen.{limits_in_hand};
 ghost use Rattle.announce_board.specs.Asking.{IsFullFor};
 ghost use Rattle.announce_board.specs.Batches.{IsLent, AppliesUntil, IsPushAt, IsPop, pushes_of, pops_of, is_first_due};
+ghost use Rattle.announce_board.specs.Batches.{AreAnswersTo, IsAnswerToNext, AreAboveAll};
 ghost use Rattle.announce_board.specs.Steps.{pen_at};
 ghost use Rattle.announce_board.specs.Tokens.{IsLeadOf, is_idle};
 
@@ -39,6 +40,10 @@ fn push_each<S: Store<Entry<P>>, P: Part>(
     ensures limits { limits_in_hand (pen_at seat.new.me) ≡ limits_in_hand (pen_at seat.old.me) }
     ensures applies { AppliesUntil (limits_in_hand (pen_at seat.old.me)) (IsPushAt items.now result.0) (pen_at seat.old.me)
         (pushes_of (take result.0 items.now)) result.2 (pen_at seat.new.me) }
+    ensures answers { AreAnswersTo (pen_at seat.old.me).room (length (pen_at seat.old.me).hand) (pushes_of (take result.0 items.now)) }
+    ensures refusal { IsAnswerToNext (pen_at seat.old.me).room (IsPushAt items.now result.0) result.2 }
+    ensures behind { AreAboveAll (length (pen_at seat.old.me).hand) result.0 (pen_at seat.old.me).mine }
+    ensures barred { IsFullFor (pen_at seat.old.me) → result.0 ≡ 0 }
     ensures full { result.2 ≡ Some Answer.BookFull → IsFullFor (pen_at seat.new.me) }
     ensures memory { AllHaveRoom S.room (pen_at seat.old.me).room → result.2 ≢ Some Answer.NoMemory }
     ensures spare { AllHaveRoom S.room (length (left (pen_at seat.new.me).hand) + 1) → result.2 ≢ Some Answer.NoMemory }
@@ -83,6 +88,10 @@ fn pop_each<S: Store<Entry<P>>, P: Part>(
     ensures limits { limits_in_hand (pen_at seat.new.me) ≡ limits_in_hand (pen_at seat.old.me) }
     ensures applies { AppliesUntil (limits_in_hand (pen_at seat.old.me)) IsPop (pen_at seat.old.me)
         (pops_of (take result.0 into.new)) result.2 (pen_at seat.new.me) }
+    ensures answers { AreAnswersTo (pen_at seat.old.me).room (length (pen_at seat.old.me).hand) (pops_of (take result.0 into.new)) }
+    ensures refusal { IsAnswerToNext (pen_at seat.old.me).room IsPop result.2 }
+    ensures behind { AreAboveAll (length (pen_at seat.old.me).hand) result.0 (pen_at seat.old.me).mine }
+    ensures barred { IsFullFor (pen_at seat.old.me) → result.0 ≡ 0 }
     ensures full { result.2 ≡ Some Answer.BookFull → IsFullFor (pen_at seat.new.me) }
     ensures memory { result.2 ≢ Some Answer.NoMemory }
     ensures due { All (λ x. x.priority ≤ P.number priority) (take result.0 into.new) }
@@ -128,7 +137,8 @@ impl<S: Store<Entry<P>>, P: Part> Lead<S, P> {
 impl<S: Store<Entry<P>>, P: Part> Desk<S, P> {
     /// The idle leader has the Book carry out a push of each of the first so many items, a step for each, until one is refused,
     /// and goes on leading: how many were entered, and what the next one was answered, where it was refused. Their lines stand
-    /// together, behind all that the journal has. `BookFull` and `NoMemory` as of `release_with`.
+    /// together, behind all that the journal has, and so behind those of the pen's calls before. Where the pen was told that the
+    /// journal is full none is entered. `BookFull` and `NoMemory` as of `release_with`.
     pub fn apply_pushes(
         &self,
         pen: &mut Pen<S, P>,
@@ -149,6 +159,10 @@ impl<S: Store<Entry<P>>, P: Part> Desk<S, P> {
         ensures counted { result.2 ≡ None → pen.new.state.posts ≡ pen.old.state.posts + result.1 }
         ensures applies { AppliesUntil (limits_of lead.book) (IsPushAt items.now result.1) pen.old.state
             (pushes_of (take result.1 items.now)) result.2 pen.new.state }
+        ensures answers { AreAnswersTo pen.old.state.room (length pen.old.state.hand) (pushes_of (take result.1 items.now)) }
+        ensures refusal { IsAnswerToNext pen.old.state.room (IsPushAt items.now result.1) result.2 }
+        ensures behind { AreAboveAll (length pen.old.state.hand) result.1 pen.old.state.mine }
+        ensures barred { IsFullFor pen.old.state → result.1 ≡ 0 }
         ensures full { result.2 ≡ Some Answer.BookFull → IsFullFor pen.new.state }
         ensures memory { AllHaveRoom S.room pen.old.state.room → result.2 ≢ Some Answer.NoMemory }
         ensures spare { AllHaveRoom S.room (length (left pen.new.state.hand) + 1) → result.2 ≢ Some Answer.NoMemory }
@@ -196,6 +210,10 @@ impl<S: Store<Entry<P>>, P: Part> Desk<S, P> {
         ensures counted { result.2 ≡ None → pen.new.state.posts ≡ pen.old.state.posts + result.1 }
         ensures applies { AppliesUntil (limits_of lead.book) IsPop pen.old.state
             (pops_of (take result.1 into.new)) result.2 pen.new.state }
+        ensures answers { AreAnswersTo pen.old.state.room (length pen.old.state.hand) (pops_of (take result.1 into.new)) }
+        ensures refusal { IsAnswerToNext pen.old.state.room IsPop result.2 }
+        ensures behind { AreAboveAll (length pen.old.state.hand) result.1 pen.old.state.mine }
+        ensures barred { IsFullFor pen.old.state → result.1 ≡ 0 }
         ensures full { result.2 ≡ Some Answer.BookFull → IsFullFor pen.new.state }
         ensures memory { result.2 ≢ Some Answer.NoMemory }
         ensures due { All (λ x. x.priority ≤ P.number priority) (take result.1 into.new) }

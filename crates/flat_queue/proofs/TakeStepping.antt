@@ -18,8 +18,8 @@ use Rattle.flat_queue.specs.OwnRequest.{CarriesOutBy, EntersAtOnceBy}
 use Rattle.flat_queue.specs.Turns.{FindsLockHeld, FindsHeldYet, Misses}
 use Rattle.flat_queue.specs.Taking.{PopsInVain, FindsNoneBy, FindsEndBy, Repeats, LooksNowBy, LooksForBy, TriesUntilFreeBy, TakesSo, MayEnd}
 use Rattle.flat_queue.specs.Taking.{LooksUntilBy, LooksOnBy, TakesUntilBy, OrEndsBy}
-use Rattle.flat_queue.specs.TakeSteps.{Took, TakeStepped, SeesNoneBy, SeesEndBy, PopsOnceBy, LooksOneTimeBy, TakeStepsBy, popped_by, looked_on, awaited_by}
-use Rattle.flat_queue.specs.DueSteps.{DueStepped, SightsOnceBy}
+use Rattle.flat_queue.specs.TakeSteps.{Took, TakeStepped, SeesNoneBy, SeesEndBy, PopsOnceBy, LooksOneTimeBy, TakeStepsBy, TakeKeepsLook, popped_by, looking_on, looked_on, awaited_by}
+use Rattle.flat_queue.specs.DueSteps.{DueStage, DueStepped, SightsOnceBy, KeepsLook}
 use Rattle.flat_queue.specs.declared.event_count.Wakes.{Wakes}
 use Rattle.flat_queue.specs.declared.error.CallError.{CallError}
 use Rattle.flat_queue.specs.declared.error.CallError.TheVariants as error
@@ -110,6 +110,20 @@ looks_as words wakes late line a c (due_stepped.Goes due_stage.Announces) h = ab
 looks_as words wakes late line a c (due_stepped.Goes (due_stage.Looks look)) h = (refl, h)
 looks_as words wakes late line a c (due_stepped.Goes (due_stage.Sleeps seen (Some x))) (serves, (first, unwanted)) = absurd (unwanted tt)
 looks_as words wakes late line a c (due_stepped.Goes (due_stage.Sleeps seen None)) h = (refl, h)
+
+-- it keeps what it knew as it was announced
+pub keeps_as : (line : ℕ) (was : DueStage) (r : DueStepped) → KeepsLook was r → TakeKeepsLook (looking_on line was) (looked_on line r)
+keeps_as line due_stage.Announces r h = tt
+keeps_as line (due_stage.Sleeps seen first) r h = tt
+keeps_as line (due_stage.Looks look) (due_stepped.Ends (due_took.Taken number x)) h = tt
+keeps_as line (due_stage.Looks look) (due_stepped.Ends (due_took.Refused error)) h = tt
+keeps_as line (due_stage.Looks look) (due_stepped.Ends (due_took.Later x)) h = tt
+keeps_as line (due_stage.Looks look) (due_stepped.Ends due_took.Nothing) h = tt
+keeps_as line (due_stage.Looks look) (due_stepped.Ends due_took.Held) h = tt
+keeps_as line (due_stage.Looks look) (due_stepped.Ends due_took.Over) h = tt
+keeps_as line (due_stage.Looks look) (due_stepped.Goes due_stage.Announces) h = tt
+keeps_as line (due_stage.Looks look) (due_stepped.Goes (due_stage.Looks next)) h = h
+keeps_as line (due_stage.Looks look) (due_stepped.Goes (due_stage.Sleeps seen first)) h = h
 
 -- it tells the end only where the look does
 pub over_as : (line number : ℕ) (r : DueStepped) → looked_on line r ≡ stepped.Ends (took.Over number) → r ≡ due_stepped.Ends due_took.Over

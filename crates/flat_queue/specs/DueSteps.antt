@@ -1,5 +1,5 @@
 -- What one step of a call for what is due makes of its member.
-use Rattle.std.specs.Prelude.{ℕ, ◌<◌, ◌^◌, ⊤, Option, Some, None, Result, Ok, Err}
+use Rattle.std.specs.Prelude.{◌≡◌, ℕ, ◌<◌, ◌^◌, ⊤, Option, Some, None, Result, Ok, Err}
 use Rattle.std.specs.declared.time.Instant.{Instant}
 use Rattle.pq_types.specs.Item.{Item}
 use Rattle.flat_queue.specs.Members.{Joined}
@@ -49,6 +49,13 @@ SightsOnceBy words wakes late wants before (stepped.Goes (stage.Sleeps seen (Som
     LooksFirstBy words wants before (looked.Stays x) after
 SightsOnceBy words wakes late wants before (stepped.Goes (stage.Sleeps seen None)) after =
     SeesEmptyYetBy words wakes wants before after
+
+-- A call that is to look, and knows the count of events by which it was announced, looks on by the same, or sleeps while the
+-- count is that one.
+abbrev pub KeepsLook : DueStage → DueStepped → Type 0
+KeepsLook (stage.Looks look) (stepped.Goes (stage.Looks next)) = next ≡ look
+KeepsLook (stage.Looks look) (stepped.Goes (stage.Sleeps seen first)) = seen ≡ look.seen
+KeepsLook was result = ⊤
 
 -- what a step comes to whose look found no item, where that is no end, and so much time is left: the call sleeps, or ends late
 abbrev pub empty_step : Left → (seen : ℕ) → DueStepped

@@ -22,6 +22,7 @@ pub mod Lengths
 pub mod Memory
 pub mod Looking
 pub mod Counting
+pub mod Peeking
 pub mod Handles
 pub mod Resting
 pub mod TrailRounds

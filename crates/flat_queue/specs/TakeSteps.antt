@@ -1,5 +1,5 @@
 -- What one step of a take makes of its member.
-use Rattle.std.specs.Prelude.{◌≡◌, ℕ, ◌⊎◌, Option, Some, None, Result, Ok, Err}
+use Rattle.std.specs.Prelude.{◌≡◌, ℕ, ◌⊎◌, ⊤, Option, Some, None, Result, Ok, Err}
 use Rattle.std.specs.declared.time.Instant.{Instant}
 use Rattle.pq_types.specs.Item.{Item}
 use Rattle.pq_types.specs.Asked.{Answer}
@@ -17,7 +17,7 @@ use Rattle.flat_queue.specs.declared.error.CallError.TheVariants as error
 use Rattle.flat_queue.specs.declared.looking.Wanted.TheVariants as wanted
 use Rattle.flat_queue.specs.declared.looking.Looked.TheVariants as looked
 use Rattle.flat_queue.specs.declared.taking.Awaited.TheVariants as awaited
-use Rattle.flat_queue.specs.DueSteps.{DueStepped}
+use Rattle.flat_queue.specs.DueSteps.{DueStage, DueStepped}
 use Rattle.flat_queue.specs.declared.due_steps.DueStage.TheVariants as due_stage
 use Rattle.flat_queue.specs.declared.due_steps.DueTook.TheVariants as due_took
 use Rattle.flat_queue.specs.declared.due_steps.DueStepped.TheVariants as due_stepped
@@ -84,6 +84,13 @@ TakeStepsBy words wakes late (stage.Announces line) before result after =
 TakeStepsBy words wakes late (stage.Looks line look) before result after = LooksOneTimeBy words wakes late line before result after
 TakeStepsBy words wakes late (stage.Sleeps line seen) before result after = LooksOneTimeBy words wakes late line before result after
 
+-- A take that is to look, and knows the count of events by which it was announced, looks on by the same, or sleeps while the
+-- count is that one.
+abbrev pub TakeKeepsLook : TakeStage → TakeStepped → Type 0
+TakeKeepsLook (stage.Looks line look) (stepped.Goes (stage.Looks number next)) = next ≡ look
+TakeKeepsLook (stage.Looks line look) (stepped.Goes (stage.Sleeps number seen)) = seen ≡ look.seen
+TakeKeepsLook was result = ⊤
+
 -- what a step comes to whose pop was so answered
 abbrev pub popped_by : Answer → TakeStepped
 popped_by (Entered number Pushed) = stepped.Goes (stage.Announces number)
@@ -94,6 +101,12 @@ popped_by answer.BookFull = stepped.Ends (took.Refused error.BookFull)
 popped_by answer.NoMemory = stepped.Ends (took.Refused error.NoMemory)
 popped_by (answer.Refused why) = stepped.Ends (took.Refused (error.Refused why))
 
+-- how far a take has come that looks as a call does for what is due, behind a pop that found no item on this line
+abbrev pub looking_on : ℕ → DueStage → TakeStage
+looking_on line due_stage.Announces = stage.Announces line
+looking_on line (due_stage.Looks look) = stage.Looks line look
+looking_on line (due_stage.Sleeps seen first) = stage.Sleeps line seen
+
 -- what a step of a take comes to whose look came to this, behind a pop that found no item on this line
 abbrev pub looked_on : ℕ → DueStepped → TakeStepped
 looked_on line (due_stepped.Ends (due_took.Taken number x)) = stepped.Ends (took.Taken number x)
@@ -102,9 +115,7 @@ looked_on line (due_stepped.Ends (due_took.Later x)) = stepped.Ends (took.Late l
 looked_on line (due_stepped.Ends due_took.Nothing) = stepped.Ends (took.Late line)
 looked_on line (due_stepped.Ends due_took.Held) = stepped.Ends (took.Late line)
 looked_on line (due_stepped.Ends due_took.Over) = stepped.Ends (took.Over line)
-looked_on line (due_stepped.Goes due_stage.Announces) = stepped.Goes (stage.Announces line)
-looked_on line (due_stepped.Goes (due_stage.Looks look)) = stepped.Goes (stage.Looks line look)
-looked_on line (due_stepped.Goes (due_stage.Sleeps seen first)) = stepped.Goes (stage.Sleeps line seen)
+looked_on line (due_stepped.Goes next) = stepped.Goes (looking_on line next)
 
 -- what a take comes back with that came to this, where the clock told this time last, or none
 abbrev pub awaited_by : Took → Option Instant → Result (Option Awaited) CallError

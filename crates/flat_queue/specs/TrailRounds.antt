@@ -32,8 +32,8 @@ Follows s z (ReadsDoor ∷ moments) s' z' = Follows s (follows (length s.grid.co
 -- A round of the comer at `who`, by the pen at `seat`, from s to s': a lead that begins where the pen
 -- wins the lock. Thereafter it makes a new trail scan, which is over before the pen releases; in this
 -- lead the pen reads the mail at each place that the scan has found, and answers each post that it
--- reads before it reads on or releases, alone or with a request of its own. Others do meanwhile what
--- they like.
+-- reads before it reads on or releases, alone or with an operation of its own. Others do meanwhile
+-- what they like.
 pub record TrailRound (who seat : ℕ) (s : Product) (events : List Event) (s' : Product) : Type 0 where
   pub early : List Event
   pub moments : List Moment

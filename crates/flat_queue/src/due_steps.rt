@@ -3,7 +3,7 @@ ghost use Rattle.std.specs.Prelude.{◌≡◌, true};
 ghost use Rattle.desk_core.specs.Words.{word_number};
 ghost use Rattle.announce_board.specs.Tokens.{is_idle};
 ghost use Rattle.flat_queue.specs.declared.event_count.Wakes.TheVariants.{EventOrEnd};
-ghost use Rattle.flat_queue.specs.DueSteps.{SightsOnceBy, empty_step};
+ghost use Rattle.flat_queue.specs.DueSteps.{SightsOnceBy, KeepsLook, empty_step};
 
 use crate::error::CallError;
 use crate::event_count::Wakes;
@@ -88,6 +88,7 @@ impl<S: Store<Entry<P>>, P: Part> Queue<S, P> {
         requires idle { is_idle member.old.pen.standing ≡ true }
         ensures steps { SightsOnceBy (word_number P.wide) now.wakes (now.left ≡ Left.Nothing) now.wanted member.old result member.new }
         ensures heeds { result ≡ DueStepped.Ends DueTook.Over → now.wakes ≡ EventOrEnd }
+        ensures keeps { KeepsLook stage result }
     {
         match stage {
             DueStage::Announces => self.step_awaiting(member, now, false),
@@ -136,6 +137,7 @@ impl<S: Store<Entry<P>>, P: Part> Queue<S, P> {
         requires idle { is_idle member.old.pen.standing ≡ true }
         ensures steps { SightsOnceBy (word_number P.wide) now.wakes (now.left ≡ Left.Nothing) now.wanted member.old result member.new }
         ensures heeds { result ≡ DueStepped.Ends DueTook.Over → now.wakes ≡ EventOrEnd }
+        ensures keeps { KeepsLook (DueStage.Looks look) result }
     {
         if member.posts() >= self.most_posts() {
             return self.end_due(DueTook::Refused(CallError::Spent), true);

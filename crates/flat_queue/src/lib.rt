@@ -45,7 +45,7 @@
 //!   ticket. Both wait until they have the lock, and post nothing; `Queue::carry_out_by_ticket` does so where it finds the lock
 //!   free, and wakes nobody.
 //! - `Queue::count_items` counts the items under the lock, those that wait and the most that waited at once, and makes no
-//!   request.
+//!   request. `Queue::peek` tells so which item is first, and how many lines the journal has.
 //! - `Queue::push_all` puts many items into the queue under one lock, and `Queue::pop_all_up_to` takes many out that are due
 //!   at a bound: their lines stand together in the journal. Each makes at most `MOST_BATCH` requests, waits until it
 //!   has the lock, and tells how many were entered and what refused the next. `Queue::carry_out_pushes` and
@@ -125,6 +125,7 @@ pub mod notes;
 mod opening;
 mod others;
 mod own_request;
+pub mod peeking;
 pub mod pending;
 pub mod queue;
 pub mod resting;
@@ -157,6 +158,7 @@ pub use hint::{Cleared, PostHint};
 pub use length::Length;
 pub use looking::{Looked, Wanted};
 pub use member::{Arrival, Member, Newcomer};
+pub use peeking::Peeked;
 pub use pending::{Called, Pending};
 pub use queue::Queue;
 pub use resting::{Naps, Pause, Rest};

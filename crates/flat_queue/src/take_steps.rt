@@ -3,7 +3,8 @@ ghost use Rattle.std.specs.Prelude.{◌≡◌, ℕ, ◌<◌, true};
 ghost use Rattle.desk_core.specs.Words.{word_number};
 ghost use Rattle.announce_board.specs.Tokens.{is_idle};
 ghost use Rattle.flat_queue.specs.declared.event_count.Wakes.TheVariants.{EventOrEnd};
-ghost use Rattle.flat_queue.specs.TakeSteps.{PopsOnceBy, LooksOneTimeBy, TakeStepsBy, popped_by, looked_on, awaited_by};
+ghost use Rattle.flat_queue.specs.TakeSteps.{PopsOnceBy, LooksOneTimeBy, TakeStepsBy, TakeKeepsLook};
+ghost use Rattle.flat_queue.specs.TakeSteps.{popped_by, looking_on, looked_on, awaited_by};
 
 use crate::due_steps::{DueLook, DueNow, DueStage, DueStepped, DueTook};
 use crate::error::CallError;
@@ -78,6 +79,7 @@ impl<S: Store<Entry<P>>, P: Part> Queue<S, P> {
         requires idle { is_idle member.old.pen.standing ≡ true }
         ensures steps { TakeStepsBy (word_number P.wide) wakes (left ≡ Left.Nothing) stage member.old result member.new }
         ensures heeds { (line : ℕ) → result ≡ TakeStepped.Ends (Took.Over line) → wakes ≡ EventOrEnd }
+        ensures keeps { TakeKeepsLook stage result }
     {
         match stage {
             TakeStage::Pops => self.step_popping(member, left),
@@ -145,6 +147,7 @@ impl<S: Store<Entry<P>>, P: Part> Queue<S, P> {
         requires idle { is_idle member.old.pen.standing ≡ true }
         ensures steps { LooksOneTimeBy (word_number P.wide) wakes (left ≡ Left.Nothing) line member.old result member.new }
         ensures heeds { (number : ℕ) → result ≡ TakeStepped.Ends (Took.Over number) → wakes ≡ EventOrEnd }
+        ensures keeps { TakeKeepsLook (looking_on line stage) result }
     {
         let now = DueNow {
             wanted: Wanted::Anything,

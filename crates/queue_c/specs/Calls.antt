@@ -1,11 +1,10 @@
 -- What the calls for C make of what their handles hold.
-use Rattle.std.specs.Prelude.{◌≡◌, ℕ, ◌+◌, ◌<◌, ◌⊎◌, true, false, List, [], ◌∷◌}
+use Rattle.std.specs.Prelude.{◌≡◌, ℕ, ◌+◌, ◌<◌, ◌⊎◌, true, List, [], ◌∷◌}
 use Rattle.std.specs.Prelude.{length, slice_get, Option, Some, None, Result, Ok, Err}
 use Rattle.std.specs.Option.{MatchOption}
 use Rattle.pq_types.specs.Asked.{Request}
 use Rattle.pq_types.specs.Asked.{Answer}
 use Rattle.pq_types.specs.Asked.{Line}
-use Rattle.pq_types.specs.Control.{is_answer}
 use Rattle.flat_queue.specs.declared.length.Length.{Length}
 use Rattle.flat_queue.specs.declared.error.ArchiveError.{ArchiveError}
 use Rattle.flat_queue.specs.declared.error.ArchiveError.TheVariants.{Forgotten, NoMemory, Ahead}
@@ -19,7 +18,6 @@ use Rattle.flat_queue.specs.OwnRequest.{CarriesOutBy}
 use Rattle.flat_queue.specs.Members.{Joined, StaysAtPlace}
 use Rattle.queue_pool.specs.Pool.{Pooled, TakesOutBy, StaysPool, NoneComesBy, inside, lists_of, with_member}
 use Rattle.flat_queue.specs.Settling.{Archives, SettlesBy}
-use Rattle.flat_queue.specs.TrailSweeping.{MakesTrailRoundBy}
 use Rattle.leftist_heap.specs.Store.{first_of, rest_of}
 use Rattle.queue_c.specs.Values.{Told, IsOpened, IsClosed}
 use Rattle.queue_c.specs.Plain.{told_item, told_answer, told_line}
@@ -79,17 +77,6 @@ Looking (Some before) told (Some after) =
     StaysAtPlace before after
     × ((answer : Answer) × LooksBy words_of_item before.pen (Some answer) after.pen × (told ≡ told_answer 0 answer))
 Looking before told after = ⊥
-
--- the waiting member has looked at its record, and waits on; it knew of no answer
-abbrev pub Waiting : Option Joined → Option Joined → Type 0
-Waiting (Some before) (Some after) =
-    (is_answer before.pen.own ≡ false) × StaysAtPlace before after × LooksBy words_of_item before.pen None after.pen
-Waiting before after = ⊥
-
--- the member has made a round by a trail scan
-abbrev pub Rounding : Option Joined → Option Joined → Type 0
-Rounding (Some before) (Some after) = (served : ℕ) × (doors : ℕ) × MakesTrailRoundBy words_of_item before served doors after
-Rounding before after = ⊥
 
 -- the member found the lock held
 abbrev pub Missing : Option Joined → Option Joined → Type 0

@@ -11,6 +11,7 @@ pub mod Lengths
 pub mod Looking
 pub mod Numbers
 pub mod Openings
+pub mod Peeking
 pub mod Plain
 pub mod Replaying
 pub mod Threads

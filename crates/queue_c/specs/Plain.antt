@@ -17,10 +17,10 @@ use Rattle.queue_c.specs.declared.plain.PlainItem.{PlainItem}
 use Rattle.queue_c.specs.declared.plain.PlainAnswer.{PlainAnswer}
 use Rattle.queue_c.specs.declared.plain.PlainLine.{PlainLine}
 
--- the request of this number, with this item where it is a push
+-- the request of this number that a C program may post, with this item where it is a push
 abbrev pub request_of : ℕ → Item → Option Request
 request_of number x =
-    if number == 0 then Some (Push x) else if number == 1 then Some Pop else if number == 2 then Some Least else None
+    if number == 0 then Some (Push x) else if number == 1 then Some Pop else None
 
 -- the number of a request
 abbrev pub request_number : Request → ℕ

@@ -64,7 +64,7 @@ fn post(held: &mut Contents, number: u32, item: Item<u64>) -> u32
     }
 }
 
-/// Posts a request: 0 a push of this item, 1 a pop, 2 a least. Refusals, which post nothing: 42
+/// Posts a request: 0 a push of this item, 1 a pop. Refusals, which post nothing: 42
 /// where the handle holds no member, 45 where there is no such request, 43 where the last one is not
 /// answered yet, 11 where all posts are spent. The queue's rules refuse it by its answer.
 #[unsafe(no_mangle)]

@@ -3,8 +3,8 @@
 ghost use Rattle.std.specs.Prelude.{◌≡◌, ◌≢◌, Ok, Some, IfSome};
 ghost use Rattle.pq_types.specs.Item.{item};
 ghost use Rattle.pq_types.specs.declared.answer.Answer.TheVariants.{Entered};
-ghost use Rattle.pq_types.specs.declared.answer.Reply.TheVariants.{Pushed, Got, Least as LeastIs};
-ghost use Rattle.pq_types.specs.declared.request.Request.TheVariants.{Push, Pop, Least};
+ghost use Rattle.pq_types.specs.declared.answer.Reply.TheVariants.{Pushed, Got};
+ghost use Rattle.pq_types.specs.declared.request.Request.TheVariants.{Push, Pop};
 ghost use Rattle.queue_c.specs.Plain.{plain_item};
 ghost use Rattle.queue_c.specs.Calling.{IsTold, TryCallAnswers, StepAnswerAnswers};
 ghost use Rattle.queue_c.specs.declared.codes.TheConstants.{OK, TOLD};
@@ -71,17 +71,6 @@ fn popped(tried: &Tried) -> Option<(u64, Item<u64>)>
     None
 }
 
-// The line and the item of a least that found one.
-#[inline(always)]
-fn found(tried: &Tried) -> Option<(u64, Item<u64>)>
-    ensures { IfSome result (λ told. tried.now ≡ Ok (Entered told.0 (LeastIs told.1))) }
-{
-    if let Ok(Answer::Entered(line, Reply::Least(item))) = tried {
-        return Some((*line, *item));
-    }
-    None
-}
-
 #[inline(always)]
 fn push(held: &mut Contents, item: Item<u64>, answer: &mut PlainAnswer) -> u32
     ensures answers { TryCallAnswers (Some held.old) (Push item) Pushed result answer.new (Some held.new) }
@@ -113,27 +102,6 @@ fn pop(held: &mut Contents, first: &mut PlainItem, answer: &mut PlainAnswer) -> 
     };
     let tried = member.try_call(Request::Pop);
     if let Some((line, item)) = popped(&tried) {
-        if owes_wake(member) == 0 {
-            *first = tell_item(&item);
-            answer.line = line;
-            return OK;
-        }
-    }
-    tell_other(member, &tried, answer)
-}
-
-#[inline(always)]
-fn least(held: &mut Contents, first: &mut PlainItem, answer: &mut PlainAnswer) -> u32
-    ensures answers { TryCallAnswers (Some held.old) Least (LeastIs (plain_item first.new)) result answer.new (Some held.new) }
-    ensures line { result ≡ OK → answer.new ≡ record answer.old { line = answer.new.line } }
-    ensures untold { result ≢ OK → result ≢ TOLD → answer.new ≡ answer.old }
-    ensures first { result ≢ OK → first.new ≡ first.old }
-{
-    let Contents::Member(member, _) = held else {
-        return NO_HANDLE;
-    };
-    let tried = member.try_call(Request::Least);
-    if let Some((line, item)) = found(&tried) {
         if owes_wake(member) == 0 {
             *first = tell_item(&item);
             answer.line = line;
@@ -184,27 +152,6 @@ pub extern "C" fn pq_core_try_pop(
         return NO_HANDLE;
     };
     let code = pop(&mut held, first, answer);
-    member.put(held);
-    code
-}
-
-/// A least, as `pq_core_try_pop`: 0 where there is a first item, which is told, and stays.
-#[unsafe(no_mangle)]
-pub extern "C" fn pq_core_try_least(
-    alloc: Global,
-    member: &mut Handle,
-    first: &mut PlainItem,
-    answer: &mut PlainAnswer,
-) -> u32
-    ensures answers { TryCallAnswers member.old.value Least (LeastIs (plain_item first.new)) result answer.new member.new.value }
-    ensures line { result ≡ OK → answer.new ≡ record answer.old { line = answer.new.line } }
-    ensures untold { result ≢ OK → result ≢ TOLD → answer.new ≡ answer.old }
-    ensures first { result ≢ OK → first.new ≡ first.old }
-{
-    let Some(mut held) = member.take(alloc) else {
-        return NO_HANDLE;
-    };
-    let code = least(&mut held, first, answer);
     member.put(held);
     code
 }

@@ -19,6 +19,7 @@ mod journal;
 mod length;
 mod looking;
 mod opening;
+mod peeking;
 mod place;
 mod plain;
 mod plain_batch;

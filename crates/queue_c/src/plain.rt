@@ -108,14 +108,13 @@ fn refusal_number(refusal: Refusal) -> u32
     }
 }
 
-/// The request of this number, with this item where it is a push.
+/// The request of this number that a C program may post, with this item where it is a push.
 pub fn request_of(number: u32, item: Item<u64>) -> Option<Request<Item<u64>>>
     ensures { result ≡ request_of number item }
 {
     match number {
         0 => Some(Request::Push(item)),
         1 => Some(Request::Pop),
-        2 => Some(Request::Least),
         _ => None,
     }
 }

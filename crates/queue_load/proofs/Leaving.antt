@@ -14,9 +14,8 @@ use Rattle.flat_queue.specs.Closing.{ClosesAll}
 use Rattle.flat_queue.specs.Members.{QueueName, Joined}
 use Rattle.program_words.specs.declared.plan.Plan.{Plan}
 use Rattle.queue_load.specs.Audit.{Reports}
-use Rattle.queue_load.specs.Load.{AreDone, AreMembers, IsTotal, HaveExactly, LeavesFirst, known_then}
+use Rattle.queue_load.specs.Load.{AreDone, AreMembers, IsTotal, StandIn, HaveExactly, LeavesFirst, known_then}
 use Rattle.queue_load.specs.Tally.{tally_of, all_together}
-use Rattle.queue_load.specs.Testifying.{StandIn}
 use Rattle.queue_load.specs.declared.report.Report.{Report}
 use Rattle.queue_load.specs.declared.tally.Tally.{Tally}
 use Rattle.queue_load.specs.declared.worker.EndedWorker.{EndedWorker}

@@ -4,7 +4,6 @@ pub mod Balances
 pub mod Calling
 pub mod Coming
 pub mod Failing
-pub mod Gathering
 pub mod Leaving
 pub mod Leftovers
 pub mod Members

@@ -1,9 +1,7 @@
 -- The members of workers that have made all their requests, and their tallies.
 use Rattle.std.proofs.Common.{◌≡◌, ℕ, Bool, zero, suc, ◌+◌, List, [], ◌∷◌, length, map, slice_get, Some, refl, ◌∙◌, ap, subst}
 use Rattle.std.proofs.lemmas.List.{length-map}
-use Rattle.desk_core.specs.Witnessed.{AreLinearized}
 use Rattle.flat_queue.specs.Members.{QueueName, Joined}
-use Rattle.queue_load.specs.Testifying.{AreLinearizedMembers, AreLinearizedWorkers}
 use Rattle.queue_load.specs.Load.{AreDone, AreMembers, AreAnswered}
 use Rattle.queue_load.specs.Tally.{tally_of, all_together}
 use Rattle.queue_load.specs.Worker.{HasMade}
@@ -38,14 +36,6 @@ module _ {S P : Type 0} where
       let (w, there, same) = member_at worked i m at in
       let made = done i w there in
       subst (λ (x : Joined). HasMade wide queue (i + 1) plan plan.rounds x (tally_of x.pen.mine)) same (subst (λ (t : Tally). HasMade wide queue (i + 1) plan plan.rounds w.member t) made.tally made)
-
-  -- their histories are linearized where those of the workers are
-  pub members_linearized : (worked : List (EndedWorker S P)) → AreLinearizedWorkers worked → AreLinearizedMembers (map member worked)
-  members_linearized worked (room, fit) = (room, subst (AreLinearized room) (pens_are worked) fit)
-    where
-      pens_are : (ws : List (EndedWorker S P)) → map (λ (w : EndedWorker S P). w.member.pen) ws ≡ map (λ (m : Joined). m.pen) (map member ws)
-      pens_are [] = refl
-      pens_are (w ∷ ws) = ap (λ ps. w.member.pen ∷ ps) (pens_are ws)
 
   pub are_answered : {wide : Bool} → (queue : QueueName) (plan : Plan) (worked : List (EndedWorker S P)) (t : Tally) → AreDone wide queue plan worked → t ≡ all_together (map (λ (w : EndedWorker S P). w.tally) worked)
       → AreAnswered wide (length worked) plan (map member worked) t

@@ -1,6 +1,5 @@
 pub mod Asks
 pub mod Audit
-pub mod Testifying
 pub mod Jobs
 pub mod Leftover
 pub mod Lines

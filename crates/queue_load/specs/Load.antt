@@ -4,10 +4,10 @@ use Rattle.std.specs.Prelude.{map, slice_get, Option, Some, Result, Ok, Err}
 use Rattle.pq_types.specs.Asked.{Line}
 use Rattle.pq_book.specs.Book.{Volume}
 use Rattle.desk_core.specs.Calls.{calls_of}
-use Rattle.flat_queue.specs.Closing.{OfEachMember, LinesAreTheirs}
+use Rattle.announce_board.specs.Notes.{HasItsCalls}
+use Rattle.flat_queue.specs.Closing.{OfEachMember, LinesAreTheirs, LinearizesMembers}
 use Rattle.flat_queue.specs.Members.{QueueName, Joined}
 use Rattle.queue_load.specs.Audit.{Reports}
-use Rattle.queue_load.specs.Testifying.{StandIn, AreLinearizedMembers}
 use Rattle.queue_load.specs.Lines.{load_room, book_kept, MayPostAll}
 use Rattle.program_words.specs.Plan.{all_requests, sum_of_priorities}
 use Rattle.queue_load.specs.Tally.{tally_of, all_together}
@@ -105,6 +105,10 @@ pub record AreAnswered (wide : Bool) (workers : ℕ) (plan : Plan) (members : Li
   pub count : length members ≡ workers
   pub added : t ≡ all_together (map (λ m. tally_of m.pen.mine) members)
 
+-- each call of these members stands in the journal, on the line of its number
+abbrev pub StandIn : List Line → List Joined → Type 0
+StandIn journal members = OfEachMember members (λ m. HasItsCalls m.pen journal)
+
 -- The journal has at the place of each of these members exactly the calls that the member has.
 abbrev pub HaveExactly : List Line → List Joined → Type 0
 HaveExactly journal members = OfEachMember members (λ m. calls_of m.pen.place journal ≡ m.pen.mine)
@@ -119,7 +123,8 @@ pub record LeavesFirst (wide : Bool) (room : ℕ) (plan : Plan) (first : Joined)
 -- A load has this report and has left this Book: all requests of its workers were answered, the
 -- report tells what they were answered, added up, and each call of each of them stands in the
 -- Book's journal, on the line of its number. At the place of each worker the journal has no others, and it has no line of another
--- place. And one history has the beginnings and ends of the calls of them all, which one journal linearizes. The audit is ok.
+-- place. And this journal linearizes one history, which has the beginnings and ends of the calls of them all, and no others. The
+-- audit is ok.
 pub record ReportsLoad (wide : Bool) (plan : Plan) (r : Report) (book : Volume) : Type 0 where
   pub members : List Joined
   pub total : Tally
@@ -127,7 +132,7 @@ pub record ReportsLoad (wide : Bool) (plan : Plan) (r : Report) (book : Volume) 
   pub total_is : IsTotal wide plan.workers plan total
   pub report : Reports plan total book.journal r
   pub stand : StandIn book.journal members
-  pub linearized : AreLinearizedMembers members
+  pub linearized : LinearizesMembers (load_room plan) members book.journal
   pub first : Joined
   pub is_first : slice_get members 0 ≡ Some first
   pub leaves : LeavesFirst wide (load_room plan) plan first book

@@ -20,7 +20,6 @@ mod points;
 pub mod report;
 mod slices;
 mod tally;
-mod testifying;
 mod threads;
 pub mod watched;
 pub mod width;

@@ -12,7 +12,6 @@ ghost use Rattle.program_words.specs.Lines.{each_of};
 ghost use Rattle.queue_load.specs.Lines.{load_room};
 ghost use Rattle.queue_load.specs.Tally.{IsSmall, all_together};
 ghost use Rattle.queue_load.specs.Asks.{may_give_up};
-ghost use Rattle.queue_load.specs.Testifying.{AreLinearizedWorkers};
 ghost use Rattle.queue_load.specs.Watched.{EndsWith};
 
 use crate::asks::{Asks, Order};
@@ -21,12 +20,11 @@ use crate::load_faults::LoadError;
 use crate::report::Report;
 use crate::slices::Unwatched;
 use crate::tally::Tally;
-use crate::testifying::members_of;
 use crate::watched::run_watched_of;
 use crate::width::Width;
 use crate::worker::{EndedWorker, WorkerState, states_of};
 use desk_core::laws::law_calls_are_lines;
-use flat_queue::{Gate, Newcomer, Open, Queue};
+use flat_queue::{Gate, Member, Newcomer, Open, Queue};
 use leftist_heap::{AnyStore, Store, StoreKind};
 use pq_book::{Book, Entry};
 use pq_types::Part;
@@ -116,21 +114,32 @@ fn total_of<S: Store<Entry<P>>, P: Part>(worked: &[EndedWorker<S, P>], plan: Pla
     total
 }
 
-// Closes the queue with the members of all these workers, once they have testified.
+// The members of these workers, in their order.
+fn members_of<S: Store<Entry<P>>, P: Part>(
+    alloc: Global,
+    worked: Vec<EndedWorker<S, P>>,
+) -> Result<Vec<Member<S, P>>, AllocError>
+    ensures { IfOk result (λ members. members.items ≡ map (λ w. w.member) worked.items) }
+{
+    worked
+        .into_iter()
+        .map(|worker| worker.member)
+        .collect(alloc)
+}
+
+// Closes the queue with the members of all these workers.
 fn closed<S: Store<Entry<P>>, P: Part>(
     alloc: Global,
     queue: Queue<S, P>,
     worked: Vec<EndedWorker<S, P>>,
     plan: Plan,
 ) -> Result<Book<S, Global, P>, LoadError>
-    requires some { 0 < vec_len worked }
     requires all { vec_len worked ≡ queue.comers }
     requires made { AreDone P.wide queue plan worked.items }
     ensures ok { IfOk result (λ book. ClosesAll queue (map (λ w. w.member) worked.items) book) }
-    ensures linearized { IfOk result (λ _. AreLinearizedWorkers worked.items) }
     ensures err { IfErr result (λ error. error ≡ LoadError.NoMemory) }
 {
-    match members_of(alloc, &queue, worked) {
+    match members_of(alloc, worked) {
         Ok(members) => Ok(queue.close_all(members, Vec::new(alloc))),
         Err(AllocError) => Err(LoadError::NoMemory),
     }
@@ -163,9 +172,9 @@ pub(crate) fn ended<S: Store<Entry<P>>, P: Part>(
 /// Has the workers of this load, in threads of their own, push and pop on one queue over this empty
 /// store, closes it, and reports what they were answered and what is left: the report, and the Book of the
 /// queue, where its journal is kept whole. It is closed with the members of all workers: so each call that the report counts
-/// stands in the Book's journal, on the line of its number, and the journal has no other line. And all testify: so one history
-/// has the beginnings and ends of all these calls, and one journal linearizes it (Herlihy and Wing 1990). The audit of a report
-/// is always ok. The items are of this width.
+/// stands in the Book's journal, on the line of its number, and the journal has no other line. It linearizes one history, which
+/// has the beginnings and ends of all these calls (Herlihy and Wing 1990). The audit of a report is always ok. The items are of
+/// this width.
 ///
 /// The queue is a short one, with a line for each request, where these are 1,048,576 at most, else a
 /// lasting one: then memory holds the last lines alone, and there is no Book.

@@ -17,10 +17,12 @@ use Rattle.flat_queue.specs.Shutting.{CarriesOutShut, TellsShut}
 use Rattle.flat_queue.specs.Looking.{Looked, LooksFirstBy, FindsNext}
 use Rattle.flat_queue.specs.declared.looking.Wanted.{Wanted}
 use Rattle.flat_queue.specs.Counting.{CountsBy}
+use Rattle.flat_queue.specs.Peeking.{PeeksBy}
 use Rattle.pq_types.specs.History.{left}
 use Rattle.leftist_heap.specs.Store.{first_of}
 use Rattle.flat_queue.specs.Batches.{IsPushAt, IsPop, pushes_of, pops_of, in_one_batch, is_first_due, CarriesOutBatchBy, EntersTogether}
 use Rattle.flat_queue.specs.declared.counting.Counts.{Counts}
+use Rattle.flat_queue.specs.declared.peeking.Peeked.{Peeked}
 use Rattle.flat_queue.specs.declared.batches.Batch.{Batch}
 use Rattle.flat_queue.specs.declared.batches.Popped.{Popped}
 use Rattle.queue_pool.specs.declared.shared.Undone.{Undone}
@@ -106,6 +108,10 @@ TriesFirstBy words wants before tried after = TriesBy (λ told. LooksFirstBy wor
 -- It counted so many items, now and at the peak.
 abbrev pub TriesCountBy : ℕ → Joined → Result Counts Undone → Joined → Type 0
 TriesCountBy words before tried after = TriesFreeBy (λ counts. CountsBy words before counts after) before tried after
+
+-- It looked at the first item, and left it there.
+abbrev pub TriesPeekBy : ℕ → Joined → Result (Peeked Item) Undone → Joined → Type 0
+TriesPeekBy words before tried after = TriesFreeBy (λ seen. PeeksBy words before seen after) before tried after
 
 -- The member carried so many of these pushes out, the first ones.
 abbrev pub PushesBy : ℕ → Joined → List Item → Batch → Joined → Type 0

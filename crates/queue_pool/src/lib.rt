@@ -4,7 +4,7 @@
 //! What the crate promises to the layer above:
 //! - `SharedHandle` is a member with a share of its queue, idle or waiting, which its calls see:
 //!   it posts, looks, leads a round, archives the journal, or carries a request out itself, a batch of pushes or pops, or the shut of
-//!   its queue, where it finds the lock free. It goes on in steps with a call that it has posted. It takes an item that it
+//!   its queue, where it finds the lock free. It counts the items, or peeks at the first one, so without a request. It goes on in steps with a call that it has posted. It takes an item that it
 //!   may wait for in steps, each of which announces it before it looks.
 //! - `Pool` has the members of a queue that nobody has: it hands out those that came back before it lets a
 //!   newcomer join, so that a queue has so many members at once, and not in all its life.

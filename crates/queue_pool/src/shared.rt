@@ -1,7 +1,6 @@
 // A member with a share of its queue.
-ghost use Rattle.std.specs.Prelude.{◌≡◌, ◌≢◌, ◌<◌, ◌≤◌, false, length, Ok, Err, OnOk, IfErr, IfSome, IfNone};
+ghost use Rattle.std.specs.Prelude.{◌≡◌, ◌≢◌, ◌<◌, false, length, Ok, Err, OnOk, IfErr, IfSome, IfNone};
 ghost use Rattle.std.specs.Arc.{arc_value};
-ghost use Rattle.split_core.specs.declared.places.TheConstants.{MAX_COMERS};
 ghost use Rattle.split_grid.specs.Opening.{places_of};
 ghost use Rattle.desk_core.specs.Pen.{after_miss};
 ghost use Rattle.desk_core.specs.Words.{word_number};
@@ -12,10 +11,11 @@ ghost use Rattle.flat_queue.specs.Memory.{HasSpareRoom};
 ghost use Rattle.flat_queue.specs.Settling.{Archives, SettlesBy};
 ghost use Rattle.flat_queue.specs.TrailSweeping.{MakesTrailRoundBy};
 ghost use Rattle.queue_pool.specs.Shared.{MayCall, UndoneBy, PostsBy, SeesBy, TriesUpToBy, TriesFirstBy, TriesPushesBy, TriesPopsBy};
-ghost use Rattle.queue_pool.specs.Shared.{TriesCallBy, TriesCountBy, TriesTicketBy, TriesRemovalBy, TriesMoveBy, TriesShutBy};
+ghost use Rattle.queue_pool.specs.Shared.{TriesCallBy, TriesCountBy, TriesPeekBy, TriesTicketBy, TriesRemovalBy, TriesMoveBy, TriesShutBy};
 
 use flat_queue::{
-    ArchiveError, Batch, Counts, DueStage, EventCount, Looked, Member, Popped, Queue, Round, Wanted,
+    ArchiveError, Batch, Counts, DueStage, EventCount, Looked, Member, Peeked, Popped, Queue,
+    Round, Wanted,
 };
 use leftist_heap::{Store, TicketStore};
 use pq_book::Entry;
@@ -101,13 +101,6 @@ impl<S: Store<Entry<P>>, P: Part> SharedHandle<S, P> {
         ensures { result ≡ is_idle self.now.pen.standing }
     {
         self.member.is_idle()
-    }
-
-    /// How many have joined its queue, by which whoever waits may nap as long.
-    pub fn joined(&self) -> u32
-        ensures { result ≤ MAX_COMERS }
-    {
-        self.queue.joined()
     }
 
     /// The event count of its queue, by which it may wait for an item. Its calls count those who may be woken, and wake
@@ -266,6 +259,21 @@ impl<S: Store<Entry<P>>, P: Part> SharedHandle<S, P> {
             return Err(Undone::LockHeld);
         };
         Ok(counts)
+    }
+
+    /// Looks at the first item itself, and leaves it there, where the last request is answered and it finds the lock free, as
+    /// `Queue::peek` does. Takes memory for the pushes of others alone, and never waits.
+    #[inline(always)]
+    pub fn try_peek(&mut self) -> Result<Peeked<Item<P>>, Undone>
+        ensures { TriesPeekBy (word_number P.wide) self.old result self.new }
+    {
+        if !self.member.is_idle() {
+            return Err(Undone::Waits);
+        }
+        let Some(seen) = self.queue.peek(&mut self.member) else {
+            return Err(Undone::LockHeld);
+        };
+        Ok(seen)
     }
 
     /// One round by a trail scan: it leads, sweeps and releases, as the rounds that a call makes, and reads at most 1 + 2m

@@ -78,7 +78,7 @@ static void it_is_refused(pq_queue *queue, pq_member *member) {
     }
     CHECK(close(files[1]) == 0 && take(&it) == PQ_EMPTY && close(it.timer) == 0 && pq_unlisten(member) == 1);
     it = alarm_by(joined(full));
-    CHECK(take(&it) == PQ_EMPTY && pq_peek(pq_own(full), &item, PQ_FOREVER, NULL) == PQ_EMPTY && rings(&it) && take(&it) == PQ_JOURNAL_FULL);
+    CHECK(take(&it) == PQ_EMPTY && pq_pop(pq_own(full), &item, PQ_FOREVER, NULL) == PQ_EMPTY && rings(&it) && take(&it) == PQ_JOURNAL_FULL);
     CHECK(is_item(it.item, 9, 9) && pq_unlisten(it.member) == 0);
     end(&it);
     close_and_free(full);

@@ -11,12 +11,22 @@
 
 enum { FEWEST = 64, MOST = 16777216, WORKERS = 4, PLACES = 2080 };
 
+/* Opens a queue with tickets. */
+static pq_queue *opened_with_tickets(uint32_t members, uint32_t keeping, uint32_t entries, uint64_t most_items) {
+    pq_options options = { 0, 0, 0, 1, 0, 0, 0 };
+    pq_queue *queue = NULL;
+    options.members = members;
+    options.keeping = keeping;
+    options.entries = entries;
+    options.most_items = most_items;
+    CHECK(pq_open(&options, &queue) == PQ_OK);
+    return queue;
+}
+
 /* Makes so many requests, which leave the items that are there. */
 static void makes(pq_member *member, uint32_t calls) {
-    pq_item item;
     for (uint32_t i = 0; i < calls; i++) {
-        const pq_code code = pq_peek(member, &item, PQ_FOREVER, NULL);
-        CHECK(code == PQ_OK || code == PQ_EMPTY);
+        CHECK(pq_remove(member, UINT64_MAX, NULL, PQ_FOREVER, NULL) == PQ_GONE);
     }
 }
 
@@ -32,7 +42,7 @@ static size_t archives(pq_member *member, uint64_t archived) {
 }
 
 static void keeps_so_many(uint32_t kept) {
-    pq_queue *queue = opened_as(1, PQ_FORGETS, kept);
+    pq_queue *queue = opened_with_tickets(1, PQ_FORGETS, kept, 0);
     pq_member *member = joined(queue);
     pq_journal *journal = NULL;
     uint64_t before = 0;
@@ -46,10 +56,13 @@ static void keeps_so_many(uint32_t kept) {
     pq_journal_free(journal);
 }
 
+/* A peek has no entry, so it is let through. */
 static void is_refused(pq_member *member) {
+    pq_item item = item_of(7, 8);
     refuses_requests(member, PQ_UNARCHIVED, PQ_FOREVER);
     refuses_requests(member, PQ_UNARCHIVED, PQ_NOW);
     refuses_listening(member, PQ_UNARCHIVED);
+    CHECK(pq_peek(member, &item, PQ_FOREVER, NULL) == PQ_OK && is_item(item, 1, 2) && pq_peek(member, &item, PQ_NOW, NULL) == PQ_OK);
 }
 
 /* An archive can't have more than there is, and then counts for nothing. */
@@ -61,13 +74,14 @@ static void is_too_much(pq_queue *queue, pq_member *member, uint64_t archived) {
 
 /* As many as are kept are let through beyond those that are archived, one more never. What finds no item has no entry, and is let through. */
 static void refuses_what_would_be_forgotten(uint32_t kept) {
-    pq_queue *queue = opened_as(2, PQ_REFUSES, kept);
+    pq_queue *queue = opened_with_tickets(2, PQ_REFUSES, kept, 0);
     pq_member *member = joined(queue), *other = joined(queue);
     pq_item item = item_of(7, 8);
     uint64_t number = 9;
     makes(member, kept - 2);
     is_too_much(queue, member, kept - 1);
     CHECK(pq_push(other, item_of(1, 2), PQ_FOREVER, &number) == PQ_OK && number == kept - 1);
+    makes(other, 1);
     CHECK(pq_peek(other, &item, PQ_FOREVER, &number) == PQ_OK && number == kept && is_item(item, 1, 2));
     is_too_much(queue, member, (uint64_t)kept + 1);
     is_refused(member);
@@ -110,21 +124,16 @@ static void polls_count_for_nothing(void) {
     close_and_free(queue);
 }
 
-/* Opens a queue that refuses, with tickets, which may have so many items. */
+/* Opens a queue that refuses, which may have so many items. */
 static pq_queue *refusing(uint64_t most_items) {
-    pq_options options = { 3, PQ_REFUSES, FEWEST, 1, 0, 0, 0 };
-    pq_queue *queue = NULL;
-    options.most_items = most_items;
-    CHECK(pq_open(&options, &queue) == PQ_OK);
-    return queue;
+    return opened_with_tickets(3, PQ_REFUSES, FEWEST, most_items);
 }
 
 /* So many requests have entries. Others are let through until there are as many entries as are kept. */
 static void have_entries(pq_queue *queue, pq_member *member, uint64_t requests) {
-    pq_item item;
-    pq_code code = PQ_OK;
-    while (code == PQ_OK || code == PQ_EMPTY) {
-        code = pq_peek(member, &item, PQ_FOREVER, NULL);
+    pq_code code = PQ_GONE;
+    while (code == PQ_GONE) {
+        code = pq_remove(member, UINT64_MAX, NULL, PQ_FOREVER, NULL);
         requests += code != PQ_UNARCHIVED;
     }
     CHECK(code == PQ_UNARCHIVED && requests == FEWEST && archives(member, 0) == FEWEST);
@@ -143,7 +152,7 @@ static void calls_that_time_out_count_for_nothing(uint64_t most_items) {
     refuses_requests(member, PQ_TIMED_OUT, PQ_NOW);
     CHECK(pq_remove(member, 1, &item, PQ_NOW, &number) == PQ_TIMED_OUT && pq_reschedule(member, 1, 5, PQ_NOW, &number) == PQ_TIMED_OUT);
     CHECK(pq_take_or_listen(member, 9, &item, &number, notes_nothing, NULL) == PQ_EMPTY && pq_unlisten(member) == 0);
-    CHECK(pq_size(member, PQ_NOW, &size, NULL) == PQ_TIMED_OUT);
+    CHECK(pq_size(member, PQ_NOW, &size, NULL) == PQ_TIMED_OUT && pq_peek(member, &item, PQ_NOW, &number) == PQ_TIMED_OUT && number == 0);
     let_go(&own);
     have_entries(queue, member, own.pushed);
 }

@@ -77,7 +77,7 @@ static void calls_return_where_a_thread_stops(void) {
     pq_give_back(member);
     pq_give_back(waiting);
     journal = closed(queue);
-    CHECK(pq_count(journal, NULL) == 4 && pq_read(journal, 3, &entry) == PQ_OK && entry.request == PQ_POP && is_item(entry.item, 1, 100));
+    CHECK(pq_count(journal, NULL) == 3 && pq_read(journal, 2, &entry) == PQ_OK && entry.request == PQ_POP && is_item(entry.item, 1, 100));
     pq_journal_free(journal);
 }
 

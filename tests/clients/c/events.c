@@ -64,7 +64,7 @@ static void it_is_refused(void) {
     pq_item item = item_of(9, 9);
     CHECK(take(&it) == PQ_NO_MEMBER && pq_unlisten(NULL) == 0);
     it.member = joined(queue);
-    CHECK(take(&it) == PQ_EMPTY && pq_peek(pq_own(queue), &item, PQ_FOREVER, NULL) == PQ_EMPTY && notified(&it) == 1);
+    CHECK(take(&it) == PQ_EMPTY && pq_pop(pq_own(queue), &item, PQ_FOREVER, NULL) == PQ_EMPTY && notified(&it) == 1);
     CHECK(take_up_to(&it, 9, &item) == PQ_JOURNAL_FULL && is_item(item, 9, 9) && pq_unlisten(it.member) == 0);
     pq_give_back(it.member);
     close_and_free(queue);

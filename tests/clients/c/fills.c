@@ -19,6 +19,7 @@ static void stays_full(uint32_t entries, int has_item) {
         CHECK(pq_take_due_or_listen(member, -1, &item, NULL) == PQ_JOURNAL_FULL && pq_unlisten(member) == 0);
     }
     CHECK(is_item(item, 7, 8));
+    CHECK(pq_peek(member, &item, PQ_FOREVER, &number) == (has_item ? PQ_OK : PQ_EMPTY) && number == entries && item.value == (has_item ? 0 : 8));
     pq_give_back(member);
     pq_give_back(other);
     pq_journal *journal = closed(queue);
@@ -59,6 +60,7 @@ static void a_member_makes_so_many_requests(void) {
     refuses_requests(member, PQ_EXHAUSTED, PQ_FOREVER);
     refuses_requests(member, PQ_EXHAUSTED, PQ_NOW);
     refuses_listening(member, PQ_EXHAUSTED);
+    CHECK(pq_peek(member, &item, PQ_FOREVER, NULL) == PQ_EMPTY && pq_peek(member, &item, PQ_NOW, &number) == PQ_EMPTY && number == 2);
     CHECK(pq_pop(other, &item, PQ_FOREVER, NULL) == PQ_JOURNAL_FULL);
     pq_give_back(member);
     pq_give_back(other);

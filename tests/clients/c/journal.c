@@ -1,5 +1,5 @@
-/* A journal with each request and each reply, and numbers up to 2^64 - 1, is read, and written as text; a write that fails says so;
-   items that are left come out in their order, while the entries stay; and a text with a shut is read back. */
+/* A journal with each request but a peek, and each reply, and numbers up to 2^64 - 1, is read, and written as text; a write that fails says so;
+   items that are left come out in their order, while the entries stay; and a text with a shut is read back, and one with peeks. */
 #include "../check.h"
 
 #include <fcntl.h>
@@ -13,16 +13,18 @@ enum { ITEMS = 5 };
 
 static const pq_item pushed[ITEMS] = { { UPPER, 1 }, { UINT64_MAX, UINT64_MAX }, { UPPER, 0 }, { 0, 10000000000000000000u }, { 1, UPPER - 1 } };
 
-/* One member makes each request once with an item, and once without. */
+/* One member makes each request once with an item, and once without. A peek has no entry. */
 static pq_journal *whole_journal(void) {
     pq_queue *queue = opened(5);
     pq_member *member = joined(queue);
     pq_item item = item_of(7, 8);
-    CHECK(pq_peek(member, &item, PQ_FOREVER, NULL) == PQ_EMPTY && pq_pop(member, &item, PQ_FOREVER, NULL) == PQ_EMPTY && is_item(item, 7, 8));
+    uint64_t entries = 9;
+    CHECK(pq_peek(member, &item, PQ_FOREVER, &entries) == PQ_EMPTY && entries == 0 && pq_pop(member, &item, PQ_FOREVER, NULL) == PQ_EMPTY);
+    CHECK(pq_peek(member, &item, PQ_FOREVER, &entries) == PQ_EMPTY && entries == 1 && is_item(item, 7, 8));
     for (size_t i = 0; i < ITEMS; i++) {
         CHECK(pq_push(member, pushed[i], PQ_FOREVER, NULL) == PQ_OK);
     }
-    CHECK(pq_peek(member, &item, PQ_FOREVER, NULL) == PQ_OK && is_item(item, 0, 10000000000000000000u));
+    CHECK(pq_peek(member, &item, PQ_FOREVER, &entries) == PQ_OK && entries == 6 && is_item(item, 0, 10000000000000000000u));
     for (size_t i = 0; i < ITEMS; i++) {
         CHECK(pq_pop(member, &item, PQ_FOREVER, NULL) == PQ_OK);
     }
@@ -42,17 +44,15 @@ static void has_entries(const pq_journal *journal) {
     const size_t order[ITEMS] = { 3, 4, 0, 2, 1 };
     const pq_item none = { 0, 0 };
     pq_entry entry;
-    CHECK(pq_count(journal, NULL) == 14);
-    reads(journal, 0, PQ_PEEK, PQ_EMPTY, none);
-    reads(journal, 1, PQ_POP, PQ_EMPTY, none);
-    reads(journal, 7, PQ_PEEK, PQ_OK, pushed[3]);
+    CHECK(pq_count(journal, NULL) == 12);
+    reads(journal, 0, PQ_POP, PQ_EMPTY, none);
     for (size_t i = 0; i < ITEMS; i++) {
-        reads(journal, 2 + i, PQ_PUSH, PQ_OK, pushed[i]);
-        reads(journal, 8 + i, PQ_POP, PQ_OK, pushed[order[i]]);
+        reads(journal, 1 + i, PQ_PUSH, PQ_OK, pushed[i]);
+        reads(journal, 6 + i, PQ_POP, PQ_OK, pushed[order[i]]);
     }
-    reads(journal, 13, PQ_POP, PQ_EMPTY, none);
+    reads(journal, 11, PQ_POP, PQ_EMPTY, none);
     memset(&entry, 9, sizeof entry);
-    CHECK(pq_read(journal, 14, &entry) == PQ_NO_ENTRY && pq_read(journal, SIZE_MAX, &entry) == PQ_NO_ENTRY && entry.place == 0x09090909);
+    CHECK(pq_read(journal, 12, &entry) == PQ_NO_ENTRY && pq_read(journal, SIZE_MAX, &entry) == PQ_NO_ENTRY && entry.place == 0x09090909);
 }
 
 static void is_text(const pq_entry *entry, const char *wanted) {
@@ -120,6 +120,17 @@ static void shut_is_read_back(void) {
     CHECK(read_text("1 0 1 shut\n2 0 2 shut\n", &journal) == PQ_NOT_LAWFUL && read_text("1 0 1 shut empty\n", &journal) == PQ_NOT_LAWFUL);
 }
 
+/* A journal of an earlier version, or of a program in Rattle, has entries of peeks. */
+static void peeks_are_read_back(void) {
+    const pq_item none = { 0, 0 };
+    pq_journal *journal;
+    CHECK(read_text("1 0 1 least empty\n2 0 2 push 5 1 pushed\n3 0 3 least least 5 1\n", &journal) == PQ_OK && pq_count(journal, NULL) == 3);
+    reads(journal, 0, PQ_PEEK, PQ_EMPTY, none);
+    reads(journal, 2, PQ_PEEK, PQ_OK, item_of(5, 1));
+    pq_journal_free(journal);
+    CHECK(read_text("1 0 1 push 5 1 pushed\n2 0 2 least empty\n", &journal) == PQ_NOT_LAWFUL && journal == NULL);
+}
+
 /* What is left is counted by nobody: taking it changes no entry. */
 static void items_are_left(void) {
     pq_queue *queue = opened(1);
@@ -145,6 +156,7 @@ int main(void) {
     is_not_written(journal);
     items_are_left();
     shut_is_read_back();
+    peeks_are_read_back();
     CHECK(pq_take_left(journal, &item) == PQ_EMPTY && is_item(item, 7, 8));
     CHECK(pq_write(journal, STDOUT_FILENO) == PQ_OK);
     pq_journal_free(journal);

@@ -90,7 +90,12 @@ static int fits_pop(list *it, const call *made) {
     if (made->number != ++it->entries || it->count == 0) {
         return made->number == it->entries && made->code == PQ_EMPTY;
     }
-    return made->code == PQ_OK && is_same(made->items[0], made->kind == POP ? drop(it, 0) : it->left[0].item);
+    return made->code == PQ_OK && is_same(made->items[0], drop(it, 0));
+}
+
+static int fits_peek(const list *it, const call *made) {
+    const int fits = it->count == 0 ? made->code == PQ_EMPTY : made->code == PQ_OK && is_same(made->items[0], it->left[0].item);
+    return fits && made->number == it->entries;
 }
 
 static int fits_take(list *it, const call *made) {
@@ -138,8 +143,9 @@ static int fits(list *it, const call *made) {
     case PUSH_OR_LISTEN:
         return fits_push(it, made);
     case POP:
-    case PEEK:
         return fits_pop(it, made);
+    case PEEK:
+        return fits_peek(it, made);
     case SIZE:
         return made->code == PQ_OK && made->size == it->count && made->peak == it->peak;
     case REMOVE:

@@ -138,7 +138,7 @@ static void reads_what_may_come_next(void) {
     CHECK(reads("1\n", 2, &journal, &line) == PQ_NOT_LAWFUL && line == 1 && reads("\n", 1, &journal, &line) == PQ_NOT_LAWFUL && line == 1);
 }
 
-enum { LINES = 6 };
+enum { LINES = 5 };
 
 /* Writes a journal of so many lines: how long its text is. */
 static size_t written(char *text, size_t room) {

@@ -16,7 +16,7 @@ static inline void refuses_requests(pq_member *member, pq_code code, uint64_t un
     size_t done = 9;
     CHECK(pq_push(member, item, until, &number) == code && pq_push(member, item, until, NULL) == code);
     CHECK(pq_pop(member, &item, until, &number) == code && pq_pop(member, &item, until, NULL) == code);
-    CHECK(pq_peek(member, &item, until, &number) == code && pq_pop_due(member, 9, &item, until, &number) == code);
+    CHECK(pq_pop_due(member, 9, &item, until, &number) == code);
     CHECK(pq_take(member, &item, until, &number) == code && pq_take_due(member, &item, until, &number) == code);
     CHECK(pq_push_many(member, pushed, 2, until, &done, NULL) == code && done == 0);
     done = 9;
@@ -35,17 +35,19 @@ static inline void refuses_listening(pq_member *member, pq_code code) {
 }
 
 /* And calls that make no request. */
-static inline void refuses_others(pq_member *member, pq_code code) {
-    uint64_t size = 9, peak = 9;
+static inline void refuses_others(pq_member *member, pq_code code, uint64_t until) {
+    pq_item item = item_of(7, 8);
+    uint64_t size = 9, peak = 9, entries = 9;
     pq_journal *journal = NULL;
-    CHECK(pq_archive(member, 0, PQ_FOREVER, &journal) == code && journal == NULL);
-    CHECK(pq_size(member, PQ_FOREVER, &size, &peak) == code && size == 9 && peak == 9);
+    CHECK(pq_archive(member, 0, until, &journal) == code && journal == NULL);
+    CHECK(pq_size(member, until, &size, &peak) == code && size == 9 && peak == 9);
+    CHECK(pq_peek(member, &item, until, &entries) == code && is_item(item, 7, 8) && entries == 9);
 }
 
 static inline void refuses_all(pq_member *member, pq_code code, uint64_t until) {
     refuses_requests(member, code, until);
     refuses_listening(member, code);
-    refuses_others(member, code);
+    refuses_others(member, code, until);
 }
 
 #endif

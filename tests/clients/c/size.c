@@ -30,12 +30,12 @@ static void follows_each_call(void) {
     is_of(queue, member, 1);
     CHECK(pq_shut(queue) == PQ_OK);
     is_of(queue, member, 1);
-    CHECK(pq_pop(member, &item, PQ_FOREVER, &number) == PQ_OK && number == 12);
+    CHECK(pq_pop(member, &item, PQ_FOREVER, &number) == PQ_OK && number == 11);
     is_of(queue, member, 0);
     pq_give_back(member);
     pq_leave(queue);
     pq_journal *journal = closed(queue);
-    CHECK(pq_count(journal, NULL) == 12);
+    CHECK(pq_count(journal, NULL) == 11);
     pq_journal_free(journal);
 }
 

@@ -132,14 +132,13 @@ static void others_refuse(void) {
 static void refuses_for_now(void) {
     pq_queue *queue = opened_with_tickets(PQ_REFUSES, 0, 0);
     pq_member *member = joined(queue);
-    pq_item item = item_of(1, 1);
     holder other;
     CHECK(pushed(queue, 1, 2) == 1);
     hold(&other, queue, HOLDS_AND_STOPS);
     refuses(member, PQ_TIMED_OUT, PQ_NOW);
     refuses(member, PQ_TIMED_OUT, in_ms(5));
     let_go(&other);
-    while (pq_peek(member, &item, PQ_FOREVER, NULL) == PQ_OK) {
+    while (pq_remove(member, UINT64_MAX, NULL, PQ_FOREVER, NULL) == PQ_GONE) {
     }
     refuses(member, PQ_UNARCHIVED, PQ_FOREVER);
     CHECK(size_of(queue) == 1 + other.pushed);

@@ -149,8 +149,8 @@ static void answers_have_numbers() {
     CHECK(*member.push(5u, 6) == 1);
     const auto popped = member.pop(), none = queue.pop();
     CHECK(*popped == (item<>{5, 6}) && popped.number() == 2);
-    CHECK(none.error() == code::empty && none.number() == 3 && !none.first() && queue.peek().number() == 4);
-    CHECK(*member.push(7u, 8) == 5 && queue.peek().number() == 6);
+    CHECK(none.error() == code::empty && none.number() == 3 && !none.first() && queue.peek().error() == code::empty);
+    CHECK(*member.push(7u, 8) == 4 && queue.peek()->value == 8 && member.pop().number() == 5);
 }
 
 static void a_joining_waits() {

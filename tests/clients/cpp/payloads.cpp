@@ -101,16 +101,16 @@ static void a_refused_one_is_where_it_was() {
     push_keys(member, 0, 3);
     CHECK(queue.shut() == code::ok);
     is_refused(member, code::shut);
-    CHECK(member.peek().error() == code::ok);
+    CHECK(*member.peek() == 0 && member.pop()->payload.number() == 0);
     is_refused(member, code::journal_full);
     auto moved = std::move(member);
     is_refused(member, code::no_member);
     moved.give_back();
-    CHECK(queue.clear().error() == code::journal_full && live == 3);
+    CHECK(queue.clear().error() == code::journal_full && *queue.peek() == 1 && live == 2);
     auto journal = *queue.close();
     is_refused(queue, code::closed);
-    CHECK(journal.take()->payload.number() == 0);
-    CHECK(live == 2);
+    CHECK(journal.take()->payload.number() == 1);
+    CHECK(live == 1);
 }
 
 /// One from which another is made.

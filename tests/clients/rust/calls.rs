@@ -24,7 +24,7 @@ macro_rules! calls {
             ($caller.pop(), $caller.pop_due(9)),
             (Ok(None), Ok(Due::Empty))
         );
-        assert_eq!($caller.archive(0).map(|it| it.len()), Ok(11));
+        assert_eq!($caller.archive(0).map(|it| it.len()), Ok(9));
         assert!($caller.push(5, 50).is_ok() && $caller.push(6, 60).is_ok());
     };
 }

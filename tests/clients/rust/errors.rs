@@ -38,7 +38,7 @@ fn a_full_journal_stays_full() {
     queue.push(1, 2).unwrap();
     assert_eq!(queue.push(0, 3).unwrap_err().error, Error::JournalFull);
     assert_eq!(queue.pop(), Err(Error::JournalFull));
-    assert_eq!(queue.peek(), Err(Error::JournalFull));
+    assert_eq!(queue.peek(), Ok(Some(1)));
     assert_eq!(queue.pop_due(9), Err(Error::JournalFull));
     assert_eq!(queue.take(), Err(Error::JournalFull));
     let refused = queue.push_many([(3, 4), (5, 6)]).unwrap_err();

@@ -12,8 +12,9 @@ fn item(priority: u64, value: u64) -> Option<Item> {
 fn queue_with_entries() -> Queue {
     let queue = Queue::new().unwrap();
     let mut member = queue.join().unwrap();
-    assert_eq!((member.peek_item(), member.number()), (Ok(None), 1));
-    assert_eq!((member.peek(), member.number()), (Ok(None), 2));
+    assert_eq!((member.pop(), member.number()), (Ok(None), 1));
+    assert_eq!((member.peek_item(), member.peek()), (Ok(None), Ok(None)));
+    assert_eq!((member.number(), member.pop()), (1, Ok(None)));
     assert_eq!(member.push(5, u64::MAX).unwrap(), 3);
     assert!(member.pop_due(4).is_ok() && member.number() == 0);
     assert!(member.take().is_ok() && member.number() == 4);
@@ -33,7 +34,7 @@ fn entries_come_by_iterators() {
     let (mut entries, max) = (journal.iter(), u64::MAX);
     assert_eq!((entries.len(), journal.len(), journal.before()), (5, 5, 0));
     let all: Vec<_> = journal.iter().map(|it| (it.request, it.item)).collect();
-    assert_eq!(all[1], (Request::Peek, None));
+    assert_eq!(all[1], (Request::Pop, None));
     assert_eq!(all[2], (Request::Push, item(5, max)));
     assert_eq!(all[3], (Request::Pop, item(5, max)));
     assert_eq!(all[4], (Request::Pop, None));
@@ -173,6 +174,15 @@ fn a_shut_is_read_back() {
     let mut written = Vec::new();
     read.journal.write_to(&mut written).unwrap();
     assert_eq!(String::from_utf8(written).unwrap(), text);
+}
+
+/// Only a journal of an earlier version, or of a program in Rattle, has entries of peeks.
+#[test]
+fn a_peek_is_read_back() {
+    let text = "1 0 1 least empty\n2 0 2 push 5 7 pushed\n3 0 3 least least 5 7\n";
+    let read = read_back("peek", text).unwrap();
+    let all: Vec<_> = read.journal.iter().map(|it| (it.request, it.item)).collect();
+    assert_eq!((all[0], all[2]), ((Request::Peek, None), (Request::Peek, item(5, 7))));
 }
 
 #[test]

@@ -63,6 +63,7 @@ mod inside {
             file: *const c_char,
             line: c_int,
         );
+        pub fn scheduler_step(at: *const u32, access: Access);
         pub fn scheduler_thread() -> c_int;
         pub fn wake_word(word: *const u32);
         pub fn sleep_at(at: *const u32, seen: u32, until: u64);
@@ -95,7 +96,10 @@ pub fn thread() -> usize {
 }
 
 pub fn now() -> u64 {
-    unsafe { inside::now }
+    unsafe {
+        inside::scheduler_step((&raw const inside::now).cast(), Access::Reads);
+        inside::now
+    }
 }
 
 pub fn execution() -> u64 {

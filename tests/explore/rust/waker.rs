@@ -41,6 +41,7 @@ pub fn word(thread: usize) -> *const u32 {
 }
 
 pub fn is_woken() -> bool {
+    point(c"is it woken", word(explorer::thread()), Access::Reads);
     TASKS.with(|it| it.is_woken.get()) != 0
 }
 
@@ -63,6 +64,7 @@ pub fn new() -> Waker {
 /// The task is polled by this one, and may be woken once more.
 pub fn polls(waker: &Waker) {
     may_wake_more(waker);
+    point(c"not woken yet", word(explorer::thread()), Access::Writes);
     TASKS.with(|it| it.is_woken.set(0));
 }
 

@@ -1,6 +1,6 @@
 use Rattle.std.proofs.Common.{◌≡◌, ◌+◌, List, length, ap, subst, sym, ◌∙◌, arith}
 use Rattle.pq_types.specs.Asked.{Line}
-use Rattle.pq_types.specs.History.{left, journal_after, MayAnswer}
+use Rattle.pq_types.specs.History.{left, journal_after, Limits, MayAnswer}
 use Rattle.pq_book.specs.Book.{AllHaveRoom}
 use Rattle.pq_types.specs.declared.request.Request.TheVariants.{Push}
 use Rattle.pq_types.specs.declared.answer.Answer.TheVariants.{BookFull, NoMemory, Refused}
@@ -9,7 +9,7 @@ use Rattle.desk_core.specs.declared.model.PenState.{PenState}
 use Rattle.announce_board.specs.Asking.{IsFullFor}
 use Rattle.announce_board.specs.Batches.{IsPushAt}
 use Rattle.announce_board.specs.Steps.{pen_at}
-use Rattle.announce_board.proofs.Batched.{pushed_on, next_push, refused_on}
+use Rattle.announce_board.proofs.Batched.{pushed_on, next_push, refused_on, answers_pushed, behind_more, counted_pushes, full_before, refused_by}
 use Rattle.announce_board.proofs.ToldLemmas.{applied_full}
 use Rattle.announce_board.proofs.batching.push_each.Goals as goal
 
@@ -29,6 +29,11 @@ loop-done-preserved g c =
       counted = omega (arith, i.counted);
       applies = pushed_on (limits_in_hand p) p q (pen_at c.apply_in_slot-answer.new.seat.me) c.args.items.now c.loop-done.done x a c.in-Entered.field-0 c.in-Entered.field-1 e.after.0
           (omega (arith, c.requires.end, c.loop-done-test.true)) c.index-items-done.is i.applies may e.after.1 c.in-Entered.is;
+      answers = answers_pushed (limits_in_hand p) p q c.args.items.now c.loop-done.done x a c.in-Entered.field-0 c.in-Entered.field-1 (omega (arith, c.requires.end, c.loop-done-test.true)) c.index-items-done.is i.applies may
+          (ap (λ (l : Limits). l.room) i.limits) i.answers e.answers c.in-Entered.is;
+      behind = behind_more (limits_in_hand p) p q _ (Push x) a c.in-Entered.field-0 c.in-Entered.field-1 c.loop-done.done i.applies
+          (counted_pushes c.args.items.now c.loop-done.done (omega (arith, c.requires.end, c.loop-done-test.true))) may i.behind e.behind c.in-Entered.is;
+      barred = λ f. absurd (e.barred (full_before (limits_in_hand p) p q _ i.applies ∙ f) c.in-Entered.field-0 c.in-Entered.field-1 c.in-Entered.is);
       few = omega (arith, c.loop-done-test.true);
     }
 
@@ -80,3 +85,21 @@ pub returns-in-BookFull-clause-full : goal.returns-in-BookFull-clause-full
 returns-in-BookFull-clause-full g c =
     let e = c.apply_in_slot-answer.ensures in
     λ is. subst IsFullFor (sym e.after.1) (applied_full (pen_at c.loop-done.seat.me) (Push c.index-items-done.result) c.apply_in_slot-answer.result e.after.0 c.in-BookFull.is)
+
+pub returns-in-BookFull-clause-refusal : goal.returns-in-BookFull-clause-refusal
+returns-in-BookFull-clause-refusal g c =
+    let x = c.index-items-done.result in
+    refused_by _ _ _ (Push x) c.apply_in_slot-answer.result BookFull (next_push c.args.items.now c.loop-done.done x (omega (arith, c.requires.end, c.loop-done-test.true)) c.index-items-done.is)
+    (ap (λ (l : Limits). l.room) c.loop-done.invariant.limits) c.apply_in_slot-answer.ensures.answers c.in-BookFull.is
+
+pub returns-in-NoMemory-clause-refusal : goal.returns-in-NoMemory-clause-refusal
+returns-in-NoMemory-clause-refusal g c =
+    let x = c.index-items-done.result in
+    refused_by _ _ _ (Push x) c.apply_in_slot-answer.result NoMemory (next_push c.args.items.now c.loop-done.done x (omega (arith, c.requires.end, c.loop-done-test.true)) c.index-items-done.is)
+    (ap (λ (l : Limits). l.room) c.loop-done.invariant.limits) c.apply_in_slot-answer.ensures.answers c.in-NoMemory.is
+
+pub returns-in-Refused-clause-refusal : goal.returns-in-Refused-clause-refusal
+returns-in-Refused-clause-refusal g c =
+    let x = c.index-items-done.result in
+    refused_by _ _ _ (Push x) c.apply_in_slot-answer.result (Refused c.in-Refused.why) (next_push c.args.items.now c.loop-done.done x (omega (arith, c.requires.end, c.loop-done-test.true)) c.index-items-done.is)
+    (ap (λ (l : Limits). l.room) c.loop-done.invariant.limits) c.apply_in_slot-answer.ensures.answers c.in-Refused.is

@@ -1,7 +1,8 @@
-use Rattle.std.proofs.Common.{◌≡◌, ◌+◌, ◌-◌, ◌≤◌}
+use Rattle.std.proofs.Common.{◌≡◌, ◌+◌, ◌-◌, ◌≤◌, length}
 use Rattle.std.specs.Prelude.{take}
 use Rattle.desk_core.specs.Pen.{limits_in_hand}
-use Rattle.announce_board.specs.Batches.{IsLent, AppliesEach, pushes_of}
+use Rattle.announce_board.specs.Asking.{IsFullFor}
+use Rattle.announce_board.specs.Batches.{IsLent, AppliesEach, AreAnswersTo, AreAboveAll, pushes_of}
 use Rattle.announce_board.specs.Steps.{pen_at}
 use Rattle.announce_board.proofs.batching.push_each.Given as goal
 
@@ -12,6 +13,9 @@ invariant-loop-done g l = record {
   limits : limits_in_hand (pen_at l.seat.me) ≡ limits_in_hand (pen_at l.fn.seat.me);
   counted : l.posts ≡ l.fn.posts + l.done;
   applies : AppliesEach (limits_in_hand (pen_at l.fn.seat.me)) (pen_at l.fn.seat.me) (pushes_of (take l.done l.items)) (pen_at l.seat.me);
+  answers : AreAnswersTo (pen_at l.fn.seat.me).room (length (pen_at l.fn.seat.me).hand) (pushes_of (take l.done l.items));
+  behind : AreAboveAll (length (pen_at l.fn.seat.me).hand) l.done (pen_at l.fn.seat.me).mine;
+  barred : IsFullFor (pen_at l.fn.seat.me) → l.done ≡ 0;
   few : l.done ≤ l.end;
 }
 

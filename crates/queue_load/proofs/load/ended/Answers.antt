@@ -1,9 +1,10 @@
 use Rattle.std.proofs.Common.{◌≡◌, ◌<◌, length, map, slice_get, Some, rules, sym, ◌∙◌, ap, subst}
+use Rattle.flat_queue.specs.Closing.{LinearizesMembers}
 use Rattle.queue_load.specs.Load.{IsTotal, AreAnswered, LeavesFirst}
 use Rattle.queue_load.specs.Tally.{all_together}
 use Rattle.queue_load.specs.declared.worker.EndedWorker.{EndedWorker}
 use Rattle.queue_load.proofs.Leaving.{first_of_some, has_exactly, calls_stand, leaves_first, audit_is_ok, knew_first}
-use Rattle.queue_load.proofs.Members.{are_answered, first_member, members_linearized}
+use Rattle.queue_load.proofs.Members.{are_answered, first_member}
 use Rattle.queue_load.proofs.Opening.{all_done}
 use Rattle.queue_load.proofs.load.ended.Goals as goal
 
@@ -39,7 +40,7 @@ returns-clause-ok g c =
         is_first = first_member worked first.0 first.1;
         total_is = total;
         report = c.report_of-report.ensures.report;
-        linearized = members_linearized worked c.in_ok-book.ensures.linearized;
+        linearized = subst (λ n. LinearizesMembers n (map (λ (w : EndedWorker _ _). w.member) worked) book.journal) c.requires.room closes.linearized;
         stand = calls_stand c.args.queue c.args.plan worked book done closes c.law_calls_are_lines.ensures.lines;
         leaves = subst (λ n. LeavesFirst g.P.Part.wide n c.args.plan first.0.member book) c.requires.room (leaves_first c.args.queue c.args.plan worked book done closes first.0 first.1);
         exact = has_exactly c.args.queue c.args.plan worked book done closes;

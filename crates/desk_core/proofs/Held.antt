@@ -14,9 +14,9 @@ use Rattle.pq_book.specs.Stock.{with_waiters, settled_book}
 use Rattle.desk_core.specs.declared.model.PenState.{PenState}
 use Rattle.desk_core.specs.declared.model.View.{View}
 use Rattle.desk_core.specs.declared.model.View.TheVariants.{Holder, Note, Testimony}
-use Rattle.desk_core.specs.Pen.{allowed_by, book_with, book_in_hand, limits_in_hand, after_draft, after_post, after_lead, after_miss, after_read, after_read_item, after_lay, after_answer, after_apply, after_archive, after_change, after_release, after_release_by, after_look, after_see, after_take}
+use Rattle.desk_core.specs.Pen.{allowed_by, book_with, book_in_hand, limits_in_hand, after_draft, after_post, after_lead, after_miss, after_read, after_read_item, after_lay, after_answer, after_apply, after_archive, after_change, after_hand_out, after_release, after_release_by, after_look, after_see, after_take}
 use Rattle.desk_core.specs.Desk.{Desk, Has, time, put}
-use Rattle.desk_core.specs.Steps.{Event, Drafts, Posts, Tries, Reads, ReadsItem, LaysItem, Answers, Applies, Archives, Changes, Releases, ReleasesBy, Looks, SeesItem, TakesItem, Step}
+use Rattle.desk_core.specs.Steps.{Event, Drafts, Posts, Tries, Reads, ReadsItem, LaysItem, Answers, Applies, Archives, Changes, HandsOut, Releases, ReleasesBy, Looks, SeesItem, TakesItem, Step}
 use Rattle.desk_core.specs.Rule.{MeetsRule}
 use Rattle.desk_core.specs.Notes.{after_catch_up, after_writing, after_hearing}
 use Rattle.desk_core.specs.Testimonies.{after_retiring, after_sleeping, after_waking}
@@ -158,6 +158,7 @@ module _ {X : Type 0} (k : Keeping X) (d : Desk) (m : MeetsRule d) (x : X) (h : 
   on_step (Changes i c) e (p, a, leads, same) =
       let y = k.change x c in
       subst (λ z. Held k y z) (sym same) (in_its_hand k d m x h i p a y (after_change p c) leads (k.changes x (book_in_hand p) c (h.hand i p a leads)))
+  on_step (HandsOut i) e (p, a, same) = subst (λ z. Held k x z) (sym same) (as_it_was k d m x h i p a d.control d.item (after_hand_out p) refl refl)
   on_step (Releases i) e (p, a, leads, same) =
       subst (λ z. Held k x z) (sym same) (brings_home k d m x h i p a (book_in_hand p) (after_release p) refl (h.hand i p a leads))
   on_step (ReleasesBy i q y) e (p, a, leads, none, free, few, proper, may, same) =

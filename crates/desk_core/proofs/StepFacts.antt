@@ -31,7 +31,7 @@ use Rattle.desk_core.specs.declared.model.Standing.TheVariants.{Idle, Waiting}
 use Rattle.desk_core.specs.declared.model.Due.{Due}
 use Rattle.desk_core.specs.declared.model.PenState.{PenState}
 use Rattle.desk_core.specs.Calls.{calls_of, gained}
-use Rattle.desk_core.specs.Pen.{IsIdle, IsKept, after_draft, after_post, after_lead, after_miss, due_at, after_read, with_known, after_read_item, after_lay, after_answer, after_apply, after_archive, after_change, after_release, after_release_by, book_with, book_in_hand, limits_in_hand, told_by, standing_told, mine_told, full_told, after_look, after_see, after_take}
+use Rattle.desk_core.specs.Pen.{IsIdle, IsKept, after_draft, after_post, after_lead, after_miss, due_at, after_read, with_known, after_read_item, after_lay, after_answer, after_apply, after_archive, after_change, after_hand_out, after_release, after_release_by, book_with, book_in_hand, limits_in_hand, told_by, standing_told, mine_told, full_told, after_look, after_see, after_take}
 use Rattle.desk_core.specs.Desk.{Desk, Has, put, with_control, with_cell, locked, freed, with_pen}
 use Rattle.desk_core.specs.Rule.{PenRule, RuleAt, Stands, idle, unanswered, above_mine}
 use Rattle.desk_core.proofs.Loose.{MayTell, loosely}
@@ -263,6 +263,13 @@ module _ (d : Desk) (journal : List Line) (chief : ℕ) (r : RuleAt d journal ch
   archive_keeps n =
       let mine = r.pens i p a in
       same_cells d journal chief r i p a (after_archive p n) refl refl refl (λ due e. r.due i p a due e)
+      record { told = mine.told; counted = mine.counted; stands = mine.stands; looked = mine.looked; known = mine.known; own = mine.own; blank = mine.blank; filled = mine.filled; barred = mine.barred; seen = mine.seen }
+
+  -- it hands out whom it has woken
+  pub hand_out_keeps : RuleAt (with_pen d i (after_hand_out p)) journal chief
+  hand_out_keeps =
+      let mine = r.pens i p a in
+      same_cells d journal chief r i p a (after_hand_out p) refl refl refl (λ due e. r.due i p a due e)
       record { told = mine.told; counted = mine.counted; stands = mine.stands; looked = mine.looked; known = mine.known; own = mine.own; blank = mine.blank; filled = mine.filled; barred = mine.barred; seen = mine.seen }
 
   -- it changes who waits

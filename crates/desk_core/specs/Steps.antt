@@ -17,7 +17,7 @@ use Rattle.pq_types.specs.History.{journal_by, MayDo, MayAnswer}
 use Rattle.wait_list.specs.Waiters.{Change}
 use Rattle.pq_book.specs.Book.{Volume}
 use Rattle.desk_core.specs.Pen.{IsIdle, IsKept, after_draft, after_post, after_lead, after_miss, after_read, after_read_item}
-use Rattle.desk_core.specs.Pen.{after_lay, after_answer, after_apply, after_archive, after_change, after_release, after_release_by, after_look}
+use Rattle.desk_core.specs.Pen.{after_lay, after_answer, after_apply, after_archive, after_change, after_hand_out, after_release, after_release_by, after_look}
 use Rattle.desk_core.specs.Pen.{after_see, after_take, book_with, book_in_hand, limits_in_hand}
 use Rattle.desk_core.specs.Desk.{Desk, Has, time, with_control, with_cell, locked, freed, with_pen}
 use Rattle.desk_core.specs.declared.model.Standing.TheVariants.{Idle, Waiting}
@@ -39,6 +39,7 @@ pub data Event : Type 0 where
   Applies : (seat : ℕ) (request : Request) (answer : Answer) → Event
   Archives : (seat lines : ℕ) → Event
   Changes : (seat : ℕ) (change : Change) → Event
+  HandsOut : (seat : ℕ) → Event
   Releases : (seat : ℕ) → Event
   ReleasesBy : (seat : ℕ) (operation : Operation) (answer : Answer) → Event
   Looks : (seat : ℕ) → Event
@@ -65,6 +66,7 @@ actor (Answers seat answer) = seat
 actor (Applies seat request answer) = seat
 actor (Archives seat lines) = seat
 actor (Changes seat change) = seat
+actor (HandsOut seat) = seat
 actor (Releases seat) = seat
 actor (ReleasesBy seat operation answer) = seat
 actor (Looks seat) = seat
@@ -148,6 +150,10 @@ StepsChange d seat change d' =
     (p : PenState) × Has d.views seat p × (p.leading ≡ true)
     × (d' ≡ with_pen d seat (after_change p change))
 
+-- A pen hands out the numbers that its releases have woken. No cell changes; it loads the lock.
+abbrev pub StepsHandOut : Desk → ℕ → Desk → Type 0
+StepsHandOut d seat d' = (p : PenState) × Has d.views seat p × (d' ≡ with_pen d seat (after_hand_out p))
+
 -- The leader puts the Book in its hand home, once that has woken whom it is to wake, and frees the lock.
 abbrev pub StepsRelease : Desk → ℕ → Desk → Type 0
 StepsRelease d seat d' =
@@ -201,6 +207,7 @@ Step d (Answers seat answer) d' = StepsAnswer d seat answer d'
 Step d (Applies seat request answer) d' = StepsApply d seat request answer d'
 Step d (Archives seat lines) d' = StepsArchive d seat lines d'
 Step d (Changes seat change) d' = StepsChange d seat change d'
+Step d (HandsOut seat) d' = StepsHandOut d seat d'
 Step d (Releases seat) d' = StepsRelease d seat d'
 Step d (ReleasesBy seat operation answer) d' = StepsReleaseBy d seat operation answer d'
 Step d (Looks seat) d' = StepsLook d seat d'

@@ -8,7 +8,7 @@ ghost use Rattle.desk_core.specs.Dealing.{EveryDealtRunIsLinearizable, DealtOrde
 ghost use Rattle.desk_core.specs.Dealing.{ReachedMeetRule, MovesReach};
 ghost use Rattle.desk_core.specs.Guards.{AskingNeedsGuards, LeadingNeedsGuards};
 ghost use Rattle.desk_core.specs.Keeping.{DraftKeeps, PostKeeps, LeadKeeps, MissKeeps, ReadKeeps, ReadItemKeeps};
-ghost use Rattle.desk_core.specs.Keeping.{LayItemKeeps, AnswerKeeps, ApplyKeeps, ArchiveKeeps, ChangeKeeps, ReleaseKeeps, ReleaseByKeeps, LookKeeps};
+ghost use Rattle.desk_core.specs.Keeping.{LayItemKeeps, AnswerKeeps, ApplyKeeps, ArchiveKeeps, ChangeKeeps, HandOutKeeps, ReleaseKeeps, ReleaseByKeeps, LookKeeps};
 ghost use Rattle.desk_core.specs.Keeping.{SeeItemKeeps, TakeItemKeeps, DueIsNew, PensAreSeated};
 ghost use Rattle.desk_core.specs.Knows.{LeadersKnow, HomeIsKnown, CallsHaveReplies};
 ghost use Rattle.desk_core.specs.Layout.{LockStored, ControlStored, ItemStored, Loaded};
@@ -24,7 +24,7 @@ ghost use Rattle.desk_core.specs.Needs.{OwnRequestNeeds};
 ghost use Rattle.desk_core.specs.Notes.{CatchUpKeeps, WritingKeeps, HearingKeeps, CopyingKeeps};
 ghost use Rattle.desk_core.specs.Rule.{OpeningsMeetRule, EveryStepKeepsRule, DealingKeepsRule, EveryRunMeetsRule};
 ghost use Rattle.desk_core.specs.Tells.{DraftTells, PostTells, TryTells, ReadTells, ReadItemTells, LayItemTells, AnswerTells};
-ghost use Rattle.desk_core.specs.Tells.{ReleaseTells, ReleaseByTells, LookTells, SeeItemTells, TakeItemTells, ApplyTells, ArchiveTells, ChangeTells};
+ghost use Rattle.desk_core.specs.Tells.{ReleaseTells, ReleaseByTells, LookTells, SeeItemTells, TakeItemTells, ApplyTells, ArchiveTells, ChangeTells, HandOutTells};
 ghost use Rattle.desk_core.specs.Positions.{PositionsAreForced};
 ghost use Rattle.desk_core.specs.Times.{EveryDealtRunIsTimed, EveryDealtRunIsWhole, TimesOrderCalls};
 ghost use Rattle.desk_core.specs.Waiters.{NobodySleepsBesideAnItem, EveryRunHasWaiters, MovesKeepWaiters};
@@ -71,6 +71,7 @@ pub fn law_each_step_keeps_the_rule()
     ensures apply { ApplyKeeps }
     ensures archive { ArchiveKeeps }
     ensures change { ChangeKeeps }
+    ensures hand_out { HandOutKeeps }
     ensures release { ReleaseKeeps }
     ensures release_by { ReleaseByKeeps }
     ensures look { LookKeeps }
@@ -97,6 +98,7 @@ pub fn law_each_step_tells()
     ensures apply { ApplyTells }
     ensures archive { ArchiveTells }
     ensures change { ChangeTells }
+    ensures hand_out { HandOutTells }
     ensures release { ReleaseTells }
     ensures release_by { ReleaseByTells }
     ensures look { LookTells }

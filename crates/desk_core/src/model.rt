@@ -79,6 +79,8 @@ pub struct PenState {
     pub allowed: u64,
     /// Who waits at that Book.
     pub waiters: LinkedList<Waiter>,
+    /// The numbers that its releases have woken, and that it has not handed out yet.
+    pub owed: LinkedList<u8>,
     /// The places whose mail it has read in its present or last lead, in order.
     pub dealt: LinkedList<u16>,
     /// The journal that it knows, empty at first: that of its last release, or the whole one with which it has caught

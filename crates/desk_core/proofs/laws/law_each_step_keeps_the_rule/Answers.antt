@@ -19,6 +19,7 @@ returns c =
       apply = kept.apply laws;
       archive = kept.archive;
       change = kept.change;
+      hand_out = kept.hand_out;
       release = kept.release;
       release_by = kept.release_by laws;
       look = kept.look;

@@ -14,6 +14,7 @@ returns c =
       apply = told.apply_tells;
       archive = told.archive_tells;
       change = told.change_tells;
+      hand_out = told.hand_out_tells;
       release = told.release_tells;
       release_by = told.release_by_tells;
       look = told.look_tells;

@@ -34,13 +34,13 @@ use Rattle.pq_book.specs.Stock.{settled_book}
 use Rattle.desk_core.specs.Beyond.{NextIsUnknown}
 use Rattle.desk_core.specs.Dealing.{IsReached, Takes, MovesReach}
 use Rattle.desk_core.specs.Desk.{Desk, Has, time, put, locked, freed, with_control, with_cell, with_pen, dealer_opening}
-use Rattle.desk_core.specs.Steps.{Event, actor, Drafts, Posts, Tries, Reads, ReadsItem, LaysItem, Answers, Applies, Archives, Changes, Releases, ReleasesBy, Looks, SeesItem, TakesItem, Step}
-use Rattle.desk_core.specs.Keeping.{DraftKeeps, PostKeeps, LeadKeeps, MissKeeps, ReadKeeps, ReadItemKeeps, LayItemKeeps, AnswerKeeps, ApplyKeeps, ArchiveKeeps, ChangeKeeps, ReleaseKeeps, ReleaseByKeeps, LookKeeps, SeeItemKeeps, TakeItemKeeps, DueIsNew, PensAreSeated}
+use Rattle.desk_core.specs.Steps.{Event, actor, Drafts, Posts, Tries, Reads, ReadsItem, LaysItem, Answers, Applies, Archives, Changes, HandsOut, Releases, ReleasesBy, Looks, SeesItem, TakesItem, Step}
+use Rattle.desk_core.specs.Keeping.{DraftKeeps, PostKeeps, LeadKeeps, MissKeeps, ReadKeeps, ReadItemKeeps, LayItemKeeps, AnswerKeeps, ApplyKeeps, ArchiveKeeps, ChangeKeeps, HandOutKeeps, ReleaseKeeps, ReleaseByKeeps, LookKeeps, SeeItemKeeps, TakeItemKeeps, DueIsNew, PensAreSeated}
 use Rattle.desk_core.specs.Looking as looking
 use Rattle.desk_core.specs.Knows.{Knows, LeadersKnow, HomeIsKnown}
 use Rattle.desk_core.specs.Clauses.{RuleGivesClauses}
 use Rattle.desk_core.specs.Layout.{lock_at, control_at, item_at, LockStored, ControlStored, ItemStored, Loaded, WordsAreReadBack}
-use Rattle.desk_core.specs.Pen.{IsIdle, IsKept, after_draft, after_post, after_lead, after_miss, after_read, after_read_item, after_lay, after_answer, after_apply, after_archive, after_change, after_release, after_release_by, after_look, after_see, after_take, book_with, book_in_hand, limits_in_hand}
+use Rattle.desk_core.specs.Pen.{IsIdle, IsKept, after_draft, after_post, after_lead, after_miss, after_read, after_read_item, after_lay, after_answer, after_apply, after_archive, after_change, after_hand_out, after_release, after_release_by, after_look, after_see, after_take, book_with, book_in_hand, limits_in_hand}
 use Rattle.desk_core.specs.Rule.{MeetsRule}
 use Rattle.desk_core.specs.Duties.{DutiesAreKept, weight_of}
 use Rattle.desk_core.specs.declared.model.Duty.TheVariants.{Active}
@@ -53,7 +53,7 @@ use Rattle.announce_board.specs.Allowed.{AsMove, AsLook, Plainly, desk_in}
 use Rattle.announce_board.specs.Rule.{Keeps, Seated, desk_of, book_in, book_at_home}
 use Rattle.announce_board.specs.declared.terms.Terms.{Terms}
 use Rattle.announce_board.specs.Slots.{MeetsTerms, Slotted, with_book, says, first_limits}
-use Rattle.announce_board.specs.Steps.{pen_at, StandsAt, WordDrafted, Drafted, PostStored, LockRead, LockTried, ControlRead, MailRead, CellRead, ItemRead, WordLaid, ItemLaid, AnswerStored, Released, HasInSlot, KeepsInSlot, BringsHomeBy, Applied, Archived, Changed, ReleasedWith, Looked, AnswerLooked, WordSeen, ItemSeen, Taken, ItemTaken}
+use Rattle.announce_board.specs.Steps.{pen_at, StandsAt, WordDrafted, Drafted, PostStored, LockRead, LockTried, ControlRead, MailRead, CellRead, ItemRead, WordLaid, ItemLaid, AnswerStored, Released, HasInSlot, KeepsInSlot, BringsHomeBy, Applied, Archived, Changed, HandedOut, ReleasedWith, Looked, AnswerLooked, WordSeen, ItemSeen, Taken, ItemTaken}
 use Rattle.announce_board.proofs.Duties.{acts_on}
 use Rattle.announce_board.proofs.Sums.{length_at}
 use Rattle.announce_board.proofs.Weights.{weighs_on}
@@ -72,6 +72,7 @@ pub record Laws : Type 0 where
   pub apply : ApplyKeeps
   pub archive : ArchiveKeeps
   pub change : ChangeKeeps
+  pub hand_out : HandOutKeeps
   pub release : ReleaseKeeps
   pub release_by : ReleaseByKeeps
   pub look : LookKeeps
@@ -503,6 +504,17 @@ module _ (laws : Laws) (wide : Bool) (roomy : ℕ → Type 0) (room : ℕ) (term
         unchanged s k at lock_at w refl (goes s k at (Changes id change) (with_pen (d s k at) id w) (p, has s k at, leads, refl)) (laws.change (d s k at) id p k.meets (has s k at) change leads),
         inl (Changes id change, refl, (p, has s k at, leads, refl)),
         λ other home. ap (λ v. (Holder v, m.1)) (same_changed p change other (same_book m (book_in_hand w) (book_in_hand (after_change p other)) others (rest m.1) held home)),
+      )
+
+  pub hand_out_allowed : AsMove wide roomy room terms places slots id m lock_at (λ n. n) (HandedOut (step slots lock_at 0 0 none) m)
+  hand_out_allowed s k long at small =
+      let w = after_hand_out p in (
+        Holder w,
+        keeps,
+        tt,
+        unchanged s k at lock_at w refl (goes s k at (HandsOut id) (with_pen (d s k at) id w) (p, has s k at, refl)) (laws.hand_out (d s k at) id p k.meets (has s k at)),
+        inl (HandsOut id, refl, (p, has s k at, refl)),
+        refl,
       )
 
   pub release_looks : (others : List (ℕ × Slotted)) → HasInSlot m (settled_book (book_in_hand p)) others → p.leading ≡ true

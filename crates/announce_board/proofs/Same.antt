@@ -22,7 +22,7 @@ use Rattle.pq_book.specs.Book.{Volume}
 use Rattle.desk_core.specs.Calls.{call_of, gained, gained_by}
 use Rattle.desk_core.specs.declared.model.Call.{Call}
 use Rattle.desk_core.specs.Desk.{put}
-use Rattle.desk_core.specs.Pen.{IsKept, told_full_by, after_apply, after_archive, after_change, after_release_by, book_in_hand, limits_in_hand}
+use Rattle.desk_core.specs.Pen.{IsKept, told_full_by, after_apply, after_archive, after_change, after_release_by, newly_woken, book_with, book_in_hand, limits_in_hand}
 use Rattle.desk_core.specs.declared.model.Standing.{Standing}
 use Rattle.desk_core.specs.declared.model.Standing.TheVariants.{Idle, Waiting}
 use Rattle.desk_core.specs.declared.model.Due.{Due}
@@ -178,7 +178,7 @@ same_full limits hand place serial q r (answer.Refused why) (answer.Refused othe
 
 abbrev ended : PenState → List Call → Bool → List Line → ℕ → PenState
 ended p calls full journal now =
-    record p { posts = p.posts + 1; standing = Idle None; mine = p.mine ++ calls; told_full = full; leading = false; known = journal; begins = p.begins ++ (p.posts + 1, now) ∷ []; ends = p.ends ++ (p.posts + 1, now + 1) ∷ []; steps = p.steps + 1 }
+    record p { posts = p.posts + 1; standing = Idle None; mine = p.mine ++ calls; told_full = full; leading = false; owed = p.owed ++ newly_woken (book_with p journal); known = journal; begins = p.begins ++ (p.posts + 1, now) ∷ []; ends = p.ends ++ (p.posts + 1, now + 1) ∷ []; steps = p.steps + 1 }
 
 -- and so does what the pen is afterwards
 pub same_ended : (now : ℕ) (p : PenState) (q r : Operation) (a b : Answer) → MayDo (limits_in_hand p) p.hand q a → MayDo (limits_in_hand p) p.hand r b

@@ -36,7 +36,7 @@ use Rattle.announce_board.specs.declared.terms.Terms.{Terms}
 use Rattle.announce_board.specs.Slots.{Slotted, says}
 use Rattle.announce_board.specs.Steps.{pen_at, Drafted, PostStored, LockRead, LockTried}
 use Rattle.announce_board.specs.Steps.{MailRead, ItemRead, ItemLaid, AnswerStored, Released}
-use Rattle.announce_board.specs.Steps.{HasInSlot, KeepsInSlot, BringsHomeBy, Applied, Archived, Changed, ReleasedWith, AnswerLooked, ItemSeen, ItemTaken}
+use Rattle.announce_board.specs.Steps.{HasInSlot, KeepsInSlot, BringsHomeBy, Applied, Archived, Changed, HandedOut, ReleasedWith, AnswerLooked, ItemSeen, ItemTaken}
 
 -- how it is said that a step of the seat m is allowed, and tells this: a step on the word at an index, of which it makes f
 -- of what the word was
@@ -151,6 +151,10 @@ ChangeAllowedBy A wide roomy = AtEachPen (λ room terms places slots id m. (othe
     → HasInSlot m (book_in_hand (after_change (pen_at m) change)) others → (pen_at m).leading ≡ true
     → A wide roomy room terms places slots id m lock_at (λ n. n) (Changed (step slots lock_at 0 0 none) m))
 
+abbrev pub HandOutAllowedBy : Form → Bool → (ℕ → Type 0) → Type 0
+HandOutAllowedBy A wide roomy = AtEachPen (λ room terms places slots id m.
+    A wide roomy room terms places slots id m lock_at (λ n. n) (HandedOut (step slots lock_at 0 0 none) m))
+
 -- the slot that is given back has the Book in the pen's hand, once that has woken whom it is to wake
 abbrev pub ReleaseAllowedBy : Form → Bool → (ℕ → Type 0) → Type 0
 ReleaseAllowedBy A wide roomy = AtEachPen (λ room terms places slots id m. (others : List (ℕ × Slotted))
@@ -218,6 +222,9 @@ ArchiveAllowed = ArchiveAllowedBy Plainly
 
 abbrev pub ChangeAllowed : Bool → (ℕ → Type 0) → Type 0
 ChangeAllowed = ChangeAllowedBy Plainly
+
+abbrev pub HandOutAllowed : Bool → (ℕ → Type 0) → Type 0
+HandOutAllowed = HandOutAllowedBy Plainly
 
 abbrev pub ReleaseAllowed : Bool → (ℕ → Type 0) → Type 0
 ReleaseAllowed = ReleaseAllowedBy Plainly

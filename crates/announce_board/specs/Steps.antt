@@ -17,7 +17,7 @@ use Rattle.pq_book.specs.Book.{Volume}
 use Rattle.pq_book.specs.Stock.{settled_book, IsSettledBook}
 use Rattle.desk_core.specs.Pen.{IsKept, after_draft, after_post, after_lead, after_miss, after_read}
 use Rattle.desk_core.specs.Pen.{after_read_item, after_lay, after_answer, after_release}
-use Rattle.desk_core.specs.Pen.{after_apply, after_archive, after_change, after_release_by, after_look, after_see, after_take}
+use Rattle.desk_core.specs.Pen.{after_apply, after_archive, after_change, after_hand_out, after_release_by, after_look, after_see, after_take}
 use Rattle.desk_core.specs.Pen.{book_with, book_in_hand, limits_in_hand}
 use Rattle.desk_core.specs.Dealing.{IsReached}
 use Rattle.desk_core.specs.Desk.{Desk, Has}
@@ -181,6 +181,10 @@ abbrev pub Changed : Step Slotted → Seated → ℕ → Seated → Type 0
 Changed st before word after =
     (change : Change) → HasInSlot before (book_in_hand (after_change (pen_at before) change)) (rest before.1)
     → Becomes before (after_change (pen_at before) change) after
+
+-- the pen handed out the numbers of those whom it has woken, and loaded the lock
+abbrev pub HandedOut : Step Slotted → Seated → ℕ → Seated → Type 0
+HandedOut st before word after = Becomes before (after_hand_out (pen_at before)) after
 
 -- The leader gave the slot back and freed the lock, with an operation of its own that was so answered:
 -- what stood in the slot tells which line, if any, is the last. The leader knew the journal in its hand.

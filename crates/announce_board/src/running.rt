@@ -4,7 +4,7 @@ ghost use Rattle.pq_book.specs.Book.{AllHaveRoom};
 ghost use Rattle.announce_board.specs.Allowed.{AsMove, AsLook, DraftAllowedBy, PostAllowedBy, LockReadAllowedBy, TryAllowedBy};
 ghost use Rattle.announce_board.specs.Allowed.{MailReadAllowedBy, ItemReadAllowedBy, ItemLaidAllowedBy, AnswerAllowedBy};
 ghost use Rattle.announce_board.specs.Allowed.{ReleaseAllowedBy, ReleaseWithAllowedBy, LookAllowedBy, SeeAllowedBy, TakeAllowedBy, ApplyAllowedBy};
-ghost use Rattle.announce_board.specs.Allowed.{ArchiveAllowedBy, ChangeAllowedBy};
+ghost use Rattle.announce_board.specs.Allowed.{ArchiveAllowedBy, ChangeAllowedBy, HandOutAllowedBy};
 ghost use Rattle.announce_board.specs.Running.{TablesAreLinearized, TablesForcePositions};
 
 use desk_core::laws::{
@@ -48,6 +48,7 @@ pub fn law_steps_are_moves<S: Store<Entry<P>>, P: Part>()
     ensures apply { ApplyAllowedBy AsMove P.wide (AllHaveRoom S.room) }
     ensures archive { ArchiveAllowedBy AsMove P.wide (AllHaveRoom S.room) }
     ensures change { ChangeAllowedBy AsMove P.wide (AllHaveRoom S.room) }
+    ensures hand_out { HandOutAllowedBy AsMove P.wide (AllHaveRoom S.room) }
     ensures release { ReleaseAllowedBy AsMove P.wide (AllHaveRoom S.room) }
     ensures release_looks { ReleaseAllowedBy AsLook P.wide (AllHaveRoom S.room) }
     ensures release_with { ReleaseWithAllowedBy AsMove P.wide (AllHaveRoom S.room) }

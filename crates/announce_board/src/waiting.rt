@@ -3,7 +3,7 @@ ghost use Rattle.std.specs.Prelude.{◌≡◌, ◌<◌, true, false, [], ◌∷�
 ghost use Rattle.wait_list.specs.Waiters.{Change, Waits, Leaves, AllLeave, has_number, is_woken_at, without};
 ghost use Rattle.desk_core.specs.declared.model.View.TheVariants.{Holder};
 ghost use Rattle.desk_core.specs.Layout.{lock_at};
-ghost use Rattle.desk_core.specs.Pen.{after_change, book_in_hand};
+ghost use Rattle.desk_core.specs.Pen.{after_change, after_hand_out, book_in_hand};
 ghost use Rattle.announce_board.specs.Slots.{out};
 ghost use Rattle.announce_board.specs.Steps.{pen_at};
 ghost use Rattle.announce_board.specs.Tokens.{IsLeadOf};
@@ -12,7 +12,7 @@ use crate::applying::take_back;
 use crate::boxed_book::BoxedBook;
 use crate::desk::Desk;
 use crate::laws::law_steps_are_allowed;
-use crate::rule::{Board, BoardSeat, ChangeList, Slot};
+use crate::rule::{Board, BoardSeat, ChangeList, HandOut, Slot};
 use crate::tokens::{Lead, Pen};
 use crate::words::LOCK;
 use leftist_heap::Store;
@@ -114,7 +114,28 @@ fn keep_leave_all<S: Store<Entry<P>>, P: Part>(
     keep_changed(board, seat, book)
 }
 
+// The step by which the pen owes nobody a wake from then on.
+fn owe_nobody<S: Store<Entry<P>>, P: Part>(board: &Board<S, P>, seat: &mut BoardSeat<S, P>)
+    requires here { seat.old.table_id ≡ board.now.table_id }
+    requires is { seat.old.me.0 ≡ Holder (pen_at seat.old.me) }
+    requires lock { lock_at < board.now.table_id.words }
+    ensures table { seat.new.table_id ≡ seat.old.table_id }
+    ensures after { seat.new.me ≡ (Holder (after_hand_out (pen_at seat.old.me)), seat.old.me.1) }
+{
+    law_steps_are_allowed::<S, P>();
+    board.load::<HandOut>(seat, LOCK);
+}
+
 impl<S: Store<Entry<P>>, P: Part> Desk<S, P> {
+    /// The pen hands out the numbers of those whom its releases have woken, in one step: from now on it owes nobody a wake, and
+    /// all else is as it was. The caller has their masks from the releases.
+    pub fn hand_out(&self, pen: &mut Pen<S, P>)
+        requires table { pen.old.table ≡ self.now.table }
+        ensures after { pen.new ≡ record pen.old { state = after_hand_out pen.old.state } }
+    {
+        owe_nobody(&self.table.shared, &mut pen.seat);
+    }
+
     /// One with this number, which nobody in the list has, waits for this from now on at the Book of the lead, behind all others.
     /// In one step.
     pub fn wait(

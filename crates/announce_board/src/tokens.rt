@@ -14,6 +14,7 @@ use pq_types::{Item, Line, Part};
 use std::alloc::{Allocator, Global};
 use std::marker::Model;
 use std::snapshot::Snapshot;
+use wait_list::Wants;
 
 /// The right to post at one place of a desk. It goes from thread to thread. A contract sees of it
 /// its desk's table, and what it has done and seen.
@@ -88,6 +89,32 @@ impl<S: Store<Entry<P>>, P: Part> Lead<S, P> {
         ensures { result ≡ is_shut self.now.book.journal }
     {
         self.book.boxed.is_shut()
+    }
+
+    /// Whether a push would be refused as the queue has as many items as its bound, and for nothing else but a full journal.
+    pub fn is_full(&self) -> bool {
+        let terms = self.book.terms();
+        self.items() >= terms.bound && !self.is_shut() && self.lines() < terms.allowed
+    }
+
+    /// Whether one of those who take what is due sleeps until this priority is due at most.
+    pub fn is_watched(&self, first: u64) -> bool {
+        self.book.boxed.is_watched(first)
+    }
+
+    /// The entry with this number leaves those who wait, where there is one.
+    pub fn leave(&mut self, number: u8) {
+        self.book.boxed.leave(number);
+    }
+
+    /// The entries of these numbers leave.
+    pub fn leave_all(&mut self, numbers: u64) {
+        self.book.boxed.leave_all(numbers);
+    }
+
+    /// An entry with this number, which nobody in the list has, waits for this from now on.
+    pub fn wait(&mut self, number: u8, wants: Wants) {
+        self.book.boxed.wait(number, wants);
     }
 
     /// Copies the lines of the journal behind the first so many, which the archive has already, to its

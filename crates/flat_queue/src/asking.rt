@@ -82,6 +82,6 @@ impl<S: Store<Entry<P>>, P: Part> Queue<S, P> {
         requires lead { IsLeadOf (pen_of member.old) lead }
         ensures { member.new ≡ record member.old { pen = after_release member.old.pen } }
     {
-        self.desk.release(&mut member.pen, lead);
+        member.wakes |= self.desk.release(&mut member.pen, lead);
     }
 }

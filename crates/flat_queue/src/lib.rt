@@ -139,6 +139,7 @@ pub mod time_source;
 pub mod times;
 mod until_end;
 pub mod up_to;
+mod wait_steps;
 pub mod waiting;
 
 pub use announce_board::{Note, Testimony};
@@ -165,3 +166,4 @@ pub use taking::Awaited;
 pub use time_source::TimeSource;
 pub use times::Times;
 pub use up_to::UpTo;
+pub use wait_steps::{Entry, Patience};

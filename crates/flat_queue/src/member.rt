@@ -50,6 +50,7 @@ pub struct Member<S: Store<Entry<P>>, P: Part = u32> {
     pub(crate) stopped: Stopped<Waiting>,
     pub(crate) pen: Pen<S, P>,
     pub(crate) rest: Rest,
+    pub(crate) wakes: u64,
 }
 
 impl<S: Store<Entry<P>>, P: Part> Model for Member<S, P> {
@@ -115,6 +116,20 @@ impl<S: Store<Entry<P>>, P: Part> Member<S, P> {
         ensures { result ≡ self.now.pen.posts }
     {
         self.pen.posts()
+    }
+
+    /// Whether its leads have woken numbers that `take_wakes` has not handed out.
+    #[inline(always)]
+    pub fn owes_wakes(&self) -> bool {
+        self.wakes != 0
+    }
+
+    /// Hands out the numbers of those whom its leads have woken, as the bits of a mask: the caller wakes them.
+    #[inline(always)]
+    pub fn take_wakes(&mut self) -> u64 {
+        let wakes = self.wakes;
+        self.wakes = 0;
+        wakes
     }
 
     /// Whether it waits for no answer.

@@ -7,5 +7,5 @@ use crate::contents::QueueMember;
 pub fn owes_wake(member: &QueueMember) -> u32
     ensures { result ≤ 1 }
 {
-    u32::from(member.waiters().owes_wake())
+    u32::from(member.owes_wakes())
 }

@@ -18,6 +18,12 @@ pub const POSTS_SPENT: u32 = 11;
 /// Done, and the whole answer is told.
 pub const TOLD: u32 = 14;
 
+/// Its entry waits.
+pub const ENTERED: u32 = 15;
+
+/// Its entry waits, and it comes back by itself when the first item is due.
+pub const WATCHES: u32 = 16;
+
 /// Members share the queue still.
 pub const MEMBERS_LEFT: u32 = 40;
 

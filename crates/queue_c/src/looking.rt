@@ -15,7 +15,7 @@ use queue_pool::Undone;
 use std::alloc::Global;
 
 // What a call wants, whose first number says whether it takes an item.
-fn wanted_of(takes: u32, priority: u64) -> Wanted
+pub fn wanted_of(takes: u32, priority: u64) -> Wanted
     ensures { result ≡ wanted_of takes priority }
 {
     match takes {

@@ -15,7 +15,7 @@ ghost use Rattle.queue_pool.specs.Shared.{MayCall, UndoneBy, PostsBy, SeesBy, Tr
 ghost use Rattle.queue_pool.specs.Shared.{TriesCallBy, TriesCountBy, TriesTicketBy, TriesRemovalBy, TriesMoveBy, TriesShutBy};
 
 use flat_queue::{
-    ArchiveError, Batch, Counts, DueStage, EventCount, Looked, Member, Popped, Queue, Round, Wanted,
+    ArchiveError, Batch, Counts, Looked, Member, Popped, Queue, Round, Wanted,
 };
 use leftist_heap::{Store, TicketStore};
 use pq_book::Entry;
@@ -32,7 +32,6 @@ use std::sync::Arc;
 pub struct SharedHandle<S: Store<Entry<P>>, P: Part = u32> {
     pub(crate) queue: Arc<Queue<S, P>, Global>,
     pub(crate) member: Member<S, P>,
-    pub(crate) stage: DueStage<Item<P>>,
     pub(crate) most: u64,
 }
 
@@ -76,7 +75,6 @@ impl<S: Store<Entry<P>>, P: Part> SharedHandle<S, P> {
         SharedHandle {
             queue,
             member,
-            stage: DueStage::Announces,
             most,
         }
     }
@@ -110,15 +108,21 @@ impl<S: Store<Entry<P>>, P: Part> SharedHandle<S, P> {
         self.queue.joined()
     }
 
-    /// The event count of its queue, by which it may wait for an item. Its calls count those who may be woken, and wake
-    /// nobody: whoever makes one that led does so thereafter, by `owed_wakes` or `wake_owed`.
-    pub fn waiters(&self) -> &EventCount {
-        self.queue.waiters()
+    /// Whether its calls have woken numbers that `take_wakes` has not handed out.
+    #[inline(always)]
+    pub fn owes_wakes(&self) -> bool {
+        self.member.owes_wakes()
+    }
+
+    /// Hands out the numbers of those whom its calls have woken, as the bits of a mask: the caller wakes them.
+    #[inline(always)]
+    pub fn take_wakes(&mut self) -> u64 {
+        self.member.take_wakes()
     }
 
     // Whether the last request is answered, and a serial left.
     #[inline(always)]
-    fn may_call(&self) -> Result<(), Undone>
+    pub(crate) fn may_call(&self) -> Result<(), Undone>
         ensures may { OnOk result (MayCall self.now) }
         ensures undone { IfErr result (λ why. UndoneBy why self.now self.now × (why ≢ Undone.LockHeld)) }
     {
@@ -299,16 +303,14 @@ impl<S: Store<Entry<P>>, P: Part> SharedHandle<S, P> {
     }
 
     /// The member, which does not lead, and its share of the queue. It waits for no item any more.
-    pub fn into_parts(mut self) -> (Arc<Queue<S, P>, Global>, Member<S, P>)
+    pub fn into_parts(self) -> (Arc<Queue<S, P>, Global>, Member<S, P>)
         ensures queue { arc_value result.0 ≡ self.queue }
         ensures member { result.1 ≡ self }
         ensures led_not { result.1.pen.leading ≡ false }
     {
-        self.end_take();
         let SharedHandle {
             queue,
             member,
-            stage: _,
             most: _,
         } = self;
         (queue, member)

@@ -17,8 +17,10 @@ pub enum Group {
     Watchers(u64),
     /// The alarms that don't ring by the time when this priority is due.
     LateAlarms(u64),
-    /// Those who want room.
+    /// Threads that want room.
     Producers,
+    /// Listeners that want room.
+    RoomListeners,
     Everybody,
 }
 
@@ -35,6 +37,7 @@ impl Group {
             (Group::LateAlarms(_), Wants::Alarm(None)) => true,
             (Group::LateAlarms(first), Wants::Alarm(Some(armed))) => first < armed,
             (Group::Producers, Wants::Room) => true,
+            (Group::RoomListeners, Wants::RoomUp) => true,
             (Group::Everybody, _) => true,
             _ => false,
         }

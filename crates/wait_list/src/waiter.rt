@@ -13,6 +13,8 @@ pub enum Wants {
     Alarm(Option<u64>),
     /// Room for an item.
     Room,
+    /// The same, as a listener.
+    RoomUp,
 }
 
 /// One that waits, or was woken and has not come back.

@@ -158,8 +158,12 @@ fn settle_for_room(waiters: &mut [Waiter], stock: Stock)
 {
     if stock.is_shut {
         wake_all(waiters, Group::Producers);
+        wake_all(waiters, Group::RoomListeners);
     } else if stock.items < stock.bound {
         wake_enough(waiters, 1, Group::Producers);
+        if !any(waiters, Group::Producers) {
+            wake_enough(waiters, stock.bound - stock.items, Group::RoomListeners);
+        }
     }
 }
 

@@ -119,6 +119,14 @@ static void forget(own *forgotten) {
     free(forgotten);
 }
 
+static void forget_unless_it_listens(own *it) {
+    if (!it->listens) {
+        forget(it);
+    } else if (flatpq_thread.last == it) {
+        flatpq_thread.last = &no_own;
+    }
+}
+
 static int is_taken(const own *it) {
     return __atomic_load_n(&it->taken, __ATOMIC_ACQUIRE) == TAKEN;
 }
@@ -156,6 +164,9 @@ static void leave(own *it) {
         pq_member *shared = it->shared;
         pq_unlisten(shared);
         it = find(shared);
+    }
+    if (it == NULL) {
+        return;
     }
     pthread_mutex_lock(&flatpq_members);
     if (is_taken(it)) {
@@ -237,8 +248,8 @@ static COLD pq_code get_own(pq_member *shared, own *taken, uint64_t until, own *
     own *made;
     pq_member *member;
     pq_code code;
-    if (taken != NULL && !listens) {
-        forget(taken);
+    if (taken != NULL) {
+        forget_unless_it_listens(taken);
     }
     if ((made = new_record()) == NULL) {
         return PQ_NO_MEMORY;
@@ -269,14 +280,6 @@ pq_code flatpq_begin_own(pq_member *shared, uint64_t until, own **mine) {
     flatpq_thread.last = it;
     *mine = it;
     return PQ_OK;
-}
-
-static void forget_unless_it_listens(own *it) {
-    if (!it->listens) {
-        forget(it);
-    } else if (flatpq_thread.last == it) {
-        flatpq_thread.last = &no_own;
-    }
 }
 
 /* Ends a call by a member that another thread wants or took over. */

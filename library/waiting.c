@@ -160,10 +160,11 @@ static uint64_t bound_of(const wait *it) {
 }
 
 static int goes_on(const wait *it, pq_code code) {
+    const int is_late = flatpq_is_late(it->until);
     if (code == PQ_NOT_DUE && it->answer->item.priority <= flatpq_due_now(it->queue)) {
         return 1; /* it became due meanwhile */
     }
-    return (code == PQ_EMPTY || code == PQ_NOT_DUE || code == PQ_FULL) && !flatpq_is_late(it->until);
+    return (code == PQ_EMPTY || code == PQ_NOT_DUE || code == PQ_FULL) && !is_late;
 }
 
 /* Looks, or makes a step where it has a number. Where the lock is held until the deadline it tries some times more. */

@@ -102,7 +102,7 @@ fn entered<S: Store<StoreEntry<P>>, P: Part>(
     let (wants, entry) = match patience {
         Patience::Leaves => return Entry::Out,
         Patience::Any => (Wants::Any, Entry::Waits),
-        Patience::UpTo(bound) => (Wants::UpTo(bound), Entry::Waits),
+        Patience::UpTo(bound) => (Wants::UpTo(bound, first), Entry::Waits),
         Patience::Alarm => (Wants::Alarm(first), Entry::Watches),
         Patience::Due => watching(lead, first),
     };

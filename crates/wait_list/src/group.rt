@@ -11,6 +11,10 @@ pub enum Group {
     Threads,
     /// Listeners that could take an item of this priority.
     Listeners(u64),
+    /// Listeners.
+    Hearers,
+    /// Those of them who come back by themselves when they can take an item of this priority, or before.
+    HearWatchers(u64),
     /// Those who take what is due.
     Dues,
     /// Those of them who sleep until this priority is due at most.
@@ -31,7 +35,9 @@ impl Group {
     {
         match (self, wants) {
             (Group::Threads, Wants::Any) => true,
-            (Group::Listeners(first), Wants::UpTo(bound)) => first <= bound,
+            (Group::Listeners(first), Wants::UpTo(bound, _)) => first <= bound,
+            (Group::Hearers, Wants::UpTo(_, _)) => true,
+            (Group::HearWatchers(first), Wants::UpTo(_, Some(seen))) => seen <= first,
             (Group::Dues, Wants::Due(_)) => true,
             (Group::Watchers(first), Wants::Due(Some(watch))) => watch <= first,
             (Group::LateAlarms(_), Wants::Alarm(None)) => true,

@@ -141,6 +141,9 @@ fn wake_listeners(waiters: &mut [Waiter], items: u64, first: u64)
 {
     if !any(waiters, Group::Threads) {
         wake_enough(waiters, items, Group::Listeners(first));
+        if !any_asleep(waiters, Group::HearWatchers(first)) {
+            wake_enough(waiters, 1, Group::Hearers);
+        }
     }
 }
 

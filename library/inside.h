@@ -89,6 +89,7 @@ struct pq_queue {
 
     /* Those that wait, without a lock but for the line. */
     uint64_t numbers __attribute__((aligned(64))); /* that are in use */
+    uint64_t holders;                              /* those of them by which a joined member waits */
     line unnumbered;                               /* threads that wait for one */
     waiter waiters[64];
 
@@ -318,10 +319,12 @@ typedef struct wait {
     int watches;           /* it is to come back by itself once the first item is due */
 } wait;
 
-HIDDEN int flatpq_take_number(pq_queue *queue); /* -1: none is free */
+HIDDEN int flatpq_take_number(pq_queue *queue, const own *mine); /* -1: none is free */
 HIDDEN void flatpq_give_numbers(pq_queue *queue, uint64_t numbers);
 HIDDEN pq_code flatpq_step(wait *it, uint32_t word, uint64_t until);
 HIDDEN attempt flatpq_try_take, flatpq_try_push;
+HIDDEN pq_code flatpq_look_once(wait *it, uint64_t until);
+HIDDEN pq_code flatpq_push_once(wait *it, uint64_t until);
 HIDDEN void flatpq_end_wait(wait *it);  /* its entry leaves */
 HIDDEN pq_code flatpq_wait(wait *it, pq_code code); /* goes on with a wait whose last look came to this */
 HIDDEN void flatpq_end_call(wait *it);

@@ -33,7 +33,7 @@ static void set_listens(listening *it, uint32_t listens) {
 
 /* Gets a number, where it has none. */
 static int begin_listening(listening *it) {
-    int number = flatpq_take_number(it->wait.queue);
+    int number = flatpq_take_number(it->wait.queue, it->wait.mine);
     if (number < 0) {
         return 0;
     }
@@ -93,13 +93,9 @@ static void notify_itself(const listening *it) {
     }
 }
 
-static pq_code take_once(wait *it, uint64_t until) {
-    return flatpq_take_first(it->member, it->priority, until, it->answer);
-}
-
 pq_code pq_take_or_listen(pq_member *member, uint64_t priority, pq_item *item, uint64_t *number, void (*notify)(void *context), void *context) {
     core_answer answer;
-    listening it = { .wait = { .steps = flatpq_try_take, .looks = take_once, .priority = priority, .wants = UP_TO }, .notify = notify, .context = context };
+    listening it = { .wait = { .steps = flatpq_try_take, .looks = flatpq_look_once, .priority = priority, .wants = UP_TO }, .notify = notify, .context = context };
     pq_code code = begin(&it, member, &answer);
     if (code != PQ_OK) {
         return code;
@@ -114,13 +110,9 @@ pq_code pq_take_or_listen(pq_member *member, uint64_t priority, pq_item *item, u
     return code;
 }
 
-static pq_code push_once(wait *it, uint64_t until) {
-    return flatpq_push(it->member, it->item, until, it->answer);
-}
-
 pq_code pq_push_or_listen(pq_member *member, pq_item item, uint64_t *number, void (*notify)(void *context), void *context) {
     core_answer answer;
-    listening it = { .wait = { .steps = flatpq_try_push, .looks = push_once, .item = item, .wants = UP_TO }, .notify = notify, .context = context };
+    listening it = { .wait = { .steps = flatpq_try_push, .looks = flatpq_push_once, .item = item, .wants = UP_TO }, .notify = notify, .context = context };
     pq_code code = begin(&it, member, &answer);
     if (code != PQ_OK) {
         return code;
@@ -179,7 +171,7 @@ static pq_code take_due_or_listen(listening *it, int timer) {
 
 pq_code pq_take_due_or_listen(pq_member *member, int timer, pq_item *item, uint64_t *number) {
     core_answer answer;
-    listening it = { .wait = { .steps = flatpq_try_take, .looks = take_once, .wants = ALARM }, .notify = ring, .context = (void *)(intptr_t)timer };
+    listening it = { .wait = { .steps = flatpq_try_take, .looks = flatpq_look_once, .wants = ALARM }, .notify = ring, .context = (void *)(intptr_t)timer };
     pq_code code = begin(&it, member, &answer);
     if (code == PQ_OK) {
         it.wait.priority = flatpq_due_now(it.wait.queue);

@@ -12,7 +12,7 @@
  * Numbers.
  */
 
-int flatpq_take_number(pq_queue *queue) {
+static int free_number(pq_queue *queue) {
     uint64_t used = __atomic_load_n(&queue->numbers, SEQ);
     while (~used != 0) {
         uint64_t first = ~used & (used + 1);
@@ -23,11 +23,22 @@ int flatpq_take_number(pq_queue *queue) {
     return -1;
 }
 
+static int held(pq_queue *queue, int number, const own *mine) {
+    if (number >= 0 && mine == NULL) {
+        __atomic_fetch_or(&queue->holders, (uint64_t)1 << number, SEQ);
+    }
+    return number;
+}
+
+int flatpq_take_number(pq_queue *queue, const own *mine) {
+    return __atomic_load_n(&queue->unnumbered.first, SEQ) == NULL ? held(queue, free_number(queue), mine) : -1;
+}
+
 /* Threads in the line get the numbers that are free, under the lock of members. */
 static void serve_line(pq_queue *queue) {
     wanting *first = queue->unnumbered.first;
     int number;
-    while (first != NULL && (number = flatpq_take_number(queue)) >= 0) {
+    while (first != NULL && (number = free_number(queue)) >= 0) {
         flatpq_take_from_line(&queue->unnumbered, first);
         __atomic_store_n(&first->is_served, (uint32_t)number + 1, SEQ);
         flatpq_wake(&first->is_served);
@@ -37,6 +48,7 @@ static void serve_line(pq_queue *queue) {
 
 void flatpq_give_numbers(pq_queue *queue, uint64_t numbers) {
     if (numbers != 0) {
+        __atomic_fetch_and(&queue->holders, ~numbers, SEQ);
         __atomic_fetch_and(&queue->numbers, ~numbers, SEQ);
         if (__atomic_load_n(&queue->unnumbered.first, SEQ) != NULL) {
             pthread_mutex_lock(&flatpq_members);
@@ -65,13 +77,21 @@ static void give_up_member(wait *it) {
     }
 }
 
+/* Where it has to wait for a member, one that waits and holds one is to look in its place. */
 static pq_code get_member(wait *it) {
     pq_member *member = &it->queue->own;
     pq_code code;
     if (it->member != NULL) {
         return PQ_OK;
     }
-    code = flatpq_begin(&member, it->until, &it->mine);
+    code = flatpq_begin(&member, PQ_NOW, &it->mine);
+    if (code == PQ_TIMED_OUT && !flatpq_is_late(it->until)) {
+        if (__atomic_load_n(&it->queue->holders, SEQ) != 0) {
+            flatpq_end_wait(it);
+        }
+        member = &it->queue->own;
+        code = flatpq_begin(&member, it->until, &it->mine);
+    }
     if (code == PQ_OK) {
         it->member = member;
         __atomic_fetch_sub(&it->queue->waiting, 1, SEQ);
@@ -105,10 +125,11 @@ static void wait_for_number(wait *it) {
     }
     it->has_number = asked.is_served != 0;
     it->number = asked.is_served - 1;
+    held(queue, (int)it->number, it->mine);
 }
 
 static pq_code get_number(wait *it) {
-    int number = __atomic_load_n(&it->queue->unnumbered.first, SEQ) == NULL ? flatpq_take_number(it->queue) : -1;
+    int number = flatpq_take_number(it->queue, it->mine);
     it->has_number = number >= 0;
     it->number = (uint32_t)number;
     if (it->has_number) {
@@ -211,13 +232,13 @@ uint64_t flatpq_due_now(const pq_queue *queue) {
     return __builtin_add_overflow(queue->time_zero, pq_now() / queue->time_unit, &priority) ? UINT64_MAX : priority;
 }
 
-static pq_code look_once(wait *it, uint64_t until) {
+pq_code flatpq_look_once(wait *it, uint64_t until) {
     return flatpq_take_first(it->member, it->priority, until, it->answer);
 }
 
 INLINE pq_code wait_by(uint32_t wants, pq_member *member, pq_item *item, uint64_t until, uint64_t *number) {
     core_answer answer;
-    wait it = { .member = member, .steps = flatpq_try_take, .looks = look_once, .answer = &answer, .until = until, .wants = wants };
+    wait it = { .member = member, .steps = flatpq_try_take, .looks = flatpq_look_once, .answer = &answer, .until = until, .wants = wants };
     pq_code code = flatpq_begin(&it.member, until, &it.mine);
     if (code != PQ_OK) {
         return code;

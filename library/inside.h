@@ -319,15 +319,16 @@ typedef struct wait {
     int watches;           /* it is to come back by itself once the first item is due */
 } wait;
 
-HIDDEN int flatpq_take_number(pq_queue *queue, const own *mine); /* -1: none is free */
+HIDDEN int flatpq_take_number(wait *it); /* 0: none is free */
 HIDDEN void flatpq_give_numbers(pq_queue *queue, uint64_t numbers);
-HIDDEN pq_code flatpq_step(wait *it, uint32_t word, uint64_t until);
+HIDDEN pq_code flatpq_begin_wait(wait *it, pq_member *member);
+HIDDEN pq_code flatpq_step(wait *it, uint32_t word, uint64_t until); /* one step, by a word that is set before its entry is made */
 HIDDEN attempt flatpq_try_take, flatpq_try_push;
 HIDDEN pq_code flatpq_look_once(wait *it, uint64_t until);
 HIDDEN pq_code flatpq_push_once(wait *it, uint64_t until);
 HIDDEN void flatpq_end_wait(wait *it);  /* its entry leaves */
 HIDDEN pq_code flatpq_wait(wait *it, pq_code code); /* goes on with a wait whose last look came to this */
-HIDDEN void flatpq_end_call(wait *it);
+HIDDEN void flatpq_end_waiting(wait *it);
 HIDDEN void flatpq_count_waiting(pq_queue *queue, uint32_t more);
 HIDDEN uint64_t flatpq_due_time(const pq_queue *queue, uint64_t priority); /* at which an item of this priority is due */
 HIDDEN uint64_t flatpq_due_now(const pq_queue *queue);                     /* the greatest priority that is due */

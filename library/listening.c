@@ -10,119 +10,105 @@
 
 #include <sys/timerfd.h>
 
-/* A call that listens. `listens` is of the member, or of the thread's record of its own. */
+/* A call that listens. */
 typedef struct listening {
     wait wait;
-    uint32_t *listens;
+    waiter *waits;
     void (*notify)(void *context);
     void *context;
     int is_notified; /* it listened, and was notified meanwhile */
 } listening;
 
-static waiter *waiter_of(const listening *it) {
-    return &it->wait.queue->waiters[it->wait.number];
+/* Where it stands that a member listens, or a thread by its own: 1 and its number. */
+static uint32_t *listens_of(pq_member *member, own *mine) {
+    return mine != NULL ? &mine->listens : &member->listens;
 }
 
-/* The record listens, or does so no more. */
-static void set_listens(listening *it, uint32_t listens) {
-    *it->listens = listens;
-    if (it->wait.mine != NULL) {
-        __atomic_fetch_add(&it->wait.queue->waiting, listens != 0 ? 1 : UINT32_MAX, SEQ);
+static void set_listens(wait *it, uint32_t listens) {
+    *listens_of(it->member, it->mine) = listens;
+    if (it->mine != NULL) {
+        __atomic_fetch_add(&it->queue->waiting, listens != 0 ? 1 : UINT32_MAX, SEQ);
     }
-}
-
-/* Gets a number, where it has none. */
-static int begin_listening(listening *it) {
-    int number = flatpq_take_number(it->wait.queue, it->wait.mine);
-    if (number < 0) {
-        return 0;
-    }
-    it->wait.number = (uint32_t)number;
-    it->wait.has_number = 1;
-    set_listens(it, (uint32_t)number + 1);
-    return 1;
 }
 
 static void end_listening(listening *it) {
-    if (*it->listens) {
-        it->is_notified = !flatpq_claim(waiter_of(it));
+    if (it->wait.has_number) {
+        it->is_notified = !flatpq_claim(it->waits);
         flatpq_end_wait(&it->wait);
-        set_listens(it, 0);
+        set_listens(&it->wait, 0);
     }
 }
 
+static int is_over(pq_code code) {
+    return code != PQ_EMPTY && code != PQ_NOT_DUE && code != PQ_FULL;
+}
+
 static pq_code listen(listening *it) {
-    pq_code code = PQ_EMPTY;
-    if (!*it->listens) {
-        code = it->wait.looks(&it->wait, AT_ONCE);
-        if (code != PQ_EMPTY && code != PQ_NOT_DUE && code != PQ_FULL) {
+    wait *waits = &it->wait;
+    pq_code code;
+    if (!waits->has_number) {
+        code = waits->looks(waits, AT_ONCE);
+        if (is_over(code)) {
             return code;
         }
-        if (!begin_listening(it)) {
+        if (!flatpq_take_number(waits)) {
             return PQ_ALL_JOINED;
         }
-    } else {
-        flatpq_claim(waiter_of(it));
+        set_listens(waits, waits->number + 1);
     }
-    waiter_of(it)->notify = it->notify;
-    waiter_of(it)->context = it->context;
-    code = flatpq_step(&it->wait, LISTENS, AT_ONCE);
-    if (code != PQ_EMPTY && code != PQ_NOT_DUE && code != PQ_FULL) {
+    it->waits = &waits->queue->waiters[waits->number];
+    flatpq_claim(it->waits);
+    it->waits->notify = it->notify;
+    it->waits->context = it->context;
+    code = flatpq_step(waits, LISTENS, AT_ONCE);
+    if (is_over(code)) {
         end_listening(it);
     }
     return code;
 }
 
-static pq_code begin(listening *it, pq_member *member, core_answer *answer) {
-    pq_code code = flatpq_begin(&member, PQ_NOW, &it->wait.mine);
+static pq_code begin(listening *it, pq_member *member) {
+    wait *waits = &it->wait;
+    pq_code code = flatpq_begin_wait(waits, member);
     if (code == PQ_OK) {
-        it->wait.queue = member->queue;
-        it->wait.member = member;
-        it->wait.answer = answer;
-        it->listens = it->wait.mine != NULL ? &it->wait.mine->listens : &member->listens;
-        it->wait.number = *it->listens - 1;
-        it->wait.has_number = it->wait.is_in = *it->listens != 0;
+        const uint32_t listens = *listens_of(waits->member, waits->mine);
+        waits->number = listens - 1;
+        waits->has_number = waits->is_in = listens != 0;
     }
     return code;
 }
 
-/* Another thread had the lock for long: the call is to be made again. */
-static void notify_itself(const listening *it) {
-    if (!it->is_notified) {
-        it->notify(it->context);
+/* Where another thread has the lock for long the call is to be made again, and else comes to this. */
+static pq_code listen_by(listening *it, pq_member *member, pq_code none) {
+    pq_code code = begin(it, member);
+    if (code != PQ_OK) {
+        return code;
     }
+    code = listen(it);
+    flatpq_end(it->wait.mine);
+    if (code == PQ_TIMED_OUT) {
+        if (!it->is_notified) {
+            it->notify(it->context);
+        }
+        return none;
+    }
+    return code;
 }
 
 pq_code pq_take_or_listen(pq_member *member, uint64_t priority, pq_item *item, uint64_t *number, void (*notify)(void *context), void *context) {
     core_answer answer;
-    listening it = { .wait = { .steps = flatpq_try_take, .looks = flatpq_look_once, .priority = priority, .wants = UP_TO }, .notify = notify, .context = context };
-    pq_code code = begin(&it, member, &answer);
-    if (code != PQ_OK) {
-        return code;
-    }
-    code = listen(&it);
-    flatpq_end(it.wait.mine);
-    if (code == PQ_TIMED_OUT) {
-        notify_itself(&it);
-        return PQ_EMPTY;
-    }
+    listening it = { .wait = { .steps = flatpq_try_take, .looks = flatpq_look_once, .answer = &answer, .priority = priority, .wants = UP_TO },
+        .notify = notify, .context = context };
+    pq_code code = listen_by(&it, member, PQ_EMPTY);
     flatpq_return_first(code, &answer, item, number);
     return code;
 }
 
 pq_code pq_push_or_listen(pq_member *member, pq_item item, uint64_t *number, void (*notify)(void *context), void *context) {
     core_answer answer;
-    listening it = { .wait = { .steps = flatpq_try_push, .looks = flatpq_push_once, .item = item, .wants = UP_TO }, .notify = notify, .context = context };
-    pq_code code = begin(&it, member, &answer);
-    if (code != PQ_OK) {
-        return code;
-    }
-    code = listen(&it);
-    flatpq_end(it.wait.mine);
-    if (code == PQ_TIMED_OUT) {
-        notify_itself(&it);
-        return PQ_FULL;
-    }
+    listening it = { .wait = { .steps = flatpq_try_push, .looks = flatpq_push_once, .answer = &answer, .item = item, .wants = UP_TO },
+        .notify = notify, .context = context };
+    pq_code code = listen_by(&it, member, PQ_FULL);
     if (code == PQ_OK && number != NULL) {
         *number = answer.number;
     }
@@ -149,33 +135,34 @@ static void ring(void *context) {
     set_timer((int)(intptr_t)context, over);
 }
 
-static pq_code take_due_or_listen(listening *it, int timer) {
+/* Sets the timer of an alarm that came to this. */
+static pq_code arm(listening *it, int timer, pq_code code) {
     const uint64_t soon = 100000;
-    pq_code code = listen(it);
     if (code == PQ_TIMED_OUT) {
         /* Another thread had the lock for long: this call is to be made again. */
         return set_timer(timer, pq_after(soon)) ? PQ_EMPTY : PQ_NO_TIMER;
     }
-    if (code == PQ_EMPTY || code == PQ_NOT_DUE) {
-        uint64_t time = code == PQ_EMPTY ? PQ_FOREVER : flatpq_due_time(it->wait.queue, it->wait.answer->item.priority);
-        if (!set_timer(timer, time)) {
-            end_listening(it);
-            return PQ_NO_TIMER;
-        }
-        if (__atomic_load_n(&waiter_of(it)->word, SEQ) != LISTENS) {
-            ring(it->context);
-        }
+    if (is_over(code)) {
+        return code;
+    }
+    if (!set_timer(timer, code == PQ_EMPTY ? PQ_FOREVER : flatpq_due_time(it->wait.queue, it->wait.answer->item.priority))) {
+        end_listening(it);
+        return PQ_NO_TIMER;
+    }
+    if (__atomic_load_n(&it->waits->word, SEQ) != LISTENS) {
+        ring(it->context);
     }
     return code;
 }
 
 pq_code pq_take_due_or_listen(pq_member *member, int timer, pq_item *item, uint64_t *number) {
     core_answer answer;
-    listening it = { .wait = { .steps = flatpq_try_take, .looks = flatpq_look_once, .wants = ALARM }, .notify = ring, .context = (void *)(intptr_t)timer };
-    pq_code code = begin(&it, member, &answer);
+    listening it = { .wait = { .steps = flatpq_try_take, .looks = flatpq_look_once, .answer = &answer, .wants = ALARM },
+        .notify = ring, .context = (void *)(intptr_t)timer };
+    pq_code code = begin(&it, member);
     if (code == PQ_OK) {
         it.wait.priority = flatpq_due_now(it.wait.queue);
-        code = take_due_or_listen(&it, timer);
+        code = arm(&it, timer, listen(&it));
         flatpq_end(it.wait.mine);
         flatpq_return_first(code, &answer, item, number);
     }
@@ -188,40 +175,42 @@ pq_code pq_take_due_or_listen(pq_member *member, int timer, pq_item *item, uint6
 
 /* Without a member the queue may be gone after this. */
 int flatpq_unlisten(pq_queue *queue, pq_member *member, own *mine) {
-    uint32_t *listens = mine != NULL ? &mine->listens : &member->listens;
-    int listened = 0;
-    if (*listens) {
-        const uint32_t number = *listens - 1;
-        listened = flatpq_claim(&queue->waiters[number]);
-        flatpq_leave_waiting(queue, member, number);
-        *listens = 0;
-        if (member == NULL) {
-            flatpq_count_waiting(queue, UINT32_MAX);
-        } else if (mine != NULL) {
-            __atomic_fetch_sub(&queue->waiting, 1, SEQ);
-        }
-    }
-    return listened;
-}
-
-static int unlisten_own(pq_member *shared) {
-    pq_member *member = shared;
-    own *mine = flatpq_own_of(shared);
+    wait it = { .queue = queue, .member = member, .mine = mine, .is_in = 1 };
+    const uint32_t listens = *listens_of(member, mine);
     int listened;
-    if (mine == NULL || !mine->listens) {
+    if (!listens) {
         return 0;
     }
-    if (flatpq_begin(&member, PQ_NOW, &mine) != PQ_OK) {
-        return flatpq_unlisten(shared->queue, NULL, flatpq_own_of(shared));
+    it.number = listens - 1;
+    listened = flatpq_claim(&queue->waiters[it.number]);
+    flatpq_end_wait(&it);
+    if (member != NULL) {
+        set_listens(&it, 0);
+    } else {
+        mine->listens = 0;
+        flatpq_count_waiting(queue, UINT32_MAX);
     }
-    listened = flatpq_unlisten(shared->queue, member, mine);
-    flatpq_end(mine);
     return listened;
 }
 
 int pq_unlisten(pq_member *member) {
+    pq_member *its = member;
+    own *mine;
+    int listened;
     if (member == NULL || flatpq_special & FORKED) {
         return 0;
     }
-    return member->is_shared ? unlisten_own(member) : flatpq_unlisten(member->queue, member, NULL);
+    if (!member->is_shared) {
+        return flatpq_unlisten(member->queue, member, NULL);
+    }
+    mine = flatpq_own_of(member);
+    if (mine == NULL || !mine->listens) {
+        return 0;
+    }
+    if (flatpq_begin(&its, PQ_NOW, &mine) != PQ_OK) {
+        return flatpq_unlisten(member->queue, NULL, flatpq_own_of(member));
+    }
+    listened = flatpq_unlisten(member->queue, its, mine);
+    flatpq_end(mine);
+    return listened;
 }

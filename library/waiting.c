@@ -3,6 +3,7 @@
  *
  * A thread that waits gets a number of the queue, makes a step, and sleeps until its word changes. The step takes its entry out of the list of those
  * that wait, looks for an item, and enters it again, all under the queue's lock. A thread that sleeps by its own member gives that up meanwhile.
+ * Where all numbers are in use a thread waits for one in a line.
  *
  * Of those that take what is due one watches: it sleeps until the first item is due. Where its entry leaves, another is woken, which then watches.
  */
@@ -23,39 +24,56 @@ static int free_number(pq_queue *queue) {
     return -1;
 }
 
-static int held(pq_queue *queue, int number, const own *mine) {
-    if (number >= 0 && mine == NULL) {
-        __atomic_fetch_or(&queue->holders, (uint64_t)1 << number, SEQ);
+/* It has this number; -1: none. */
+static int has(wait *it, int number) {
+    it->has_number = number >= 0;
+    it->number = (uint32_t)number;
+    if (it->has_number && it->mine == NULL) {
+        __atomic_fetch_or(&it->queue->holders, (uint64_t)1 << number, SEQ);
     }
-    return number;
+    return it->has_number;
 }
 
-int flatpq_take_number(pq_queue *queue, const own *mine) {
-    return __atomic_load_n(&queue->unnumbered.first, SEQ) == NULL ? held(queue, free_number(queue), mine) : -1;
+int flatpq_take_number(wait *it) {
+    return has(it, __atomic_load_n(&it->queue->unnumbered.first, SEQ) == NULL ? free_number(it->queue) : -1);
 }
 
 /* Threads in the line get the numbers that are free, under the lock of members. */
 static void serve_line(pq_queue *queue) {
-    wanting *first = queue->unnumbered.first;
+    wanting *first;
     int number;
-    while (first != NULL && (number = free_number(queue)) >= 0) {
+    while ((first = queue->unnumbered.first) != NULL && (number = free_number(queue)) >= 0) {
         flatpq_take_from_line(&queue->unnumbered, first);
         __atomic_store_n(&first->is_served, (uint32_t)number + 1, SEQ);
         flatpq_wake(&first->is_served);
-        first = queue->unnumbered.first;
     }
 }
 
 void flatpq_give_numbers(pq_queue *queue, uint64_t numbers) {
-    if (numbers != 0) {
-        __atomic_fetch_and(&queue->holders, ~numbers, SEQ);
-        __atomic_fetch_and(&queue->numbers, ~numbers, SEQ);
-        if (__atomic_load_n(&queue->unnumbered.first, SEQ) != NULL) {
-            pthread_mutex_lock(&flatpq_members);
-            serve_line(queue);
-            flatpq_unlock(queue);
-        }
+    __atomic_fetch_and(&queue->holders, ~numbers, SEQ);
+    __atomic_fetch_and(&queue->numbers, ~numbers, SEQ);
+    if (__atomic_load_n(&queue->unnumbered.first, SEQ) != NULL) {
+        pthread_mutex_lock(&flatpq_members);
+        serve_line(queue);
+        flatpq_unlock(queue);
     }
+}
+
+/* Waits for a number until then, if none is free. */
+static void wait_for_number(wait *it) {
+    pq_queue *queue = it->queue;
+    wanting asked = { NULL, NULL, NULL, NULL, PQ_OK, 0 };
+    pthread_mutex_lock(&flatpq_members);
+    flatpq_put_into_line(&queue->unnumbered, &asked);
+    serve_line(queue);
+    flatpq_unlock(queue);
+    flatpq_sleep(&asked.is_served, 0, it->until);
+    pthread_mutex_lock(&flatpq_members);
+    if (asked.is_served == 0) {
+        flatpq_take_from_line(&queue->unnumbered, &asked);
+    }
+    pthread_mutex_unlock(&flatpq_members);
+    has(it, (int)asked.is_served - 1);
 }
 
 /*
@@ -69,6 +87,15 @@ void flatpq_count_waiting(pq_queue *queue, uint32_t more) {
     flatpq_unlock(queue);
 }
 
+pq_code flatpq_begin_wait(wait *it, pq_member *member) {
+    pq_code code = flatpq_begin(&member, it->until, &it->mine);
+    if (code == PQ_OK) {
+        it->queue = member->queue;
+        it->member = member;
+    }
+    return code;
+}
+
 static void give_up_member(wait *it) {
     if (it->mine != NULL) {
         __atomic_fetch_add(&it->queue->waiting, 1, SEQ);
@@ -77,67 +104,41 @@ static void give_up_member(wait *it) {
     }
 }
 
-/* Where it has to wait for a member, one that waits and holds one is to look in its place. */
 static pq_code get_member(wait *it) {
-    pq_member *member = &it->queue->own;
+    const uint64_t until = it->until;
     pq_code code;
     if (it->member != NULL) {
         return PQ_OK;
     }
-    code = flatpq_begin(&member, PQ_NOW, &it->mine);
-    if (code == PQ_TIMED_OUT && !flatpq_is_late(it->until)) {
+    it->until = PQ_NOW;
+    code = flatpq_begin_wait(it, &it->queue->own);
+    it->until = until;
+    if (code == PQ_TIMED_OUT && !flatpq_is_late(until)) {
         if (__atomic_load_n(&it->queue->holders, SEQ) != 0) {
-            flatpq_end_wait(it);
+            flatpq_end_wait(it); /* one that waits and holds a member is to look in its place */
         }
-        member = &it->queue->own;
-        code = flatpq_begin(&member, it->until, &it->mine);
+        code = flatpq_begin_wait(it, &it->queue->own);
     }
-    if (code == PQ_OK) {
-        it->member = member;
-        __atomic_fetch_sub(&it->queue->waiting, 1, SEQ);
-    }
+    __atomic_fetch_sub(&it->queue->waiting, code == PQ_OK, SEQ);
     return code;
 }
 
-void flatpq_end_call(wait *it) {
-    if (it->member != NULL) {
-        flatpq_end(it->mine);
-    } else {
-        flatpq_count_waiting(it->queue, UINT32_MAX);
-    }
-}
-
-/* Waits for a number until then, if none is free. */
-static void wait_for_number(wait *it) {
-    pq_queue *queue = it->queue;
-    wanting asked = { NULL, NULL, NULL, NULL, PQ_OK, 0 };
-    pthread_mutex_lock(&flatpq_members);
-    flatpq_put_into_line(&queue->unnumbered, &asked);
-    serve_line(queue);
-    flatpq_unlock(queue);
-    flatpq_sleep(&asked.is_served, 0, it->until);
-    if (__atomic_load_n(&asked.is_served, SEQ) == 0) {
-        pthread_mutex_lock(&flatpq_members);
-        if (asked.is_served == 0) {
-            flatpq_take_from_line(&queue->unnumbered, &asked);
-        }
-        pthread_mutex_unlock(&flatpq_members);
-    }
-    it->has_number = asked.is_served != 0;
-    it->number = asked.is_served - 1;
-    held(queue, (int)it->number, it->mine);
-}
-
 static pq_code get_number(wait *it) {
-    int number = flatpq_take_number(it->queue, it->mine);
-    it->has_number = number >= 0;
-    it->number = (uint32_t)number;
-    if (it->has_number) {
+    if (flatpq_take_number(it)) {
         return PQ_OK;
     }
     give_up_member(it);
     wait_for_number(it);
     return get_member(it);
+}
+
+/* Ends a call that waited. */
+void flatpq_end_waiting(wait *it) {
+    if (it->member != NULL) {
+        flatpq_end(it->mine);
+    } else {
+        flatpq_count_waiting(it->queue, UINT32_MAX);
+    }
 }
 
 /*
@@ -153,7 +154,10 @@ pq_code flatpq_try_take(void *asked) {
     return LEAVE_OUT(pq_core_take_or_wait(&it->member->proved, it->number, it->priority, it->wants, it->answer));
 }
 
-/* One step, by a word that is set before its entry is made. */
+pq_code flatpq_look_once(wait *it, uint64_t until) {
+    return flatpq_take_first(it->member, it->priority, until, it->answer);
+}
+
 pq_code flatpq_step(wait *it, uint32_t word, uint64_t until) {
     pq_code code;
     __atomic_store_n(&it->queue->waiters[it->number].word, word, SEQ);
@@ -176,10 +180,6 @@ void flatpq_end_wait(wait *it) {
     it->is_in = it->has_number = 0;
 }
 
-static uint64_t bound_of(const wait *it) {
-    return it->wants == DUE ? flatpq_due_now(it->queue) : UINT64_MAX;
-}
-
 static int goes_on(const wait *it, pq_code code) {
     const int is_late = flatpq_is_late(it->until);
     if (code == PQ_NOT_DUE && it->answer->item.priority <= flatpq_due_now(it->queue)) {
@@ -188,15 +188,16 @@ static int goes_on(const wait *it, pq_code code) {
     return (code == PQ_EMPTY || code == PQ_NOT_DUE || code == PQ_FULL) && !is_late;
 }
 
+static pq_code look_until(wait *it, uint64_t until) {
+    return it->has_number ? flatpq_step(it, SLEEPING, until) : it->looks(it, until);
+}
+
 /* Looks, or makes a step where it has a number. Where the lock is held until the deadline it tries some times more. */
 static pq_code look(wait *it) {
     pq_code code;
-    it->priority = bound_of(it);
-    code = it->has_number ? flatpq_step(it, SLEEPING, it->until) : it->looks(it, it->until);
-    if (code == PQ_TIMED_OUT) {
-        code = it->has_number ? flatpq_step(it, SLEEPING, AT_ONCE) : it->looks(it, AT_ONCE);
-    }
-    return code;
+    it->priority = it->wants == DUE ? flatpq_due_now(it->queue) : UINT64_MAX;
+    code = look_until(it, it->until);
+    return code == PQ_TIMED_OUT ? look_until(it, AT_ONCE) : code;
 }
 
 static pq_code sleep_on(wait *it) {
@@ -232,32 +233,27 @@ uint64_t flatpq_due_now(const pq_queue *queue) {
     return __builtin_add_overflow(queue->time_zero, pq_now() / queue->time_unit, &priority) ? UINT64_MAX : priority;
 }
 
-pq_code flatpq_look_once(wait *it, uint64_t until) {
-    return flatpq_take_first(it->member, it->priority, until, it->answer);
-}
-
-INLINE pq_code wait_by(uint32_t wants, pq_member *member, pq_item *item, uint64_t until, uint64_t *number) {
+INLINE pq_code take_by(uint32_t wants, pq_member *member, pq_item *item, uint64_t until, uint64_t *number) {
     core_answer answer;
-    wait it = { .member = member, .steps = flatpq_try_take, .looks = flatpq_look_once, .answer = &answer, .until = until, .wants = wants };
-    pq_code code = flatpq_begin(&it.member, until, &it.mine);
+    wait it = { .steps = flatpq_try_take, .looks = flatpq_look_once, .answer = &answer, .until = until, .wants = wants };
+    pq_code code = flatpq_begin_wait(&it, member);
     if (code != PQ_OK) {
         return code;
     }
-    it.queue = it.member->queue;
     flatpq_unlisten(it.queue, it.member, it.mine);
     code = look(&it);
     if (goes_on(&it, code)) {
         code = flatpq_wait(&it, code);
     }
-    flatpq_end_call(&it);
+    flatpq_end_waiting(&it);
     flatpq_return_first(code, &answer, item, number);
     return code;
 }
 
 pq_code pq_take(pq_member *member, pq_item *item, uint64_t until, uint64_t *number) {
-    return wait_by(ANY, member, item, until, number);
+    return take_by(ANY, member, item, until, number);
 }
 
 pq_code pq_take_due(pq_member *member, pq_item *item, uint64_t until, uint64_t *number) {
-    return wait_by(DUE, member, item, until, number);
+    return take_by(DUE, member, item, until, number);
 }

@@ -6,7 +6,7 @@
 
 pq_code flatpq_try_push(void *asked) {
     wait *it = asked;
-    const uint32_t listens = it->wants != 0;
+    const uint32_t listens = it->wants != ROOM;
     pq_code code = flatpq_before(it->member);
     if (code != PQ_OK) {
         return code;

@@ -90,7 +90,8 @@ struct pq_queue {
     /* Those that wait, without a lock but for the line. */
     uint64_t numbers __attribute__((aligned(64))); /* that are in use */
     uint64_t holders;                              /* those of them by which a joined member waits */
-    line unnumbered;                               /* threads that wait for one */
+    uint32_t in_line;                              /* threads that wait for one, */
+    line unnumbered[4];                            /* by what they want */
     waiter waiters[64];
 
     /* What is archived, without a lock (durable.c). */
@@ -301,7 +302,7 @@ INLINE void flatpq_carried_out(pq_member *member, const core_answer *answer) {
 /*
  * waiting.c: a thread waits for an item. bounded.c: for room. listening.c: it listens.
  */
-enum { ANY = 1, UP_TO = 2, DUE = 3, ALARM = 4 };
+enum { ROOM = 0, ANY = 1, DUE = 2, UP_TO = 3, ALARM = 4 };
 
 typedef struct wait {
     pq_queue *queue;

@@ -158,7 +158,7 @@ void flatpq_put_into_line(line *into, wanting *it) {
         into->end = &into->first;
     }
     it->at = into->end;
-    __atomic_store_n(into->end, it, SEQ);
+    *into->end = it;
     into->end = &it->next;
 }
 

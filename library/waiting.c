@@ -3,7 +3,7 @@
  *
  * A thread that waits gets a number of the queue, makes a step, and sleeps until its word changes. The step takes its entry out of the list of those
  * that wait, looks for an item, and enters it again, all under the queue's lock. A thread that sleeps by its own member gives that up meanwhile.
- * Where all numbers are in use a thread waits for one in a line.
+ * Where all numbers are in use a thread waits for one, in a line of those that wait for the same.
  *
  * Of those that take what is due one watches: it sleeps until the first item is due. Where its entry leaves, another is woken, which then watches.
  */
@@ -13,12 +13,15 @@
  * Numbers.
  */
 
-static int free_number(pq_queue *queue) {
-    uint64_t used = __atomic_load_n(&queue->numbers, SEQ);
-    while (~used != 0) {
-        uint64_t first = ~used & (used + 1);
-        if (__atomic_compare_exchange_n(&queue->numbers, &used, used | first, 0, SEQ, SEQ)) {
-            return __builtin_ctzll(first);
+/* Threads that wait for the same have a number of their own beside those of all. So where one stands in the line, another is in the list. */
+static int free_number(pq_queue *queue, uint32_t wants) {
+    const uint64_t one = 1, of_all = (one << 61) - 1;
+    static const uint64_t of_its_own[] = { [ROOM] = one << 61, [ANY] = one << 62, [DUE] = one << 63, [UP_TO] = 0, [ALARM] = 0 };
+    uint64_t used = __atomic_load_n(&queue->numbers, SEQ), free;
+    while ((free = ~used & (of_all | of_its_own[wants])) != 0) {
+        int first = __builtin_ctzll(free);
+        if (__atomic_compare_exchange_n(&queue->numbers, &used, used | one << first, 0, SEQ, SEQ)) {
+            return first;
         }
     }
     return -1;
@@ -35,26 +38,33 @@ static int has(wait *it, int number) {
 }
 
 int flatpq_take_number(wait *it) {
-    return has(it, __atomic_load_n(&it->queue->unnumbered.first, SEQ) == NULL ? free_number(it->queue) : -1);
+    return has(it, __atomic_load_n(&it->queue->in_line, SEQ) == 0 ? free_number(it->queue, it->wants) : -1);
 }
 
-/* Threads in the line get the numbers that are free, under the lock of members. */
-static void serve_line(pq_queue *queue) {
-    wanting *first;
-    int number;
-    while ((first = queue->unnumbered.first) != NULL && (number = free_number(queue)) >= 0) {
-        flatpq_take_from_line(&queue->unnumbered, first);
-        __atomic_store_n(&first->is_served, (uint32_t)number + 1, SEQ);
-        flatpq_wake(&first->is_served);
+static void leave_line(pq_queue *queue, uint32_t wants, wanting *it) {
+    flatpq_take_from_line(&queue->unnumbered[wants], it);
+    __atomic_fetch_sub(&queue->in_line, 1, SEQ);
+}
+
+/* Threads in the lines get the numbers that are free, under the lock of members. */
+static void serve_lines(pq_queue *queue) {
+    for (uint32_t wants = ROOM; wants <= DUE; wants++) {
+        wanting *first;
+        int number;
+        while ((first = queue->unnumbered[wants].first) != NULL && (number = free_number(queue, wants)) >= 0) {
+            leave_line(queue, wants, first);
+            __atomic_store_n(&first->is_served, (uint32_t)number + 1, SEQ);
+            flatpq_wake(&first->is_served);
+        }
     }
 }
 
 void flatpq_give_numbers(pq_queue *queue, uint64_t numbers) {
     __atomic_fetch_and(&queue->holders, ~numbers, SEQ);
     __atomic_fetch_and(&queue->numbers, ~numbers, SEQ);
-    if (__atomic_load_n(&queue->unnumbered.first, SEQ) != NULL) {
+    if (__atomic_load_n(&queue->in_line, SEQ) > 0) {
         pthread_mutex_lock(&flatpq_members);
-        serve_line(queue);
+        serve_lines(queue);
         flatpq_unlock(queue);
     }
 }
@@ -64,13 +74,14 @@ static void wait_for_number(wait *it) {
     pq_queue *queue = it->queue;
     wanting asked = { NULL, NULL, NULL, NULL, PQ_OK, 0 };
     pthread_mutex_lock(&flatpq_members);
-    flatpq_put_into_line(&queue->unnumbered, &asked);
-    serve_line(queue);
+    flatpq_put_into_line(&queue->unnumbered[it->wants], &asked);
+    __atomic_fetch_add(&queue->in_line, 1, SEQ);
+    serve_lines(queue);
     flatpq_unlock(queue);
     flatpq_sleep(&asked.is_served, 0, it->until);
     pthread_mutex_lock(&flatpq_members);
     if (asked.is_served == 0) {
-        flatpq_take_from_line(&queue->unnumbered, &asked);
+        leave_line(queue, it->wants, &asked);
     }
     pthread_mutex_unlock(&flatpq_members);
     has(it, (int)asked.is_served - 1);

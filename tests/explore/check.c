@@ -29,6 +29,7 @@ void check_begin(pq_options options, int is_observed) {
     if (queue == NULL || (is_observed && pq_join(queue, PQ_NOW, &observer) != PQ_OK)) {
         fail("no queue");
     }
+    queue->numbers = numbers_at_first;
 }
 
 void check_call_begins(enum call call, uint64_t limit, uint64_t number) {
@@ -247,8 +248,8 @@ void check_end(void) {
         return;
     }
     /* A thread that could not get a member leaves its entry to others. */
-    if ((queue->numbers & ~queue->gone) != 0 || queue->waiting != 0 || queue->staying != 0 || queue->wanted.first != NULL
-        || queue->unnumbered.first != NULL) {
+    if ((queue->numbers & ~queue->gone) != numbers_at_first || queue->waiting != 0 || queue->staying != 0 || queue->wanted.first != NULL
+        || queue->in_line != 0) {
         fail("threads have ended, and something of them is left in the queue: numbers %llx, gone %llx, waiting %u, staying %u",
              (unsigned long long)queue->numbers, (unsigned long long)queue->gone, queue->waiting, queue->staying);
     }

@@ -11,12 +11,12 @@ use queue_pool::Undone;
 use std::alloc::Global;
 use wait_list::Wants;
 
-// How one waits that says this: 0 not at all, 1 for any item, 2 up to this priority, 3 for what is due, 4 by an alarm.
+// How one waits that says this: 0 not at all, 1 for any item, 2 for what is due, 3 up to this priority, 4 by an alarm.
 fn patience_of(wants: u32, priority: u64) -> Patience {
     match wants {
         1 => Patience::Any,
-        2 => Patience::UpTo(priority),
-        3 => Patience::Due,
+        2 => Patience::Due,
+        3 => Patience::UpTo(priority),
         4 => Patience::Alarm,
         _ => Patience::Leaves,
     }

@@ -43,6 +43,12 @@ static int is_over(pq_code code) {
     return code != PQ_EMPTY && code != PQ_NOT_DUE && code != PQ_FULL;
 }
 
+/* Of several members that are joined the last that does not wait has to stay awake, for those that call by their own. */
+static int is_last_awake(const wait *it) {
+    const uint32_t members = it->queue->members;
+    return it->mine == NULL && members > 1 && (uint32_t)__builtin_popcountll(__atomic_load_n(&it->queue->holders, SEQ)) + 1 >= members;
+}
+
 static pq_code listen(listening *it) {
     wait *waits = &it->wait;
     pq_code code;
@@ -51,7 +57,7 @@ static pq_code listen(listening *it) {
         if (is_over(code)) {
             return code;
         }
-        if (!flatpq_take_number(waits)) {
+        if (is_last_awake(waits) || !flatpq_take_number(waits)) {
             return PQ_ALL_JOINED;
         }
         set_listens(waits, waits->number + 1);

@@ -6,8 +6,8 @@
  * that sleep, nor for the lock, nor for an archive, where a queue refuses what is not archived. That queue then refuses each request for the same
  * reason.
  *
- * Why nobody sleeps on. One that waits sets its word, and then makes a step. pq_shut sets SHUT_WAITS first, and where it can't make the shut wakes
- * all whose words are set. So one that set it before tries again, and one that sets it later finds the shut before its step.
+ * Why nobody sleeps on. One that waits sets its word, and then makes a step. pq_shut sets SHUT_WAITS first, and then wakes all whose words are set.
+ * So one that set it before tries again, and one that sets it later finds the shut before its step.
  */
 #include "inside.h"
 
@@ -52,9 +52,7 @@ pq_code pq_shut(pq_queue *queue) {
     if (code == PQ_OK) {
         __atomic_compare_exchange_n(&queue->is_shut, &is_open, SHUT_WAITS, 0, SEQ, SEQ);
         flatpq_end_shut(queue);
-        if (__atomic_load_n(&queue->is_shut, SEQ) == SHUT_WAITS) {
-            flatpq_deliver(queue, __atomic_load_n(&queue->numbers, SEQ));
-        }
+        flatpq_deliver(queue, __atomic_load_n(&queue->numbers, SEQ));
         flatpq_count_staying(queue, UINT32_MAX);
     }
     return code;

@@ -308,9 +308,8 @@ typedef struct wait {
     pq_queue *queue;
     pq_member *member; /* by which it makes its next step; NULL: the thread has none */
     own *mine;
-    attempt *steps;
-    pq_code (*looks)(struct wait *it, uint64_t until); /* without a number */
-    pq_item item;                                      /* of a push */
+    int pushes;
+    pq_item item; /* which it pushes */
     core_answer *answer;
     uint64_t until;
     uint64_t priority; /* up to which it takes an item */
@@ -324,16 +323,14 @@ HIDDEN int flatpq_take_number(wait *it); /* 0: none is free */
 HIDDEN void flatpq_give_numbers(pq_queue *queue, uint64_t numbers);
 HIDDEN pq_code flatpq_begin_wait(wait *it, pq_member *member);
 HIDDEN pq_code flatpq_step(wait *it, uint32_t word, uint64_t until); /* one step, by a word that is set before its entry is made */
-HIDDEN attempt flatpq_try_take, flatpq_try_push;
-HIDDEN pq_code flatpq_look_once(wait *it, uint64_t until);
-HIDDEN pq_code flatpq_push_once(wait *it, uint64_t until);
+HIDDEN pq_code flatpq_look(wait *it, uint64_t until); /* without a number */
 HIDDEN void flatpq_end_wait(wait *it);  /* its entry leaves */
 HIDDEN pq_code flatpq_wait(wait *it, pq_code code); /* goes on with a wait whose last look came to this */
 HIDDEN void flatpq_end_waiting(wait *it);
 HIDDEN void flatpq_count_waiting(pq_queue *queue, uint32_t more);
 HIDDEN uint64_t flatpq_due_time(const pq_queue *queue, uint64_t priority); /* at which an item of this priority is due */
 HIDDEN uint64_t flatpq_due_now(const pq_queue *queue);                     /* the greatest priority that is due */
-HIDDEN int flatpq_unlisten(pq_queue *queue, pq_member *member, own *mine); /* by this record of its own, or this member; member may be NULL too */
+HIDDEN int flatpq_unlisten(wait *it); /* 1: it listened, and was not notified */
 
 /*
  * bounded.c: pushes that found the queue full wait for room.

@@ -20,23 +20,27 @@ typedef struct listening {
 } listening;
 
 /* Where it stands that a member listens, or a thread by its own: 1 and its number. */
-static uint32_t *listens_of(pq_member *member, own *mine) {
-    return mine != NULL ? &mine->listens : &member->listens;
+static uint32_t *listens_of(const wait *it) {
+    return it->mine != NULL ? &it->mine->listens : &it->member->listens;
 }
 
-static void set_listens(wait *it, uint32_t listens) {
-    *listens_of(it->member, it->mine) = listens;
-    if (it->mine != NULL) {
-        __atomic_fetch_add(&it->queue->waiting, listens != 0 ? 1 : UINT32_MAX, SEQ);
-    }
+static void begin_listening(wait *it) {
+    *listens_of(it) = it->number + 1;
+    __atomic_fetch_add(&it->queue->waiting, it->mine != NULL, SEQ);
 }
 
-static void end_listening(listening *it) {
-    if (it->wait.has_number) {
-        it->is_notified = !flatpq_claim(it->waits);
-        flatpq_end_wait(&it->wait);
-        set_listens(&it->wait, 0);
+/* A thread without a member is counted as waiting on. */
+int flatpq_unlisten(wait *it) {
+    const uint32_t listens = *listens_of(it);
+    int listened = 0;
+    if (listens) {
+        it->number = listens - 1;
+        listened = flatpq_claim(&it->queue->waiters[it->number]);
+        flatpq_end_wait(it);
+        *listens_of(it) = 0;
+        __atomic_fetch_sub(&it->queue->waiting, it->mine != NULL && it->member != NULL, SEQ);
     }
+    return listened;
 }
 
 static int is_over(pq_code code) {
@@ -53,14 +57,14 @@ static pq_code listen(listening *it) {
     wait *waits = &it->wait;
     pq_code code;
     if (!waits->has_number) {
-        code = waits->looks(waits, AT_ONCE);
+        code = flatpq_look(waits, AT_ONCE);
         if (is_over(code)) {
             return code;
         }
         if (is_last_awake(waits) || !flatpq_take_number(waits)) {
             return PQ_ALL_JOINED;
         }
-        set_listens(waits, waits->number + 1);
+        begin_listening(waits);
     }
     it->waits = &waits->queue->waiters[waits->number];
     flatpq_claim(it->waits);
@@ -68,25 +72,14 @@ static pq_code listen(listening *it) {
     it->waits->context = it->context;
     code = flatpq_step(waits, LISTENS, AT_ONCE);
     if (is_over(code)) {
-        end_listening(it);
-    }
-    return code;
-}
-
-static pq_code begin(listening *it, pq_member *member) {
-    wait *waits = &it->wait;
-    pq_code code = flatpq_begin_wait(waits, member);
-    if (code == PQ_OK) {
-        const uint32_t listens = *listens_of(waits->member, waits->mine);
-        waits->number = listens - 1;
-        waits->has_number = waits->is_in = listens != 0;
+        it->is_notified = !flatpq_unlisten(waits);
     }
     return code;
 }
 
 /* Where another thread has the lock for long the call is to be made again, and else comes to this. */
 static pq_code listen_by(listening *it, pq_member *member, pq_code none) {
-    pq_code code = begin(it, member);
+    pq_code code = flatpq_begin_wait(&it->wait, member);
     if (code != PQ_OK) {
         return code;
     }
@@ -103,8 +96,7 @@ static pq_code listen_by(listening *it, pq_member *member, pq_code none) {
 
 pq_code pq_take_or_listen(pq_member *member, uint64_t priority, pq_item *item, uint64_t *number, void (*notify)(void *context), void *context) {
     core_answer answer;
-    listening it = { .wait = { .steps = flatpq_try_take, .looks = flatpq_look_once, .answer = &answer, .priority = priority, .wants = UP_TO },
-        .notify = notify, .context = context };
+    listening it = { { .answer = &answer, .priority = priority, .wants = UP_TO }, .notify = notify, .context = context };
     pq_code code = listen_by(&it, member, PQ_EMPTY);
     flatpq_return_first(code, &answer, item, number);
     return code;
@@ -112,8 +104,7 @@ pq_code pq_take_or_listen(pq_member *member, uint64_t priority, pq_item *item, u
 
 pq_code pq_push_or_listen(pq_member *member, pq_item item, uint64_t *number, void (*notify)(void *context), void *context) {
     core_answer answer;
-    listening it = { .wait = { .steps = flatpq_try_push, .looks = flatpq_push_once, .answer = &answer, .item = item, .wants = UP_TO },
-        .notify = notify, .context = context };
+    listening it = { { .answer = &answer, .pushes = 1, .item = item, .wants = UP_TO }, .notify = notify, .context = context };
     pq_code code = listen_by(&it, member, PQ_FULL);
     if (code == PQ_OK && number != NULL) {
         *number = answer.number;
@@ -152,7 +143,7 @@ static pq_code arm(listening *it, int timer, pq_code code) {
         return code;
     }
     if (!set_timer(timer, code == PQ_EMPTY ? PQ_FOREVER : flatpq_due_time(it->wait.queue, it->wait.answer->item.priority))) {
-        end_listening(it);
+        flatpq_unlisten(&it->wait);
         return PQ_NO_TIMER;
     }
     if (__atomic_load_n(&it->waits->word, SEQ) != LISTENS) {
@@ -163,9 +154,8 @@ static pq_code arm(listening *it, int timer, pq_code code) {
 
 pq_code pq_take_due_or_listen(pq_member *member, int timer, pq_item *item, uint64_t *number) {
     core_answer answer;
-    listening it = { .wait = { .steps = flatpq_try_take, .looks = flatpq_look_once, .answer = &answer, .wants = ALARM },
-        .notify = ring, .context = (void *)(intptr_t)timer };
-    pq_code code = begin(&it, member);
+    listening it = { { .answer = &answer, .wants = ALARM }, .notify = ring, .context = (void *)(intptr_t)timer };
+    pq_code code = flatpq_begin_wait(&it.wait, member);
     if (code == PQ_OK) {
         it.wait.priority = flatpq_due_now(it.wait.queue);
         code = arm(&it, timer, listen(&it));
@@ -175,48 +165,20 @@ pq_code pq_take_due_or_listen(pq_member *member, int timer, pq_item *item, uint6
     return code;
 }
 
-/*
- * Ending.
- */
-
-/* Without a member the queue may be gone after this. */
-int flatpq_unlisten(pq_queue *queue, pq_member *member, own *mine) {
-    wait it = { .queue = queue, .member = member, .mine = mine, .is_in = 1 };
-    const uint32_t listens = *listens_of(member, mine);
-    int listened;
-    if (!listens) {
-        return 0;
-    }
-    it.number = listens - 1;
-    listened = flatpq_claim(&queue->waiters[it.number]);
-    flatpq_end_wait(&it);
-    if (member != NULL) {
-        set_listens(&it, 0);
-    } else {
-        mine->listens = 0;
-        flatpq_count_waiting(queue, UINT32_MAX);
-    }
-    return listened;
-}
-
 int pq_unlisten(pq_member *member) {
-    pq_member *its = member;
-    own *mine;
+    wait it = { .is_in = 1 };
     int listened;
     if (member == NULL || flatpq_special & FORKED) {
         return 0;
     }
-    if (!member->is_shared) {
-        return flatpq_unlisten(member->queue, member, NULL);
-    }
-    mine = flatpq_own_of(member);
-    if (mine == NULL || !mine->listens) {
+    if (member->is_shared && ((it.mine = flatpq_own_of(member)) == NULL || !it.mine->listens)) {
         return 0;
     }
-    if (flatpq_begin(&its, PQ_NOW, &mine) != PQ_OK) {
-        return flatpq_unlisten(member->queue, NULL, flatpq_own_of(member));
+    if (flatpq_begin_wait(&it, member) != PQ_OK) {
+        it.queue = member->queue;
+        it.mine = flatpq_own_of(member);
     }
-    listened = flatpq_unlisten(member->queue, its, mine);
-    flatpq_end(mine);
+    listened = flatpq_unlisten(&it);
+    flatpq_end_waiting(&it);
     return listened;
 }

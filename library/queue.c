@@ -280,7 +280,7 @@ void pq_give_back(pq_member *member) {
         pq_leave(queue);
         return;
     }
-    flatpq_unlisten(queue, member, NULL);
+    pq_unlisten(member);
     pthread_mutex_lock(&flatpq_members);
     flatpq_release(queue, member);
     flatpq_unlock(queue);

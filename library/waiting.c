@@ -98,11 +98,15 @@ void flatpq_count_waiting(pq_queue *queue, uint32_t more) {
     flatpq_unlock(queue);
 }
 
+/* Begins a call by a member, or a thread by its own, that may listen. */
 pq_code flatpq_begin_wait(wait *it, pq_member *member) {
     pq_code code = flatpq_begin(&member, it->until, &it->mine);
     if (code == PQ_OK) {
+        const uint32_t listens = it->mine != NULL ? it->mine->listens : member->listens;
         it->queue = member->queue;
         it->member = member;
+        it->number = listens - 1;
+        it->has_number = it->is_in = listens != 0;
     }
     return code;
 }
@@ -115,20 +119,24 @@ static void give_up_member(wait *it) {
     }
 }
 
+static pq_code begin_again(wait *it, uint64_t until) {
+    pq_member *member = &it->queue->own;
+    pq_code code = flatpq_begin(&member, until, &it->mine);
+    it->member = code == PQ_OK ? member : NULL;
+    return code;
+}
+
 static pq_code get_member(wait *it) {
-    const uint64_t until = it->until;
     pq_code code;
     if (it->member != NULL) {
         return PQ_OK;
     }
-    it->until = PQ_NOW;
-    code = flatpq_begin_wait(it, &it->queue->own);
-    it->until = until;
-    if (code == PQ_TIMED_OUT && !flatpq_is_late(until)) {
+    code = begin_again(it, PQ_NOW);
+    if (code == PQ_TIMED_OUT && !flatpq_is_late(it->until)) {
         if (__atomic_load_n(&it->queue->holders, SEQ) != 0) {
             flatpq_end_wait(it); /* one that waits and holds a member is to look in its place */
         }
-        code = flatpq_begin_wait(it, &it->queue->own);
+        code = begin_again(it, it->until);
     }
     __atomic_fetch_sub(&it->queue->waiting, code == PQ_OK, SEQ);
     return code;
@@ -156,23 +164,30 @@ void flatpq_end_waiting(wait *it) {
  * Steps.
  */
 
-pq_code flatpq_try_take(void *asked) {
+static pq_code try_step(void *asked) {
     wait *it = asked;
+    core *proved = &it->member->proved;
     pq_code code = flatpq_before(it->member);
     if (code != PQ_OK) {
         return code;
     }
-    return LEAVE_OUT(pq_core_take_or_wait(&it->member->proved, it->number, it->priority, it->wants, it->answer));
+    if (!it->pushes) {
+        return LEAVE_OUT(pq_core_take_or_wait(proved, it->number, it->priority, it->wants, it->answer));
+    }
+    if (IS_WATCHED) {
+        flatpq_tsan_push(it->item);
+    }
+    return LEAVE_OUT(pq_core_push_or_wait(proved, it->number, it->item.priority, it->item.value, it->wants != ROOM, it->answer));
 }
 
-pq_code flatpq_look_once(wait *it, uint64_t until) {
-    return flatpq_take_first(it->member, it->priority, until, it->answer);
+pq_code flatpq_look(wait *it, uint64_t until) {
+    return it->pushes ? flatpq_push(it->member, it->item, until, it->answer) : flatpq_take_first(it->member, it->priority, until, it->answer);
 }
 
 pq_code flatpq_step(wait *it, uint32_t word, uint64_t until) {
     pq_code code;
     __atomic_store_n(&it->queue->waiters[it->number].word, word, SEQ);
-    code = flatpq_try(it->steps, it, it->queue, until);
+    code = flatpq_try(try_step, it, it->queue, until);
     if (code != PQ_OK && code != ENTERED && code != WATCHES) {
         return code;
     }
@@ -200,7 +215,7 @@ static int goes_on(const wait *it, pq_code code) {
 }
 
 static pq_code look_until(wait *it, uint64_t until) {
-    return it->has_number ? flatpq_step(it, SLEEPING, until) : it->looks(it, until);
+    return it->has_number ? flatpq_step(it, SLEEPING, until) : flatpq_look(it, until);
 }
 
 /* Looks, or makes a step where it has a number. Where the lock is held until the deadline it tries some times more. */
@@ -246,12 +261,12 @@ uint64_t flatpq_due_now(const pq_queue *queue) {
 
 INLINE pq_code take_by(uint32_t wants, pq_member *member, pq_item *item, uint64_t until, uint64_t *number) {
     core_answer answer;
-    wait it = { .steps = flatpq_try_take, .looks = flatpq_look_once, .answer = &answer, .until = until, .wants = wants };
+    wait it = { .answer = &answer, .until = until, .wants = wants };
     pq_code code = flatpq_begin_wait(&it, member);
     if (code != PQ_OK) {
         return code;
     }
-    flatpq_unlisten(it.queue, it.member, it.mine);
+    flatpq_unlisten(&it);
     code = look(&it);
     if (goes_on(&it, code)) {
         code = flatpq_wait(&it, code);

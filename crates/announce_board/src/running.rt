@@ -9,8 +9,8 @@ ghost use Rattle.announce_board.specs.Running.{TablesAreLinearized, TablesForceP
 
 use desk_core::laws::{
     law_archiving, law_desk_runs, law_each_step_keeps_the_rule, law_lines_are_beyond,
-    law_looks_are_within, law_nobody_sleeps_beside_an_item, law_pens_know, law_positions_are_forced, law_reached_desks, law_times,
-    law_words_show_the_desk,
+    law_looks_are_within, law_nobody_sleeps_beside_an_item, law_pens_know,
+    law_positions_are_forced, law_reached_desks, law_times, law_words_show_the_desk,
 };
 use leftist_heap::Store;
 use pq_book::Entry;

@@ -89,7 +89,13 @@ impl<S: Store<Entry<P>>, P: Part> Desk<S, P> {
     {
         let serial = pen.posts + 1;
         let book = lead.into_boxed();
-        let (answer, wakes) = put_home_shut(&self.table.shared, &mut pen.seat, pen.place, serial, book);
+        let (answer, wakes) = put_home_shut(
+            &self.table.shared,
+            &mut pen.seat,
+            pen.place,
+            serial,
+            book,
+        );
         pen.posts = serial;
         (answer, wakes)
     }

@@ -86,7 +86,11 @@ pub extern "C" fn pq_core_take_or_wait(
 
 // For what a push waits that says this: 1 by a listener.
 fn room_of(listens: u32) -> Wants {
-    if listens == 0 { Wants::Room } else { Wants::RoomUp }
+    if listens == 0 {
+        Wants::Room
+    } else {
+        Wants::RoomUp
+    }
 }
 
 fn push_or_wait(

@@ -14,9 +14,7 @@ ghost use Rattle.flat_queue.specs.TrailSweeping.{MakesTrailRoundBy};
 ghost use Rattle.queue_pool.specs.Shared.{MayCall, UndoneBy, PostsBy, SeesBy, TriesUpToBy, TriesFirstBy, TriesPushesBy, TriesPopsBy};
 ghost use Rattle.queue_pool.specs.Shared.{TriesCallBy, TriesCountBy, TriesTicketBy, TriesRemovalBy, TriesMoveBy, TriesShutBy};
 
-use flat_queue::{
-    ArchiveError, Batch, Counts, Looked, Member, Popped, Queue, Round, Wanted,
-};
+use flat_queue::{ArchiveError, Batch, Counts, Looked, Member, Popped, Queue, Round, Wanted};
 use leftist_heap::{Store, TicketStore};
 use pq_book::Entry;
 use pq_types::{Answer, Item, Line, Part, Request, Ticketed};

@@ -19,7 +19,10 @@ impl<S: Store<StoreEntry<P>>, P: Part> SharedHandle<S, P> {
         if let Err(why) = self.may_call() {
             return Err(why);
         }
-        let Some(told) = self.queue.take_or_wait(&mut self.member, number, wanted, patience) else {
+        let Some(told) = self
+            .queue
+            .take_or_wait(&mut self.member, number, wanted, patience)
+        else {
             return Err(Undone::LockHeld);
         };
         Ok(told)
@@ -35,7 +38,10 @@ impl<S: Store<StoreEntry<P>>, P: Part> SharedHandle<S, P> {
         if let Err(why) = self.may_call() {
             return Err(why);
         }
-        let Some(told) = self.queue.push_or_wait(&mut self.member, number, item, wants) else {
+        let Some(told) = self
+            .queue
+            .push_or_wait(&mut self.member, number, item, wants)
+        else {
             return Err(Undone::LockHeld);
         };
         Ok(told)

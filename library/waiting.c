@@ -60,7 +60,6 @@ static void serve_lines(pq_queue *queue) {
 }
 
 void flatpq_give_numbers(pq_queue *queue, uint64_t numbers) {
-    __atomic_fetch_and(&queue->holders, ~numbers, SEQ);
     __atomic_fetch_and(&queue->numbers, ~numbers, SEQ);
     if (__atomic_load_n(&queue->in_line, SEQ) > 0) {
         pthread_mutex_lock(&flatpq_members);
@@ -197,6 +196,9 @@ pq_code flatpq_step(wait *it, uint32_t word, uint64_t until) {
 }
 
 void flatpq_end_wait(wait *it) {
+    if (it->mine == NULL && (it->has_number || it->is_in)) {
+        __atomic_fetch_and(&it->queue->holders, ~((uint64_t)1 << it->number), SEQ);
+    }
     if (it->is_in) {
         flatpq_leave_waiting(it->queue, it->member, it->number);
     } else if (it->has_number) {

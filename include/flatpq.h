@@ -161,7 +161,8 @@ uint32_t pq_place(pq_member *member);
 /* Requests. Each of these calls may also return PQ_NO_MEMBER, PQ_FORKED, PQ_EXHAUSTED, PQ_JOURNAL_FULL or PQ_UNARCHIVED. It may return
    PQ_TIMED_OUT unless `until` is PQ_FOREVER; a call by pq_own also PQ_CLOSED or PQ_NO_MEMORY. A call without `until` doesn't wait. number
    may be NULL; else *number is the number of the journal entry, if there is one. The first that is true refuses a request: PQ_JOURNAL_FULL,
-   PQ_SHUT, PQ_UNARCHIVED, PQ_FULL, PQ_NO_MEMORY. If nothing is there to take, a call that takes is refused for PQ_JOURNAL_FULL alone. */
+   PQ_SHUT, PQ_UNARCHIVED, PQ_FULL, PQ_NO_MEMORY. If nothing is there to take, a call that takes is refused for PQ_JOURNAL_FULL alone, or while
+   a shut waits for the archive (PQ_UNARCHIVED). */
 
 /* Puts an item in. If the queue has as many items as pq_options allow, the call waits until one goes out, and keeps its member meanwhile.
    PQ_OK; PQ_FULL: there was no room until then; PQ_SHUT, PQ_NO_MEMORY. */

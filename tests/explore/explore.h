@@ -83,7 +83,7 @@ void races_enable(int woken, int by);
 int races_depend(const void *at, enum access access, const void *other, enum access as);
 
 /* system.c, proved.c */
-extern int has_late_stores, refuses_barriers, refuses_keys, is_held;
+extern int has_late_stores, refuses_barriers, refuses_keys, waits_for_archive, is_held;
 int proved_has_posts(void);
 uint64_t proved_naps_until(uint64_t until);
 void system_begin(void);

@@ -175,16 +175,37 @@ static int fits(const done *it, size_t at) {
     return it->code == PQ_FULL ? after[at].size >= queue->most_items : after[at].size == 0;
 }
 
+/* The first shut: its entry, and its calls from the first begin to the first return. */
+static done first_shut(const done *all, int count) {
+    done first = { PQ_SHUTS, PQ_OK, { 0, 0 }, shut, UINT64_MAX, UINT64_MAX };
+    for (int i = 0; i < count && shut != 0; i++) {
+        if (all[i].request == PQ_SHUTS) {
+            first.begun = all[i].begun < first.begun ? all[i].begun : first.begun;
+            first.ended = all[i].ended < first.ended ? all[i].ended : first.ended;
+        }
+    }
+    return first;
+}
+
+/* Between these numbers of entries a call comes, if it has to come after this one, or before it. */
+static void bound_by(const done *other, const done *it, size_t *from, size_t *to) {
+    if (has_number(other)) {
+        *from = other->ended < it->begun && other->number > *from ? other->number : *from;
+        *to = it->ended < other->begun && other->number <= *to ? other->number - 1 : *to;
+    }
+}
+
 /* The order of the journal is that of the calls: one that began after another had ended comes after it, with an entry or without. */
-static void check_order(const done *it, const done *all, int count) {
+static void check_order(const done *it, const done *all, int count, const done *shuts) {
     const int has_peeked = it->request == PEEKED && (it->code == PQ_OK || it->code == PQ_EMPTY);
     const int is_look = has_peeked || (it->number == 0 && (it->request == SIZED || it->code == PQ_EMPTY || it->code == PQ_FULL));
     size_t from = 0, to = entry_count;
     for (int i = 0; i < count; i++) {
-        if (has_number(&all[i])) {
-            from = all[i].ended < it->begun && all[i].number > from ? all[i].number : from;
-            to = it->ended < all[i].begun && all[i].number <= to ? all[i].number - 1 : to;
-        }
+        bound_by(&all[i], it, &from, &to);
+    }
+    /* (peeks go on before a shut that waits for the archive) */
+    if (it != shuts && shuts->ended != UINT64_MAX && !waits_for_archive) {
+        bound_by(shuts, it, &from, &to);
     }
     if (has_number(it) && (it->number <= from || it->number > to)) {
         fail("entry %llu is of a call that began after entry %zu, or ended before entry %zu", (unsigned long long)it->number, from, to + 1);
@@ -198,25 +219,12 @@ static void check_order(const done *it, const done *all, int count) {
     }
 }
 
-/* The entry of a shut comes before the first shut returns, and after the first begins. */
-static void check_shut(const done *all, int count) {
-    done first = { PQ_SHUTS, PQ_OK, { 0, 0 }, shut, UINT64_MAX, UINT64_MAX };
-    for (int i = 0; i < count && shut != 0; i++) {
-        if (all[i].request == PQ_SHUTS) {
-            first.begun = all[i].begun < first.begun ? all[i].begun : first.begun;
-            first.ended = all[i].ended < first.ended ? all[i].ended : first.ended;
-        }
-    }
-    if (first.ended != UINT64_MAX) {
-        check_order(&first, all, count);
-    }
-}
-
 uint64_t journal_shut(void) {
     return shut;
 }
 
 void check_journal(const pq_journal *journal, const done *all, int count, int heard_end) {
+    done of_shut;
     size = peak = shut = 0;
     check_archive(journal);
     for (size_t i = 0; i < entry_count; i++) {
@@ -233,9 +241,12 @@ void check_journal(const pq_journal *journal, const done *all, int count, int he
     if (heard_end && size > 0) {
         fail("a thread heard that nothing is left, and %zu items are", size);
     }
+    of_shut = first_shut(all, count);
     for (int i = 0; i < count; i++) {
         check_done(all, i);
-        check_order(&all[i], all, count);
+        check_order(&all[i], all, count, &of_shut);
     }
-    check_shut(all, count);
+    if (of_shut.ended != UINT64_MAX) {
+        check_order(&of_shut, all, count, &of_shut);
+    }
 }

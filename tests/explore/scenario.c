@@ -100,6 +100,7 @@ static void read_option(opening *it, char *text) {
         it->options.keeping = PQ_FORGETS;
     } else if (strcmp(name, "refuses") == 0) {
         it->options.keeping = PQ_REFUSES;
+        waits_for_archive = 1;
     } else if (strcmp(name, "no-barriers") == 0) {
         refuses_barriers = 1;
     } else if (strcmp(name, "no-keys") == 0) {

@@ -164,13 +164,13 @@ void pass_time(uint64_t to) {
     search_passes_time();
 }
 
-/* Lets this fiber go on. Where its time has come, that depends on steps at the word at which it sleeps. */
+/* Lets this fiber go on. Where its time has come, that is a step at the time, and at the word at which it sleeps. */
 static void resume(fiber *it) {
     if ((it->state == ON_WORD || it->state == SLEEPS || it->state == NAPS) && !is_random) {
         races_note(index_of(it), &now, WRITES);
+        search_passes_time();
         if (it->at != NULL) {
             races_note(index_of(it), it->at, WRITES);
-            search_steps(index_of(it), it->at, WRITES);
         }
     }
     it->state = READY;

@@ -15,11 +15,11 @@
 enum { NOBODY = 100 };
 static const uint64_t second = 1000000000;
 
-int has_late_stores, refuses_barriers, refuses_keys;
+int has_late_stores, refuses_barriers, refuses_keys, waits_for_archive;
 static void (*thread_ends)(void *);
 
 void system_begin(void) {
-    refuses_barriers = refuses_keys = 0;
+    refuses_barriers = refuses_keys = waits_for_archive = 0;
 }
 
 /*

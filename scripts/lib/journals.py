@@ -11,7 +11,7 @@ import subprocess
 import tempfile
 import time
 
-SECONDS = 60
+SECONDS = 300
 LOADS = ["1 1 1", "4 200 150", "8 2000 2000", "64 20 13"]
 # Loads of many rounds, whose journals are longer than memory keeps them; and one of which each round of all is so.
 LASTING = ["8 1000 900 70", "64 200 200 41", "16 8192 8192 5"]

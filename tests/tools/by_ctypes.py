@@ -17,7 +17,7 @@ os.environ["FLATPQ_LIBRARY"] = sys.argv[1]
 sys.path.append(f"{os.path.dirname(os.path.abspath(sys.argv[1]))}/../share/flatpq/python")
 import flatpq
 
-SECONDS = 30
+SECONDS = 120
 
 
 def need(found, wanted, what):

@@ -33,9 +33,9 @@ use Rattle.announce_board.proofs.Weights.{weighs_more, weighs_dealt}
 use Rattle.announce_board.proofs.Same.{not_true}
 
 pub opening_kept : (wide : Bool) (roomy : ℕ → Type 0) → OpeningsMeetRule → ZerosAreFresh → OpeningKept wide roomy
-opening_kept wide roomy opens zeros room terms places book small sized empty is =
+opening_kept wide roomy opens zeros room terms places book small sized empty none is =
     let first : Some (volume (first_limits room terms) []) ≡ Some book =
-    ap Some (same_volume (volume (first_limits room terms) []) book (sym sized) (ap (λ (t : Terms). t.bound) is) (ap (λ (t : Terms). t.allowed) is) (sym empty)) in
+    ap Some (same_volume (volume (first_limits room terms) []) book (sym sized) (ap (λ (t : Terms). t.bound) is) (ap (λ (t : Terms). t.allowed) is) (sym empty) (sym none)) in
     let d : Desk = dealer_opening places (first_limits room terms) in
     record {
       held = false;

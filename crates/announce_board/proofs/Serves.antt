@@ -160,6 +160,7 @@ module _ (words place : ℕ) (before between after : Seated) (serial : ℕ) (q :
       (terms.1 ∙ ap (λ (b : Volume). b.bound) e)
       (allowed ∙ ap (λ (b : Volume). b.allowed) e)
       (journal ∙ ap (λ (b : Volume). journal_after b.journal place serial q a) e)
+      (terms.2 ∙ ap (λ (b : Volume). b.waiters) e)
 
   pub serves : (old new : Volume) → old ≡ book_in_hand p → KeepsTerms old new → new.allowed ≡ old.allowed → new.journal ≡ journal_after old.journal place serial q a
       → MayAnswer (limits_of old) old.journal q a → ServesBy words place p (pen_at after) new

@@ -6,6 +6,7 @@ ghost use Rattle.desk_core.specs.Pen.{after_miss, after_release, book_in_hand};
 ghost use Rattle.announce_board.specs.Steps.{pen_at, Becomes};
 ghost use Rattle.announce_board.specs.Loads.{TriesLock, WinsBook};
 ghost use Rattle.announce_board.specs.Slots.{out};
+ghost use Rattle.announce_board.specs.Waking.{Wakes};
 
 use crate::boxed_book::BoxedBook;
 use crate::laws::law_steps_are_allowed;
@@ -58,12 +59,12 @@ pub fn win_book<S: Store<Entry<P>>, P: Part>(
     board.exchange(seat, 0, Slot::out()).into_inner()
 }
 
-/// Puts the Book into its slot, and frees the lock then.
+/// Has the Book wake whom it is to wake, puts it into its slot, and frees the lock then. The mask of those who were woken.
 pub fn put_home<S: Store<Entry<P>>, P: Part>(
     board: &Board<S, P>,
     seat: &mut BoardSeat<S, P>,
     book: BoxedBook<S, P>,
-)
+) -> u64
     requires here { seat.old.table_id ≡ board.now.table_id }
     requires is { seat.old.me.0 ≡ Holder (pen_at seat.old.me) }
     requires lock { lock_at < board.now.table_id.words }
@@ -71,9 +72,12 @@ pub fn put_home<S: Store<Entry<P>>, P: Part>(
     requires leads { (pen_at seat.old.me).leading ≡ true }
     requires book { book ≡ book_in_hand (pen_at seat.old.me) }
     ensures table { seat.new.table_id ≡ seat.old.table_id }
+    ensures wakes { Wakes (book_in_hand (pen_at seat.old.me)) result }
     ensures after { seat.new.me ≡ (Holder (after_release (pen_at seat.old.me)), []) }
 {
     law_steps_are_allowed::<S, P>();
+    let (book, wakes) = book.settled();
     drop(board.exchange(seat, 0, Slot::with(book)));
     board.store::<Release>(seat, LOCK, 0);
+    wakes
 }

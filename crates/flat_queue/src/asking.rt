@@ -82,6 +82,7 @@ impl<S: Store<Entry<P>>, P: Part> Queue<S, P> {
         requires lead { IsLeadOf (pen_of member.old) lead }
         ensures { member.new ≡ record member.old { pen = after_release member.old.pen } }
     {
-        self.desk.release(&mut member.pen, lead);
+        let wakes = self.desk.release(&mut member.pen, lead);
+        member.owe(wakes);
     }
 }

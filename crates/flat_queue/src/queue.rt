@@ -107,6 +107,7 @@ impl<S: Store<Entry<P>>, P: Part> Queue<S, P> {
             stopped,
             pen: self.desk.wake(sleeper, licence),
             rest: Rest::DEFAULT,
+            wakes: 0,
         }
     }
 
@@ -126,6 +127,7 @@ impl<S: Store<Entry<P>>, P: Part> Queue<S, P> {
                     stopped,
                     pen,
                     rest: Rest::DEFAULT,
+                    wakes: 0,
                 })
             }
         }

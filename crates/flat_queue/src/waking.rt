@@ -1,7 +1,7 @@
 // How a member hands out whom its releases have woken.
-ghost use Rattle.std.specs.Prelude.{◌≡◌, ◌↔◌, ◌≢◌, [], true};
+ghost use Rattle.std.specs.Prelude.{◌≡◌};
 ghost use Rattle.desk_core.specs.Pen.{after_hand_out};
-ghost use Rattle.announce_board.specs.Waking.{IsMaskOf};
+ghost use Rattle.announce_board.specs.Waking.{IsMaskOf, owes_any};
 
 use crate::member::Member;
 use crate::queue::Queue;
@@ -24,7 +24,7 @@ impl<S: Store<Entry<P>>, P: Part> Queue<S, P> {
 impl<S: Store<Entry<P>>, P: Part> Member<S, P> {
     /// Whether its releases have woken one whom it has not handed out yet.
     pub fn owes_wakes(&self) -> bool
-        ensures { result ≡ true ↔ self.now.pen.owed ≢ [] }
+        ensures { result ≡ owes_any self.now.pen.owed }
     {
         self.pen.owes_wakes()
     }

@@ -1,12 +1,13 @@
--- Whom a Book wakes as it goes home.
-use Rattle.std.specs.Prelude.{◌≡◌, ◌↔◌, ℕ, true, false}
+-- Whom the releases of a pen have woken.
+use Rattle.std.specs.Prelude.{◌≡◌, ◌↔◌, ◌==◌, ℕ, Bool, true, false, List, [], ◌∷◌}
+use Rattle.std.specs.List.{list_any}
 use Rattle.std.specs.Int.{bit_at}
-use Rattle.wait_list.specs.Waiters.{is_woken_at}
-use Rattle.pq_book.specs.Book.{Volume}
-use Rattle.pq_book.specs.Stock.{settled_book}
 
--- the bits of the mask are exactly the numbers of those who were not woken before, and are now
-abbrev pub Wakes : Volume → ℕ → Type 0
-Wakes book mask =
-    (number : ℕ) → (bit_at mask number ≡ 1)
-    ↔ ((is_woken_at number book.waiters ≡ false) × (is_woken_at number (settled_book book).waiters ≡ true))
+-- the bits of the mask are exactly these numbers
+pub record IsMaskOf (mask : ℕ) (numbers : List ℕ) : Type 0 where
+  pub bits : (number : ℕ) → (bit_at mask number ≡ 1) ↔ (list_any (λ n. number == n) numbers ≡ true)
+
+-- whether there is any number to hand out
+abbrev pub owes_any : List ℕ → Bool
+owes_any [] = false
+owes_any (n ∷ ns) = true

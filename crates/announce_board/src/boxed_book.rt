@@ -1,7 +1,8 @@
 // A Book on the heap.
 ghost use Rattle.std.specs.Prelude.{◌≡◌};
 ghost use Rattle.announce_board.specs.Slots.{terms_of};
-ghost use Rattle.announce_board.specs.Waking.{Wakes};
+ghost use Rattle.announce_board.specs.Waking.{IsMaskOf};
+ghost use Rattle.desk_core.specs.Pen.{newly_woken};
 ghost use Rattle.pq_book.specs.Stock.{settled_book};
 
 use crate::terms::Terms;
@@ -41,7 +42,7 @@ impl<S: Store<Entry<P>>, P: Part> BoxedBook<S, P> {
     #[inline(always)]
     pub(crate) fn settled(self) -> (Self, u64)
         ensures book { result.0 ≡ settled_book self }
-        ensures wakes { Wakes self result.1 }
+        ensures wakes { IsMaskOf result.1 (newly_woken self) }
     {
         let mut book = self;
         let wakes = book.boxed.settle();

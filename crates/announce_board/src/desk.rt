@@ -5,11 +5,10 @@ ghost use Rattle.pq_types.specs.History.{left};
 ghost use Rattle.pq_book.specs.Book.{AllHaveRoom, limits_of};
 ghost use Rattle.pq_book.specs.Stock.{IsSettledBook};
 ghost use Rattle.desk_core.specs.Knows.{NoneAbove};
-ghost use Rattle.desk_core.specs.Pen.{after_miss, after_release, book_in_hand};
+ghost use Rattle.desk_core.specs.Pen.{after_miss, after_release};
 ghost use Rattle.desk_core.specs.Words.{word_number};
 ghost use Rattle.announce_board.specs.ItemWords.{drafted_by};
 ghost use Rattle.announce_board.specs.Slots.{MeetsTerms};
-ghost use Rattle.announce_board.specs.Waking.{Wakes};
 ghost use Rattle.announce_board.specs.Tokens.{IsLeadOf, is_idle};
 ghost use Rattle.announce_board.specs.Asking.{asked_by, Waits, LooksBy};
 ghost use Rattle.announce_board.specs.Serving.{Wins, ServesWhereBy, ServesOtherThanBy};
@@ -160,14 +159,14 @@ impl<S: Store<Entry<P>>, P: Part> Desk<S, P> {
         )
     }
 
-    /// The leader has the Book wake whom it is to wake, puts it home and then frees the lock, in one step. The bits of the mask are
-    /// the numbers of those who were woken: the caller tells them, now that the lock is free.
-    pub fn release(&self, pen: &mut Pen<S, P>, lead: Lead<S, P>) -> u64
+    /// The leader has the Book wake whom it is to wake, puts it home and then frees the lock, in one step. The pen owes the wakes
+    /// from then on: `take_wakes` hands them out.
+    pub fn release(&self, pen: &mut Pen<S, P>, lead: Lead<S, P>)
         requires table { pen.old.table ≡ self.now.table }
         requires lead { IsLeadOf pen.old lead }
-        ensures wakes { Wakes (book_in_hand pen.old.state) result }
-        ensures after { pen.new ≡ record pen.old { state = after_release pen.old.state } }
+        ensures { pen.new ≡ record pen.old { state = after_release pen.old.state } }
     {
-        put_home(&self.table.shared, &mut pen.seat, lead.into_boxed())
+        let wakes = put_home(&self.table.shared, &mut pen.seat, lead.into_boxed());
+        pen.wakes |= wakes;
     }
 }

@@ -26,9 +26,9 @@
 //!   many lines as they do, or a page more than the most that were archived
 //!   (`running::law_running_desks_are_linearizable`).
 //! - Who waits stands beside the Book. `Desk::wait`, `Desk::leave` and `Desk::leave_all` change that list, a step each, while the pen
-//!   leads. Each release has the Book wake whom it is to wake, as few as it may, and returns exactly these. So no thread sleeps
-//!   beside an item that it could take while the lock is free, unless one that could was woken and has not come back
-//!   (`running::law_running_desks_are_linearizable`).
+//!   leads. Each release has the Book wake whom it is to wake, as few as it may, and the pen keeps exactly their numbers until
+//!   `Desk::take_wakes` hands them out. So no thread sleeps beside an item that it could take while the lock is free, unless one
+//!   that could was woken and has not come back (`running::law_running_desks_are_linearizable`).
 //! - `Desk::note` writes a note of the journal, which another pen of the desk may `Desk::hear`, in any thread: then each
 //!   later line of that pen is behind the journal that the note tells, which has all calls of the writer.
 //! - A pen that leads may draft, post and look meanwhile: its lead stays its own (`leading::law_leads_stay`).

@@ -2,11 +2,11 @@
 ghost use Rattle.std.specs.Prelude.{◌≡◌, ◌<◌, true, [], ◌∷◌, MatchOption};
 ghost use Rattle.desk_core.specs.declared.model.View.TheVariants.{Holder};
 ghost use Rattle.desk_core.specs.Layout.{lock_at};
-ghost use Rattle.desk_core.specs.Pen.{after_miss, after_release, book_in_hand};
+ghost use Rattle.desk_core.specs.Pen.{after_miss, after_release, book_in_hand, newly_woken};
 ghost use Rattle.announce_board.specs.Steps.{pen_at, Becomes};
 ghost use Rattle.announce_board.specs.Loads.{TriesLock, WinsBook};
 ghost use Rattle.announce_board.specs.Slots.{out};
-ghost use Rattle.announce_board.specs.Waking.{Wakes};
+ghost use Rattle.announce_board.specs.Waking.{IsMaskOf};
 
 use crate::boxed_book::BoxedBook;
 use crate::laws::law_steps_are_allowed;
@@ -72,7 +72,7 @@ pub fn put_home<S: Store<Entry<P>>, P: Part>(
     requires leads { (pen_at seat.old.me).leading ≡ true }
     requires book { book ≡ book_in_hand (pen_at seat.old.me) }
     ensures table { seat.new.table_id ≡ seat.old.table_id }
-    ensures wakes { Wakes (book_in_hand (pen_at seat.old.me)) result }
+    ensures wakes { IsMaskOf result (newly_woken (book_in_hand (pen_at seat.old.me))) }
     ensures after { seat.new.me ≡ (Holder (after_release (pen_at seat.old.me)), []) }
 {
     law_steps_are_allowed::<S, P>();

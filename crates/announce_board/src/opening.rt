@@ -206,5 +206,6 @@ fn next_pen<S: Store<Entry<P>>, P: Part>(
         place,
         posts: 0,
         idle: true,
+        wakes: 0,
     }
 }

@@ -10,10 +10,10 @@ ghost use Rattle.pq_book.specs.Book.{AllHaveRoom};
 ghost use Rattle.desk_core.specs.declared.model.View.TheVariants.{Holder};
 ghost use Rattle.desk_core.specs.Knows.{NoneAbove};
 ghost use Rattle.desk_core.specs.Layout.{lock_at};
-ghost use Rattle.desk_core.specs.Pen.{IsIdle, after_release_with, book_in_hand, limits_in_hand};
+ghost use Rattle.desk_core.specs.Pen.{IsIdle, after_release_with, book_in_hand, limits_in_hand, newly_woken};
 ghost use Rattle.announce_board.specs.Asking.{IsAnswerTo, IsAboveAll, IsFullFor};
 ghost use Rattle.announce_board.specs.Slots.{out};
-ghost use Rattle.announce_board.specs.Waking.{Wakes};
+ghost use Rattle.announce_board.specs.Waking.{IsMaskOf};
 ghost use Rattle.announce_board.specs.Steps.{pen_at, book_by};
 ghost use Rattle.announce_board.specs.Tokens.{IsLeadOf, is_idle};
 
@@ -60,7 +60,7 @@ fn put_home_with<S: Store<Entry<P>>, P: Part>(
     ensures barred { IsFullFor (pen_at seat.old.me) → (number : ℕ) (reply : Reply) → result.0 ≢ Entered number reply }
     ensures memory { AllHaveRoom S.room (pen_at seat.old.me).room → result.0 ≢ Answer.NoMemory }
     ensures spare { AllHaveRoom S.room (length (left (pen_at seat.old.me).hand) + 1) → result.0 ≢ Answer.NoMemory }
-    ensures wakes { Wakes (book_by (pen_at seat.old.me) (Asked request) result.0) result.1 }
+    ensures wakes { IsMaskOf result.1 (newly_woken (book_by (pen_at seat.old.me) (Asked request) result.0)) }
     ensures after { (now : ℕ) × (seat.new.me ≡ (Holder (after_release_with (pen_at seat.old.me) request result.0 now), [])) }
 {
     law_steps_are_allowed::<S, P>();
@@ -87,21 +87,20 @@ impl<S: Store<Entry<P>>, P: Part> Desk<S, P> {
         pen: &mut Pen<S, P>,
         lead: Lead<S, P>,
         request: Request<Item<P>>,
-    ) -> (Answer<Item<P>>, u64)
+    ) -> Answer<Item<P>>
         requires table { pen.old.table ≡ self.now.table }
         requires lead { IsLeadOf pen.old lead }
         requires due { pen.old.state.due ≡ None }
         requires idle { is_idle pen.old.state.standing ≡ true }
         requires few { pen.old.state.posts < GREATEST_NUMBER }
-        ensures may { MayAnswer (limits_in_hand pen.old.state) pen.old.state.hand request result.0 }
-        ensures answers { IsAnswerTo pen.old.state.room request result.0 }
-        ensures behind { (number : ℕ) (reply : Reply) → result.0 ≡ Entered number reply → IsAboveAll number pen.old.state.mine }
-        ensures full { result.0 ≡ Answer.BookFull → IsFullFor pen.new.state }
-        ensures barred { IsFullFor pen.old.state → (number : ℕ) (reply : Reply) → result.0 ≢ Entered number reply }
-        ensures memory { AllHaveRoom S.room pen.old.state.room → result.0 ≢ Answer.NoMemory }
-        ensures spare { AllHaveRoom S.room (length (left pen.old.state.hand) + 1) → result.0 ≢ Answer.NoMemory }
-        ensures wakes { Wakes (book_by pen.old.state (Asked request) result.0) result.1 }
-        ensures after { (now : ℕ) × (pen.new ≡ record pen.old { state = after_release_with pen.old.state request result.0 now }) }
+        ensures may { MayAnswer (limits_in_hand pen.old.state) pen.old.state.hand request result }
+        ensures answers { IsAnswerTo pen.old.state.room request result }
+        ensures behind { (number : ℕ) (reply : Reply) → result ≡ Entered number reply → IsAboveAll number pen.old.state.mine }
+        ensures full { result ≡ Answer.BookFull → IsFullFor pen.new.state }
+        ensures barred { IsFullFor pen.old.state → (number : ℕ) (reply : Reply) → result ≢ Entered number reply }
+        ensures memory { AllHaveRoom S.room pen.old.state.room → result ≢ Answer.NoMemory }
+        ensures spare { AllHaveRoom S.room (length (left pen.old.state.hand) + 1) → result ≢ Answer.NoMemory }
+        ensures after { (now : ℕ) × (pen.new ≡ record pen.old { state = after_release_with pen.old.state request result now }) }
     {
         let serial = pen.posts + 1;
         let book = lead.into_boxed();
@@ -114,6 +113,7 @@ impl<S: Store<Entry<P>>, P: Part> Desk<S, P> {
             request,
         );
         pen.posts = serial;
-        (answer, wakes)
+        pen.wakes |= wakes;
+        answer
     }
 }

@@ -8,10 +8,10 @@ ghost use Rattle.pq_types.specs.Operation.{Shuts};
 ghost use Rattle.desk_core.specs.declared.model.View.TheVariants.{Holder};
 ghost use Rattle.desk_core.specs.Knows.{NoneAbove};
 ghost use Rattle.desk_core.specs.Layout.{lock_at};
-ghost use Rattle.desk_core.specs.Pen.{IsIdle, after_release_by, book_in_hand, limits_in_hand};
+ghost use Rattle.desk_core.specs.Pen.{IsIdle, after_release_by, book_in_hand, limits_in_hand, newly_woken};
 ghost use Rattle.announce_board.specs.Asking.{IsAnswerBy, IsAboveAll, IsFullFor};
 ghost use Rattle.announce_board.specs.Slots.{out};
-ghost use Rattle.announce_board.specs.Waking.{Wakes};
+ghost use Rattle.announce_board.specs.Waking.{IsMaskOf};
 ghost use Rattle.announce_board.specs.Steps.{pen_at, book_by};
 ghost use Rattle.announce_board.specs.Tokens.{IsLeadOf, is_idle};
 
@@ -53,7 +53,7 @@ fn put_home_shut<S: Store<Entry<P>>, P: Part>(
     ensures full { result.0 ≡ Answer.BookFull → IsFullFor (pen_at seat.new.me) }
     ensures barred { IsFullFor (pen_at seat.old.me) → (number : ℕ) (reply : Reply) → result.0 ≢ Entered number reply }
     ensures memory { result.0 ≢ Answer.NoMemory }
-    ensures wakes { Wakes (book_by (pen_at seat.old.me) Shuts result.0) result.1 }
+    ensures wakes { IsMaskOf result.1 (newly_woken (book_by (pen_at seat.old.me) Shuts result.0)) }
     ensures after { (now : ℕ) × (seat.new.me ≡ (Holder (after_release_by (pen_at seat.old.me) Shuts result.0 now), [])) }
 {
     law_steps_are_allowed::<S, P>();
@@ -72,20 +72,19 @@ impl<S: Store<Entry<P>>, P: Part> Desk<S, P> {
     /// stays. The line of the shut comes after those of the pen's earlier calls. It is refused where the
     /// journal is full, where the queue is shut, and where its line would make memory forget one that is not
     /// archived. It takes no memory.
-    pub fn release_shut(&self, pen: &mut Pen<S, P>, lead: Lead<S, P>) -> (Answer<Item<P>>, u64)
+    pub fn release_shut(&self, pen: &mut Pen<S, P>, lead: Lead<S, P>) -> Answer<Item<P>>
         requires table { pen.old.table ≡ self.now.table }
         requires lead { IsLeadOf pen.old lead }
         requires due { pen.old.state.due ≡ None }
         requires idle { is_idle pen.old.state.standing ≡ true }
         requires few { pen.old.state.posts < GREATEST_NUMBER }
-        ensures may { MayDo (limits_in_hand pen.old.state) pen.old.state.hand Shuts result.0 }
-        ensures answers { IsAnswerBy pen.old.state.room Shuts result.0 }
-        ensures behind { (number : ℕ) (reply : Reply) → result.0 ≡ Entered number reply → IsAboveAll number pen.old.state.mine }
-        ensures full { result.0 ≡ Answer.BookFull → IsFullFor pen.new.state }
-        ensures barred { IsFullFor pen.old.state → (number : ℕ) (reply : Reply) → result.0 ≢ Entered number reply }
-        ensures memory { result.0 ≢ Answer.NoMemory }
-        ensures wakes { Wakes (book_by pen.old.state Shuts result.0) result.1 }
-        ensures after { (now : ℕ) × (pen.new ≡ record pen.old { state = after_release_by pen.old.state Shuts result.0 now }) }
+        ensures may { MayDo (limits_in_hand pen.old.state) pen.old.state.hand Shuts result }
+        ensures answers { IsAnswerBy pen.old.state.room Shuts result }
+        ensures behind { (number : ℕ) (reply : Reply) → result ≡ Entered number reply → IsAboveAll number pen.old.state.mine }
+        ensures full { result ≡ Answer.BookFull → IsFullFor pen.new.state }
+        ensures barred { IsFullFor pen.old.state → (number : ℕ) (reply : Reply) → result ≢ Entered number reply }
+        ensures memory { result ≢ Answer.NoMemory }
+        ensures after { (now : ℕ) × (pen.new ≡ record pen.old { state = after_release_by pen.old.state Shuts result now }) }
     {
         let serial = pen.posts + 1;
         let book = lead.into_boxed();
@@ -97,6 +96,7 @@ impl<S: Store<Entry<P>>, P: Part> Desk<S, P> {
             book,
         );
         pen.posts = serial;
-        (answer, wakes)
+        pen.wakes |= wakes;
+        answer
     }
 }

@@ -7,6 +7,7 @@ ghost use Rattle.desk_core.specs.Pen.{after_change, after_hand_out, book_in_hand
 ghost use Rattle.announce_board.specs.Slots.{out};
 ghost use Rattle.announce_board.specs.Steps.{pen_at};
 ghost use Rattle.announce_board.specs.Tokens.{IsLeadOf};
+ghost use Rattle.announce_board.specs.Waking.{IsMaskOf};
 
 use crate::applying::take_back;
 use crate::boxed_book::BoxedBook;
@@ -127,13 +128,17 @@ fn owe_nobody<S: Store<Entry<P>>, P: Part>(board: &Board<S, P>, seat: &mut Board
 }
 
 impl<S: Store<Entry<P>>, P: Part> Desk<S, P> {
-    /// The pen hands out the numbers of those whom its releases have woken, in one step: from now on it owes nobody a wake, and
-    /// all else is as it was. The caller has their masks from the releases.
-    pub fn hand_out(&self, pen: &mut Pen<S, P>)
+    /// The pen hands out the numbers of those whom its releases have woken, in one step, as the bits of a mask: from now on it
+    /// owes nobody a wake, and all else is as it was. The caller wakes them.
+    pub fn take_wakes(&self, pen: &mut Pen<S, P>) -> u64
         requires table { pen.old.table ≡ self.now.table }
+        ensures wakes { IsMaskOf result pen.old.state.owed }
         ensures after { pen.new ≡ record pen.old { state = after_hand_out pen.old.state } }
     {
         owe_nobody(&self.table.shared, &mut pen.seat);
+        let wakes = pen.wakes;
+        pen.wakes = 0;
+        wakes
     }
 
     /// One with this number, which nobody in the list has, waits for this from now on at the Book of the lead, behind all others.

@@ -82,7 +82,6 @@ impl<S: Store<Entry<P>>, P: Part> Queue<S, P> {
         requires lead { IsLeadOf (pen_of member.old) lead }
         ensures { member.new ≡ record member.old { pen = after_release member.old.pen } }
     {
-        let wakes = self.desk.release(&mut member.pen, lead);
-        member.owe(wakes);
+        self.desk.release(&mut member.pen, lead);
     }
 }

@@ -102,8 +102,7 @@ impl<S: Store<Entry<P>>, P: Part> Queue<S, P> {
         let most = self.most_posts();
         let (lead, done, refused) = push_each(&self.desk, &mut member.pen, lead, items, most);
         let lines = lead.lines();
-        let wakes = self.desk.release(&mut member.pen, lead);
-        member.owe(wakes);
+        self.desk.release(&mut member.pen, lead);
         self.waiters.count_batch(done, lines, self.desk.room());
         Batch {
             done,
@@ -176,8 +175,7 @@ impl<S: Store<Entry<P>>, P: Part> Queue<S, P> {
         let (lead, done, refused) = pop_each(&self.desk, pen, lead, priority, into, most);
         let lines = lead.lines();
         let next = next_there(&lead, self.desk.room());
-        let wakes = self.desk.release(&mut member.pen, lead);
-        member.owe(wakes);
+        self.desk.release(&mut member.pen, lead);
         self.waiters.count_batch(0, lines, self.desk.room());
         let batch = Batch {
             done,

@@ -65,7 +65,6 @@ impl<S: Store<Entry<P>>, P: Part> Queue<S, P> {
             stopped: _,
             pen,
             rest: _,
-            wakes: _,
         } = member;
         grid.close();
         desk.close_with(pen)

@@ -140,7 +140,9 @@ pub mod time_source;
 pub mod times;
 mod until_end;
 pub mod up_to;
+pub mod wait_steps;
 pub mod waiting;
+mod waking;
 
 pub use announce_board::{Note, Testimony};
 pub use batches::{Batch, MOST_BATCH, Popped};
@@ -167,3 +169,4 @@ pub use taking::Awaited;
 pub use time_source::TimeSource;
 pub use times::Times;
 pub use up_to::UpTo;
+pub use wait_steps::{Entry, Patience, PushedOr, RoomWait};

@@ -50,7 +50,6 @@ pub struct Member<S: Store<Entry<P>>, P: Part = u32> {
     pub(crate) stopped: Stopped<Waiting>,
     pub(crate) pen: Pen<S, P>,
     pub(crate) rest: Rest,
-    pub(crate) wakes: u64,
 }
 
 impl<S: Store<Entry<P>>, P: Part> Model for Member<S, P> {
@@ -116,23 +115,6 @@ impl<S: Store<Entry<P>>, P: Part> Member<S, P> {
         ensures { result ≡ self.now.pen.posts }
     {
         self.pen.posts()
-    }
-
-    /// The numbers of those whom its releases have woken, as the bits of a mask. From then on it has handed them out.
-    pub fn take_wakes(&mut self) -> u64
-        ensures { self.new ≡ self.old }
-    {
-        let wakes = self.wakes;
-        self.wakes = 0;
-        wakes
-    }
-
-    /// Keeps the numbers of those whom a release has woken, until they are handed out.
-    #[inline(always)]
-    pub(crate) fn owe(&mut self, wakes: u64)
-        ensures { self.new ≡ self.old }
-    {
-        self.wakes |= wakes;
     }
 
     /// Whether it waits for no answer.

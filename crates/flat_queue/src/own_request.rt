@@ -173,8 +173,7 @@ impl<S: Store<Entry<P>>, P: Part> Queue<S, P> {
         ensures memory { HasRoomForAll S.room self.now → result ≢ Answer.NoMemory }
         ensures spare { HasSpareRoom S.room member.old.pen.hand → result ≢ Answer.NoMemory }
     {
-        let (answer, wakes) = self.desk.release_with(&mut member.pen, lead, request);
-        member.owe(wakes);
+        let answer = self.desk.release_with(&mut member.pen, lead, request);
         self.waiters.count_own(&answer, self.desk.room());
         answer
     }

@@ -107,7 +107,6 @@ impl<S: Store<Entry<P>>, P: Part> Queue<S, P> {
             stopped,
             pen: self.desk.wake(sleeper, licence),
             rest: Rest::DEFAULT,
-            wakes: 0,
         }
     }
 
@@ -127,7 +126,6 @@ impl<S: Store<Entry<P>>, P: Part> Queue<S, P> {
                     stopped,
                     pen,
                     rest: Rest::DEFAULT,
-                    wakes: 0,
                 })
             }
         }

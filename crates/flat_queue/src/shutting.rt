@@ -94,8 +94,7 @@ impl<S: Store<Entry<P>>, P: Part> Queue<S, P> {
         ensures releases { ReleasesOperation member.old Shuts result member.new }
         ensures answers { IsAnswerBy self.now.room Shuts result }
     {
-        let (answer, wakes) = self.desk.release_shut(&mut member.pen, lead);
-        member.owe(wakes);
+        let answer = self.desk.release_shut(&mut member.pen, lead);
         self.waiters.count_shut(&answer);
         answer
     }

@@ -155,8 +155,7 @@ impl<S: TicketStore<Entry<P>>, P: Part> Queue<S, P> {
         ensures spare { HasSpareRoom S.room member.old.pen.hand → result ≢ Answer.NoMemory }
     {
         let moves = matches!(ticketed.deed, Deed::Move(_, _));
-        let (answer, wakes) = self.desk.release_by_ticket(&mut member.pen, lead, ticketed);
-        member.owe(wakes);
+        let answer = self.desk.release_by_ticket(&mut member.pen, lead, ticketed);
         self.waiters
             .count_by_ticket(moves, &answer, self.desk.room());
         answer

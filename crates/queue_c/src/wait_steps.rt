@@ -1,8 +1,8 @@
 // How a C program takes an item, or pushes one, that it may wait for: a list under the queue's lock has those who wait, and their
 // caller sleeps.
-ghost use Rattle.std.specs.Prelude.{◌≡◌, ◌≢◌, Some};
+ghost use Rattle.std.specs.Prelude.{◌≡◌, ◌≢◌, ◌<◌, Some, IfSome};
 ghost use Rattle.pq_types.specs.Item.{item};
-ghost use Rattle.queue_c.specs.WaitSteps.{number_of, patience_of, wait_of, room_for};
+ghost use Rattle.queue_c.specs.WaitSteps.{number_of, patience_of, wait_of, room_wait};
 ghost use Rattle.queue_c.specs.WaitSteps.{TakeOrWaitAnswers, PushOrWaitAnswers, LeaveAnswers, WakesAnswers};
 ghost use Rattle.queue_c.specs.declared.codes.TheConstants.{ENTERED, OK, WATCHES};
 
@@ -12,18 +12,18 @@ use crate::contents::Contents;
 use crate::handle::Handle;
 use crate::looking::told_as;
 use crate::plain::{PlainAnswer, tell_answer};
-use flat_queue::{Entry, Patience, Wanted};
+use flat_queue::{Entry, Patience, PushedOr, RoomWait, Wanted};
 use pq_types::{Answer, Item, Refusal};
 use queue_pool::Undone;
 use std::alloc::Global;
-use wait_list::Wants;
 
 // One that waits has a number below this.
 const NUMBERS: u32 = 64;
 
 // The number of one that waits, where it is one.
 fn number_of(number: u32) -> Option<u8>
-    ensures { result ≡ number_of number }
+    ensures number { result ≡ number_of number }
+    ensures below { IfSome result (λ n. n < 64) }
 {
     if number < NUMBERS {
         Some(number as u8)
@@ -49,7 +49,8 @@ fn patience_of(wants: u32, priority: u64) -> Option<Patience>
 
 // The number and the way of one that waits so, if there are such.
 fn wait_of(number: u32, wants: u32, priority: u64) -> Option<(u8, Patience)>
-    ensures { result ≡ wait_of number wants priority }
+    ensures wait { result ≡ wait_of number wants priority }
+    ensures below { IfSome result (λ wait. wait.0 < 64) }
 {
     match (number_of(number), patience_of(wants, priority)) {
         (Some(number), Some(patience)) => Some((number, patience)),
@@ -57,13 +58,13 @@ fn wait_of(number: u32, wants: u32, priority: u64) -> Option<(u8, Patience)>
     }
 }
 
-// For what a push waits: for room, as a thread, or as a listener.
-fn room_for(listens: u32) -> Wants
-    ensures { result ≡ room_for listens }
+// How a push waits for room: as a thread, or as a listener.
+fn room_wait(listens: u32) -> RoomWait
+    ensures { result ≡ room_wait listens }
 {
     match listens {
-        0 => Wants::Room,
-        _ => Wants::RoomUp,
+        0 => RoomWait::Sleeps,
+        _ => RoomWait::Listens,
     }
 }
 
@@ -135,7 +136,7 @@ fn push_or_wait(
     listens: u32,
     answer: &mut PlainAnswer,
 ) -> u32
-    ensures answers { PushOrWaitAnswers (Some held.old) (number_of number) item (room_for listens) result answer.new (Some held.new) }
+    ensures answers { PushOrWaitAnswers (Some held.old) (number_of number) item (room_wait listens) result answer.new (Some held.new) }
     ensures untold { result ≢ OK → result ≢ ENTERED → answer.new ≡ answer.old }
 {
     let Contents::Member(member, _) = held else {
@@ -144,12 +145,12 @@ fn push_or_wait(
     let Some(number) = number_of(number) else {
         return UNKNOWN;
     };
-    match member.push_or_wait(number, item, room_for(listens)) {
-        Ok(Some(told)) => {
+    match member.push_or_wait(number, item, room_wait(listens)) {
+        Ok(PushedOr::Answered(told)) => {
             *answer = tell_answer(&told, owes_wake(member));
             OK
         }
-        Ok(None) => {
+        Ok(PushedOr::Waits) => {
             *answer = tell_answer(&Answer::Refused(Refusal::Full.padded()), owes_wake(member));
             ENTERED
         }
@@ -172,7 +173,7 @@ pub extern "C" fn pq_core_push_or_wait(
     listens: u32,
     answer: &mut PlainAnswer,
 ) -> u32
-    ensures answers { PushOrWaitAnswers member.old.value (number_of number) (item priority value) (room_for listens) result answer.new member.new.value }
+    ensures answers { PushOrWaitAnswers member.old.value (number_of number) (item priority value) (room_wait listens) result answer.new member.new.value }
     ensures untold { result ≢ OK → result ≢ ENTERED → answer.new ≡ answer.old }
 {
     let Some(mut held) = member.take(alloc) else {

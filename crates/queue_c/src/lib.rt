@@ -30,4 +30,5 @@ mod returning;
 mod shutting;
 mod taking;
 mod tickets;
+mod wait_steps;
 mod waking;

@@ -3,3 +3,4 @@ pub mod Pool
 pub mod StillOpen
 pub mod Taking
 pub mod Calling
+pub mod Waiting

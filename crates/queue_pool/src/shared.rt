@@ -111,7 +111,7 @@ impl<S: Store<Entry<P>>, P: Part> SharedHandle<S, P> {
 
     // Whether the last request is answered, and a serial left.
     #[inline(always)]
-    fn may_call(&self) -> Result<(), Undone>
+    pub(crate) fn may_call(&self) -> Result<(), Undone>
         ensures may { OnOk result (MayCall self.now) }
         ensures undone { IfErr result (λ why. UndoneBy why self.now self.now × (why ≢ Undone.LockHeld)) }
     {

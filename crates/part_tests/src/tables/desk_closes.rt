@@ -70,7 +70,7 @@ fn a_desk_closes_while_one_of_its_pens_sleeps(rt: HostRuntime) {
     let mut first = pens.pop().unwrap();
     let (_sleeper, licence) = desk.put_to_sleep(second);
     let lead = desk.try_lead(&mut first).expect(&rt, "nobody leads");
-    let (answer, _) = desk.release_with(&mut first, lead, push(7));
+    let answer = desk.release_with(&mut first, lead, push(7));
     assert!(rt; answer == Answer::Entered(1, Reply::Pushed));
     let book = closed_with_one(desk, first, licence);
     assert!(rt; book.len() == 1);
@@ -86,7 +86,7 @@ fn a_licence_wakes_another_pen_than_gave_it(rt: HostRuntime) {
     let (sleeper, other) = desk.put_to_sleep(second);
     let mut woken = desk.wake(sleeper, licence);
     let lead = desk.try_lead(&mut woken).expect(&rt, "nobody leads");
-    let (answer, _) = desk.release_with(&mut woken, lead, push(7));
+    let answer = desk.release_with(&mut woken, lead, push(7));
     assert!(rt; answer == Answer::Entered(1, Reply::Pushed));
     let book = closed_with_one(desk, woken, other);
     assert!(rt; book.len() == 1);

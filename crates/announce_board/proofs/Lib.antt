@@ -1,5 +1,6 @@
 mod Slots
 mod Same
+mod Waking
 mod Allows
 mod ToldLemmas
 mod Looks

@@ -7,5 +7,5 @@ use Rattle.announce_board.proofs.boxed_book.BoxedBook.settled.Goals as goal
 
 pub returns-clause-wakes : goal.returns-clause-wakes
 returns-clause-wakes g c =
-    subst (λ (b : Volume). IsMaskOf c.settle-wakes.result (newly_woken b)) (c.deref_mut.ensures.value ∙ c.self.view_is)
+    subst (λ (b : Volume). IsMaskOf c.settle-wakes.result (newly_woken b)) (c.deref_mut.ensures.value ∙ c.book.view_is)
     (settled_mask c.deref_mut.result.now c.settle-wakes.new.self c.settle-wakes.result c.settle-wakes.ensures.book c.settle-wakes.ensures.wakes)

@@ -73,10 +73,13 @@ none_settled stock =
     record {
       threads = λ p f s. absurd (nobody s);
       listeners = λ p f n s. absurd (nobody s);
+      heard = λ p f n s. absurd (nobody s);
       watched = λ p f s. absurd (nobody s);
       alarms = λ p f s. nobody s;
       room = λ l s. absurd (nobody s);
+      room_listeners = λ l n s. absurd (nobody s);
       shut = λ h s. nobody s;
+      shut_listeners = λ h s. nobody s;
       over = λ h f s. nobody s;
       spent = λ h s. nobody s;
     }

@@ -1,14 +1,14 @@
 -- What holds behind every list of events.
-use Rattle.std.proofs.Common.{◌≡◌, ℕ, ◌<◌, ◌≤◌, List, [], ◌∷◌, Bool, true, false, not, ◌&&◌, Option, Some, None, nat_le, min, length, inl, inr, refl, sym, ap, subst, arith}
+use Rattle.std.proofs.Common.{◌≡◌, ℕ, ◌+◌, ◌<◌, ◌≤◌, List, [], ◌∷◌, Bool, true, false, not, ◌&&◌, ◌⊎◌, Option, Some, None, nat_le, min, length, inl, inr, refl, sym, ap, subst, arith}
 use Rattle.std.specs.List.{list_any, AllByRecursion}
 use Rattle.std.proofs.lemmas.Bool.Decides.{nat_tests}
 use Rattle.std.proofs.lemmas.Bool.{cases_lt}
 use Rattle.wait_list.specs.declared.group.Group.{Group}
-use Rattle.wait_list.specs.declared.group.Group.TheVariants.{Threads, Listeners, Dues, Watchers, LateAlarms, Producers, Everybody}
+use Rattle.wait_list.specs.declared.group.Group.TheVariants.{Threads, Listeners, Hearers, HearWatchers, Dues, Watchers, LateAlarms, Producers, RoomListeners, Everybody}
 use Rattle.wait_list.specs.declared.waiter.Wants.{Wants}
-use Rattle.wait_list.specs.declared.waiter.Wants.TheVariants.{Any, UpTo, Due, Alarm, Room}
+use Rattle.wait_list.specs.declared.waiter.Wants.TheVariants.{Any, UpTo, Due, Alarm, Room, RoomUp}
 use Rattle.wait_list.specs.declared.waiter.Waiter.{Waiter}
-use Rattle.wait_list.specs.Waiters.{is_in, is_asleep, is_awake, OneSleeps, OneIsAwake, has, count_awake, is_by, watches}
+use Rattle.wait_list.specs.Waiters.{is_in, is_asleep, is_awake, OneSleeps, OneIsAwake, has, count_awake, is_by, watches, hears_by_itself}
 use Rattle.wait_list.specs.Settled.{IsSettled}
 use Rattle.wait_list.specs.Runs.{Event, World, run, opening, happens, after, stock_of, least, least_with, HasNothing, MaySleep, AllAreBack}
 use Rattle.wait_list.proofs.FirstOnes.{neither}
@@ -24,10 +24,13 @@ at_opening bound =
     record {
       threads = λ p f s. absurd (never false refl s);
       listeners = λ p f n s. absurd (never false refl s);
+      heard = λ p f n s. absurd (never false refl s);
       watched = λ p f s. absurd (never false refl s);
       alarms = λ p f s. never false refl s;
       room = λ l s. absurd (never false refl s);
+      room_listeners = λ l n s. absurd (never false refl s);
       shut = λ h s. never false refl s;
+      shut_listeners = λ h s. never false refl s;
       over = λ h f s. never false refl s;
       spent = λ h s. never false refl s;
     }
@@ -118,15 +121,30 @@ by_later p q (Some t) l h = grind (arith, nat_tests)
 
 watches_later : (p q : ℕ) (x : Wants) → p ≤ q → watches p x ≡ true → watches q x ≡ true
 watches_later p q Any l h = h
-watches_later p q (UpTo b) l h = h
+watches_later p q (UpTo b s) l h = h
 watches_later p q (Due t) l h = by_later p q t l h
 watches_later p q (Alarm t) l h = h
 watches_later p q Room l h = h
+watches_later p q RoomUp l h = h
+
+hears_later : (p q : ℕ) (x : Wants) → p ≤ q → hears_by_itself p x ≡ true → hears_by_itself q x ≡ true
+hears_later p q Any l h = h
+hears_later p q (UpTo b s) l h = by_later p q s l h
+hears_later p q (Due t) l h = h
+hears_later p q (Alarm t) l h = h
+hears_later p q Room l h = h
+hears_later p q RoomUp l h = h
 
 asleep_later : (p q : ℕ) → p ≤ q → (w : Waiter) → is_asleep (Watchers p) w ≡ true → is_asleep (Watchers q) w ≡ true
 asleep_later p q l w h =
     let parts = both (not w.is_woken) (watches p w.wants) h in
     let later : watches q w.wants ≡ true = watches_later p q w.wants l parts.1 in
+    rw (parts.0, later) refl
+
+asleep_hearer_later : (p q : ℕ) → p ≤ q → (w : Waiter) → is_asleep (HearWatchers p) w ≡ true → is_asleep (HearWatchers q) w ≡ true
+asleep_hearer_later p q l w h =
+    let parts = both (not w.is_woken) (hears_by_itself p w.wants) h in
+    let later : hears_by_itself q w.wants ≡ true = hears_later p q w.wants l parts.1 in
     rw (parts.0, later) refl
 
 -- with no item, each of them has anything
@@ -145,15 +163,23 @@ module _ (w : World) (h : Stands w) (back : AllAreBack w) where
       (λ s. back_of_group Threads w.waiters back
       (elim (has_either Threads w.waiters s) [ inl t ↦ h.threads p e t | inr a ↦ a ]))
 
-  up_to_by : (b p : ℕ) (t : Bool) → nat_le p b ≡ t → least w.items ≡ Some p → Knows w (UpTo b) → AllByRecursion (λ q. b < q) w.items
-  up_to_by b p true f e k =
+  up_to_by : (b p : ℕ) (s : Option ℕ) (t : Bool) → nat_le p b ≡ t → least w.items ≡ Some p → Knows w (UpTo b s) → AllByRecursion (λ q. b < q) w.items
+  up_to_by b p s true f e k =
       let awake : length w.items ≤ count_awake (Listeners p) w.waiters = h.listeners p e (no_thread p e) (k (Listeners p) f) in
       absurd (back_of_group (Listeners p) w.waiters back (counts_one (Listeners p) w.waiters (omega (arith, awake, some_is_there w.items p e))))
-  up_to_by b p false f e k = let first : b < p = over_first p b f in all_from (λ q. b < q) p (λ q l. omega (arith, first, l)) w.items (least_all w.items p e)
+  up_to_by b p s false f e k = let first : b < p = over_first p b f in all_from (λ q. b < q) p (λ q l. omega (arith, first, l)) w.items (least_all w.items p e)
 
-  up_to_nothing : (b : ℕ) (o : Option ℕ) → least w.items ≡ o → Knows w (UpTo b) → AllByRecursion (λ q. b < q) w.items
-  up_to_nothing b None e k = of_none (λ q. b < q) w.items e
-  up_to_nothing b (Some p) e k = up_to_by b p (nat_le p b) refl e k
+  up_to_nothing : (b : ℕ) (s o : Option ℕ) → least w.items ≡ o → Knows w (UpTo b s) → AllByRecursion (λ q. b < q) w.items
+  up_to_nothing b s None e k = of_none (λ q. b < q) w.items e
+  up_to_nothing b s (Some p) e k = up_to_by b p s (nat_le p b) refl e k
+
+  heard_nothing : (b : ℕ) (s o : Option ℕ) → least w.items ≡ o → Knows w (UpTo b s) → AllByRecursion (λ q. OneSleeps (HearWatchers q) w.waiters) w.items
+  heard_nothing b s None e k = of_none (λ q. OneSleeps (HearWatchers q) w.waiters) w.items e
+  heard_nothing b s (Some p) e k =
+      elim (h.heard p e (no_thread p e) (k Hearers refl)) [
+        | inl a ↦ absurd (back_of_group Hearers w.waiters back a)
+        | inr t ↦ all_from (λ q. OneSleeps (HearWatchers q) w.waiters) p (λ q l. asleep_in_larger (HearWatchers p) (HearWatchers q) (asleep_hearer_later p q l) w.waiters t) w.items (least_all w.items p e)
+      ]
 
   due_nothing : (t : Option ℕ) (o : Option ℕ) → least w.items ≡ o → Knows w (Due t) → AllByRecursion (λ q. OneSleeps (Watchers q) w.waiters) w.items
   due_nothing t None e k = of_none (λ q. OneSleeps (Watchers q) w.waiters) w.items e
@@ -179,12 +205,36 @@ module _ (w : World) (h : Stands w) (back : AllAreBack w) where
     is_false w.is_shut (λ s. h.shut s (k Producers refl)),
   )
 
+  -- where there is room a producer that sleeps beside it would have been woken, and so there is none
+  no_room : w.bound ≤ length w.items ⊎ has Producers w.waiters ≡ false
+  no_room =
+      elim (cases_lt (length w.items) w.bound) [
+        | inl l ↦ inr (is_false (has Producers w.waiters)
+            (λ t. back_of_group Producers w.waiters back
+            (elim (has_either Producers w.waiters t) [ inl s ↦ h.room l s | inr a ↦ a ])))
+        | inr l ↦ inl (omega (arith, l))
+      ]
+
+  room_up_by : Knows w RoomUp → w.bound ≤ length w.items ⊎ has Producers w.waiters ≡ false → w.bound ≤ length w.items
+  room_up_by k (inl l) = l
+  room_up_by k (inr none) =
+      elim (cases_lt (length w.items) w.bound) [
+        | inl l ↦
+            let awake : w.bound ≤ length w.items + count_awake RoomListeners w.waiters = h.room_listeners l none (k RoomListeners refl) in
+            absurd (back_of_group RoomListeners w.waiters back (counts_one RoomListeners w.waiters (omega (arith, awake, l))))
+        | inr l ↦ omega (arith, l)
+      ]
+
+  room_up_nothing : Knows w RoomUp → (w.bound ≤ length w.items) × (w.is_shut ≡ false)
+  room_up_nothing k = (room_up_by k no_room, is_false w.is_shut (λ s. h.shut_listeners s (k RoomListeners refl)))
+
   has_nothing : (x : Wants) → Knows w x → HasNothing w x
   has_nothing Any k = any_nothing (least w.items) refl k
-  has_nothing (UpTo b) k = up_to_nothing b (least w.items) refl k
+  has_nothing (UpTo b s) k = (up_to_nothing b s (least w.items) refl k, heard_nothing b s (least w.items) refl k)
   has_nothing (Due t) k = due_nothing t (least w.items) refl k
   has_nothing (Alarm t) k = alarm_nothing t (least w.items) refl k
   has_nothing Room k = room_nothing k
+  has_nothing RoomUp k = room_up_nothing k
 
   may_sleep : (x : Wants) → Knows w x → MaySleep w x
   may_sleep x k =

@@ -3,7 +3,7 @@ use Rattle.std.proofs.Common.{◌≡◌, ℕ, zero, suc, ◌+◌, ◌-◌, ◌�
 use Rattle.wait_list.specs.declared.group.Group.{Group}
 use Rattle.wait_list.specs.declared.group.Group.TheVariants.{Everybody}
 use Rattle.wait_list.specs.declared.waiter.Wants.{Wants}
-use Rattle.wait_list.specs.declared.waiter.Wants.TheVariants.{Any, UpTo, Due, Alarm, Room}
+use Rattle.wait_list.specs.declared.waiter.Wants.TheVariants.{Any, UpTo, Due, Alarm, Room, RoomUp}
 use Rattle.wait_list.specs.declared.waiter.Waiter.{Waiter}
 use Rattle.wait_list.specs.Waiters.{is_in, is_asleep, count_awake, woken}
 use Rattle.wait_list.specs.Settled.{woken_first, enough_awake, all_awake, IsSameOrWoken, OnlyWakes}
@@ -17,10 +17,11 @@ Kind = Wants → Bool
 
 abbrev pub kind_of : Wants → ℕ
 kind_of Any = 0
-kind_of (UpTo b) = 4
+kind_of (UpTo b s) = 4
 kind_of (Due w) = 1
 kind_of (Alarm a) = 2
 kind_of Room = 3
+kind_of RoomUp = 5
 
 abbrev pub kind : ℕ → Kind
 kind k x = kind_of x == k
@@ -39,15 +40,16 @@ count_anyone (w ∷ ws) = ap (λ (n : ℕ). cond (w.is_woken && true) 1 0 + n) (
 
 -- each is of one kind
 one_kind : (b : Bool) (x : Wants)
-    → cond (b && true) 1 0 ≡ cond (b && kind 0 x) 1 0 + cond (b && kind 1 x) 1 0 + cond (b && kind 2 x) 1 0 + cond (b && kind 3 x) 1 0 + cond (b && kind 4 x) 1 0
+    → cond (b && true) 1 0 ≡ cond (b && kind 0 x) 1 0 + cond (b && kind 1 x) 1 0 + cond (b && kind 2 x) 1 0 + cond (b && kind 3 x) 1 0 + cond (b && kind 4 x) 1 0 + cond (b && kind 5 x) 1 0
 one_kind false x = refl
 one_kind true Any = refl
-one_kind true (UpTo b) = refl
+one_kind true (UpTo b s) = refl
 one_kind true (Due w) = refl
 one_kind true (Alarm a) = refl
 one_kind true Room = refl
+one_kind true RoomUp = refl
 
-pub by_kinds : (ws : List Waiter) → count_awake Everybody ws ≡ count (kind 0) ws + count (kind 1) ws + count (kind 2) ws + count (kind 3) ws + count (kind 4) ws
+pub by_kinds : (ws : List Waiter) → count_awake Everybody ws ≡ count (kind 0) ws + count (kind 1) ws + count (kind 2) ws + count (kind 3) ws + count (kind 4) ws + count (kind 5) ws
 by_kinds [] = refl
 by_kinds (w ∷ ws) = omega (arith, one_kind w.is_woken w.wants, by_kinds ws)
 

@@ -1,65 +1,19 @@
 -- No list that is settled has fewer awake: of each kind, and so of all.
-use Rattle.std.proofs.Common.{◌≡◌, ℕ, zero, suc, ◌+◌, ◌-◌, ◌<◌, ◌≤◌, List, [], ◌∷◌, Bool, true, false, ◌&&◌, ◌==◌, cond, Option, Some, None, is_none, nat_lt, ◌⊎◌, inl, inr, refl, sym, ◌∙◌, ap, subst, arith}
+use Rattle.std.proofs.Common.{◌≡◌, ℕ, zero, suc, ◌+◌, ◌-◌, ◌<◌, ◌≤◌, List, [], ◌∷◌, Bool, true, false, ◌&&◌, cond, Option, Some, None, is_none, nat_lt, ◌⊎◌, inl, inr, refl, sym, ◌∙◌, ap, subst, arith}
 use Rattle.std.specs.List.{list_any}
 use Rattle.std.proofs.lemmas.Bool.Decides.{nat_tests}
 use Rattle.wait_list.specs.declared.group.Group.{Group}
-use Rattle.wait_list.specs.declared.group.Group.TheVariants.{Threads, Listeners, Dues, Watchers, LateAlarms, Producers, Everybody}
+use Rattle.wait_list.specs.declared.group.Group.TheVariants.{Threads, Listeners, Hearers, HearWatchers, Dues, Watchers, LateAlarms, Producers, RoomListeners, Everybody}
 use Rattle.wait_list.specs.declared.waiter.Wants.{Wants}
-use Rattle.wait_list.specs.declared.waiter.Wants.TheVariants.{Any, UpTo, Due, Alarm, Room}
 use Rattle.wait_list.specs.declared.waiter.Waiter.{Waiter}
 use Rattle.wait_list.specs.declared.stock.Stock.{Stock}
-use Rattle.wait_list.specs.Waiters.{is_in, is_asleep, is_awake, OneSleeps, OneIsAwake, has, count_awake, woken, takes_any, listens, takes_due, rings_late, is_producer}
-use Rattle.wait_list.specs.Settled.{woken_first, enough_awake, all_awake, awake_if_in, is_watched, watched_by_one, listened_to, threads_settled, settled_for_items, settled_for_room, is_over, settled, IsSameOrWoken, OnlyWakes, IsSettled}
-use Rattle.wait_list.proofs.FirstOnes.{neither}
-use Rattle.wait_list.proofs.OnlyWakings.{both, either, left_or, right_or, asleep_before, only_settled, only_refl, only_trans, only_threads, only_watched, has_same, has_either, awake_has, one_is_awake, one_counts}
-use Rattle.wait_list.proofs.Settling.{watcher_is_due, never}
-use Rattle.wait_list.proofs.Fewest.{Kind, kind_of, kind, anyone, count, count_anyone, by_kinds, OnKind, SameOn, Apart, Within, along_same, same_refl, same_trans, same_count, same_enough, same_all_awake, same_wants_if, of_group, more_count}
-
--- The kind of each group.
-threads_kind : (x : Wants) → takes_any x ≡ true → kind_of x ≡ 0
-threads_kind Any h = refl
-threads_kind (UpTo b) h = absurd cc
-threads_kind (Due w) h = absurd cc
-threads_kind (Alarm a) h = absurd cc
-threads_kind Room h = absurd cc
-
-listeners_kind : (p : ℕ) (x : Wants) → listens p x ≡ true → kind_of x ≡ 4
-listeners_kind p Any h = absurd cc
-listeners_kind p (UpTo b) h = refl
-listeners_kind p (Due w) h = absurd cc
-listeners_kind p (Alarm a) h = absurd cc
-listeners_kind p Room h = absurd cc
-
-dues_kind : (x : Wants) → takes_due x ≡ true → kind_of x ≡ 1
-dues_kind Any h = absurd cc
-dues_kind (UpTo b) h = absurd cc
-dues_kind (Due w) h = refl
-dues_kind (Alarm a) h = absurd cc
-dues_kind Room h = absurd cc
-
-alarms_kind : (p : ℕ) (x : Wants) → rings_late p x ≡ true → kind_of x ≡ 2
-alarms_kind p Any h = absurd cc
-alarms_kind p (UpTo b) h = absurd cc
-alarms_kind p (Due w) h = absurd cc
-alarms_kind p (Alarm a) h = refl
-alarms_kind p Room h = absurd cc
-
-producers_kind : (x : Wants) → is_producer x ≡ true → kind_of x ≡ 3
-producers_kind Any h = absurd cc
-producers_kind (UpTo b) h = absurd cc
-producers_kind (Due w) h = absurd cc
-producers_kind (Alarm a) h = absurd cc
-producers_kind Room h = refl
-
--- a group is within its kind, and apart from each other
-abbrev IsKind : Group → ℕ → Type 0
-IsKind g k = (x : Wants) → is_in g x ≡ true → kind_of x ≡ k
-
-within : (g : Group) (k : ℕ) → IsKind g k → (k == k) ≡ true → Within g (kind k)
-within g k f e x h = subst (λ (n : ℕ). (n == k) ≡ true) (sym (f x h)) e
-
-apart : (g : Group) (k j : ℕ) → IsKind g k → (k == j) ≡ false → Apart g (kind j)
-apart g k j f e x h = subst (λ (n : ℕ). (n == j) ≡ false) (sym (f x h)) e
+use Rattle.wait_list.specs.Waiters.{is_in, is_asleep, is_awake, OneSleeps, OneIsAwake, has, count_awake, woken}
+use Rattle.wait_list.specs.Settled.{woken_first, enough_awake, all_awake, awake_if_in, is_watched, watched_by_one, heard_by_one, listened_to, room_listened_to, threads_settled, settled_for_items, settled_for_room, is_over, settled, IsSameOrWoken, OnlyWakes, IsSettled}
+use Rattle.wait_list.proofs.FirstOnes.{neither, woken_none}
+use Rattle.wait_list.proofs.OnlyWakings.{both, either, left_or, right_or, asleep_before, only_settled, only_refl, only_trans, only_enough, only_threads, only_watched, only_items, awake_in_larger, has_same, has_either, awake_has, none_or_one, one_is_awake, one_counts}
+use Rattle.wait_list.proofs.Settling.{never}
+use Rattle.wait_list.proofs.Fewest.{Kind, kind, anyone, count, count_anyone, by_kinds, OnKind, SameOn, Within, along_same, same_refl, same_trans, same_count, same_wants_if, of_group, more_count}
+use Rattle.wait_list.proofs.OfKinds.{awake_listener, threads_within, listeners_within, hearers_within, hear_watchers_within, room_listeners_within, dues_within, watchers_within, producers_within, same_alarms, same_threads, same_watched, same_listened, same_producers, same_all_producers, same_room_listened, same_all_room_listeners, same_room, same_after_threads, of_room_3, of_room_5, same_items}
 
 -- Where more of a group are awake, so many more of its kind are.
 gain_one : (x y i t : Bool) → (i ≡ true → t ≡ true) → (t ≡ true → y ≡ true → x ≡ true)
@@ -159,61 +113,36 @@ enough_count n g t i vs ws o f = enough_by n g t vs ws (list_any (is_asleep g) w
 one_count : (g : Group) (t : Kind) → Within g t → (vs ws : List Waiter) → OnKind t vs ws → (OneSleeps g ws → OneIsAwake g ws) → count t (enough_awake 1 g vs) ≤ count t ws
 one_count g t i vs ws o f = enough_count 1 g t i vs ws o (λ s. one_counts g ws (f s))
 
--- Of each kind.
-threads_within : Within Threads (kind 0)
-threads_within = within Threads 0 threads_kind refl
-
-listeners_within : (p : ℕ) → Within (Listeners p) (kind 4)
-listeners_within p = within (Listeners p) 4 (listeners_kind p) refl
-
-dues_within : Within Dues (kind 1)
-dues_within = within Dues 1 dues_kind refl
-
-watchers_within : (p : ℕ) → Within (Watchers p) (kind 1)
-watchers_within p x h = dues_within x (watcher_is_due p x h)
-
-producers_within : Within Producers (kind 3)
-producers_within = within Producers 3 producers_kind refl
-
--- Each step changes one kind alone.
-same_alarms : (p k : ℕ) → (2 == k) ≡ false → (ws : List Waiter) → SameOn (kind k) ws (all_awake (LateAlarms p) ws)
-same_alarms p k e ws = same_all_awake (LateAlarms p) (kind k) (apart (LateAlarms p) 2 k (alarms_kind p) e) ws
-
-same_threads : (k : ℕ) → (0 == k) ≡ false → (ws : List Waiter) → SameOn (kind k) ws (enough_awake 1 Threads ws)
-same_threads k e ws = same_enough 1 Threads (kind k) (apart Threads 0 k threads_kind e) ws
-
-same_watched : (p k : ℕ) → (1 == k) ≡ false → (ws : List Waiter) → SameOn (kind k) ws (watched_by_one p ws)
-same_watched p k e ws =
-    elim (is_watched p ws) as (λ b. SameOn (kind k) ws (cond b ws (enough_awake 1 Dues ws))) [
-      | true ↦ same_refl (kind k) ws
-      | false ↦ same_enough 1 Dues (kind k) (apart Dues 1 k dues_kind e) ws
-    ]
-
-same_listened : (items p k : ℕ) → (4 == k) ≡ false → (ws : List Waiter) → SameOn (kind k) ws (listened_to items p ws)
-same_listened items p k e ws =
-    elim (has Threads ws) as (λ b. SameOn (kind k) ws (cond b ws (enough_awake items (Listeners p) ws))) [
-      | true ↦ same_refl (kind k) ws
-      | false ↦ same_enough items (Listeners p) (kind k) (apart (Listeners p) 4 k (listeners_kind p) e) ws
-    ]
-
-same_room : (stock : Stock) (k : ℕ) → (3 == k) ≡ false → (ws : List Waiter) → SameOn (kind k) ws (settled_for_room stock ws)
-same_room stock k e ws =
-    let ap3 : Apart Producers (kind k) = apart Producers 3 k producers_kind e in
-    elim stock.is_shut as (λ b. SameOn (kind k) ws (cond b (all_awake Producers ws) (cond (nat_lt stock.items stock.bound) (enough_awake 1 Producers ws) ws))) [
-      | true ↦ same_all_awake Producers (kind k) ap3 ws
-      | false ↦ elim (nat_lt stock.items stock.bound) as (λ b. SameOn (kind k) ws (cond b (enough_awake 1 Producers ws) ws)) [
-        | true ↦ same_enough 1 Producers (kind k) ap3 ws
-        | false ↦ same_refl (kind k) ws
-      ]
-    ]
-
-same_after_threads : (items p k : ℕ) → (1 == k) ≡ false → (4 == k) ≡ false → (ws : List Waiter) → SameOn (kind k) ws (listened_to items p (watched_by_one p ws))
-same_after_threads items p k e f ws =
-    let b = watched_by_one p ws in same_trans (kind k) ws b (listened_to items p b) (same_watched p k e ws) (same_listened items p k f b)
-
 is_false : (b : Bool) → (¬ (b ≡ true)) → b ≡ false
 is_false true h = absurd (h refl)
 is_false false h = refl
+
+-- Where one of the group is awake already, nobody is woken.
+enough_already : (g : Group) (ws : List Waiter) → OneIsAwake g ws → enough_awake 1 g ws ≡ ws
+enough_already g ws h =
+    let e : 1 - count_awake g ws ≡ 0 = omega (arith, one_counts g ws h) in
+    subst (λ (n : ℕ). woken_first n g ws ≡ ws) (sym e) (woken_none g ws)
+
+-- One hears of the first item: either a listener was woken for it, who hears too, or nobody was.
+module _ (p : ℕ) (cs vs : List Waiter) (on : OnKind (kind 4) cs vs)
+    (rule : OneSleeps Hearers vs → OneIsAwake Hearers vs ⊎ OneSleeps (HearWatchers p) vs) where
+  nobody_woken : list_any (is_asleep (HearWatchers p)) cs ≡ false → count (kind 4) (enough_awake 1 Hearers cs) ≤ count (kind 4) vs
+  nobody_woken e =
+      one_count Hearers (kind 4) hearers_within cs vs on
+      (λ s. elim (rule s) [
+        | inl a ↦ a
+        | inr t ↦ absurd (never (list_any (is_asleep (HearWatchers p)) cs) e (slept_before (HearWatchers p) (kind 4) (hear_watchers_within p) cs vs on t))
+      ])
+
+  one_hears : (ds : List Waiter) (b : Bool) → list_any (is_asleep (HearWatchers p)) ds ≡ b → (ds ≡ cs) ⊎ OneIsAwake (Listeners p) ds
+      → count (kind 4) ds ≤ count (kind 4) vs → count (kind 4) (cond b ds (enough_awake 1 Hearers ds)) ≤ count (kind 4) vs
+  one_hears ds true e h l = l
+  one_hears ds false e (inl same) l =
+      subst (λ (xs : List Waiter). count (kind 4) (enough_awake 1 Hearers xs) ≤ count (kind 4) vs) (sym same)
+      (nobody_woken (subst (λ (xs : List Waiter). list_any (is_asleep (HearWatchers p)) xs ≡ false) same e))
+  one_hears ds false e (inr a) l =
+      subst (λ (xs : List Waiter). count (kind 4) xs ≤ count (kind 4) vs)
+      (sym (enough_already Hearers ds (awake_in_larger (Listeners p) Hearers (awake_listener p) ds a))) l
 
 module _ (items p : ℕ) (ws vs : List Waiter) (only : OnlyWakes ws vs) where
   threads_fewest : (OneSleeps Threads vs → OneIsAwake Threads vs) → count (kind 0) (settled_for_items items (Some p) ws) ≤ count (kind 0) vs
@@ -282,35 +211,77 @@ module _ (items p : ℕ) (ws vs : List Waiter) (only : OnlyWakes ws vs) where
 
   listeners_by : (b : Bool) → has Threads (watched_by_one p (threads_settled p ws)) ≡ b
       → (has Threads vs ≡ false → OneSleeps (Listeners p) vs → items ≤ count_awake (Listeners p) vs)
-      → let a = watched_by_one p (threads_settled p ws) in count (kind 4) (cond b a (enough_awake items (Listeners p) a)) ≤ count (kind 4) vs
-  listeners_by true e rule =
+      → (has Threads vs ≡ false → OneSleeps Hearers vs → OneIsAwake Hearers vs ⊎ OneSleeps (HearWatchers p) vs)
+      → let a = watched_by_one p (threads_settled p ws) in count (kind 4) (cond b a (heard_by_one p (enough_awake items (Listeners p) a))) ≤ count (kind 4) vs
+  listeners_by true e rule heard =
       let a = watched_by_one p (threads_settled p ws) in more_count (kind 4) a vs (along_same (kind 4) ws a vs same_before_listeners only)
-  listeners_by false e rule =
+  listeners_by false e rule heard =
       let a = threads_settled p ws in
       let b = watched_by_one p a in
       let none : has Threads vs ≡ false =
       has_same Threads ws vs only ∙ (sym (has_same Threads ws b (only_trans ws a b (only_threads p ws) (only_watched p a))) ∙ e) in
-      enough_count items (Listeners p) (kind 4) (listeners_within p) b vs (along_same (kind 4) ws b vs same_before_listeners only) (rule none)
+      let on : OnKind (kind 4) b vs = along_same (kind 4) ws b vs same_before_listeners only in
+      let d = enough_awake items (Listeners p) b in
+      one_hears p b vs on (heard none) d (list_any (is_asleep (HearWatchers p)) d) refl
+      (none_or_one (items - count_awake (Listeners p) b) (Listeners p) b)
+      (enough_count items (Listeners p) (kind 4) (listeners_within p) b vs on (rule none))
 
   listeners_fewest : (has Threads vs ≡ false → OneSleeps (Listeners p) vs → items ≤ count_awake (Listeners p) vs)
+      → (has Threads vs ≡ false → OneSleeps Hearers vs → OneIsAwake Hearers vs ⊎ OneSleeps (HearWatchers p) vs)
       → count (kind 4) (settled_for_items items (Some p) ws) ≤ count (kind 4) vs
-  listeners_fewest rule = listeners_by (has Threads (watched_by_one p (threads_settled p ws))) refl rule
-
-same_items : (items : ℕ) (o : Option ℕ) (ws : List Waiter) → SameOn (kind 3) ws (settled_for_items items o ws)
-same_items items None ws = same_refl (kind 3) ws
-same_items items (Some p) ws =
-    let a = all_awake (LateAlarms p) ws in
-    let b = enough_awake 1 Threads a in
-    let c = listened_to items p (watched_by_one p b) in
-    same_trans (kind 3) ws a c (same_alarms p 3 refl ws) (same_trans (kind 3) a b c (same_threads 3 refl a) (same_after_threads items p 3 refl refl b))
+  listeners_fewest rule heard = listeners_by (has Threads (watched_by_one p (threads_settled p ws))) refl rule heard
 
 -- Room.
-room_by : (shut fits : Bool) (cs vs : List Waiter) → OnKind (kind 3) cs vs → (shut ≡ true → ¬ OneSleeps Producers vs) → (fits ≡ true → OneSleeps Producers vs → OneIsAwake Producers vs)
-    → count (kind 3) (cond shut (all_awake Producers cs) (cond fits (enough_awake 1 Producers cs) cs)) ≤ count (kind 3) vs
-room_by true fits cs vs on s r =
-    more_count (kind 3) (all_awake Producers cs) vs (all_on Producers (kind 3) cs vs on (is_false (list_any (is_asleep Producers) vs) (s refl)))
-room_by false true cs vs on s r = one_count Producers (kind 3) producers_within cs vs on (r refl)
-room_by false false cs vs on s r = more_count (kind 3) cs vs on
+abbrev for_room : Bool → Bool → ℕ → List Waiter → List Waiter
+for_room shut fits room ws =
+    cond shut (all_awake RoomListeners (all_awake Producers ws)) (cond fits (room_listened_to room (enough_awake 1 Producers ws)) ws)
+
+producers_by : (shut fits : Bool) (room : ℕ) (cs vs : List Waiter) → OnKind (kind 3) cs vs → (shut ≡ true → ¬ OneSleeps Producers vs)
+    → (fits ≡ true → OneSleeps Producers vs → OneIsAwake Producers vs) → count (kind 3) (for_room shut fits room cs) ≤ count (kind 3) vs
+producers_by true fits room cs vs on s r =
+    let a = all_awake Producers cs in
+    omega (
+      arith,
+      more_count (kind 3) a vs (all_on Producers (kind 3) cs vs on (is_false (list_any (is_asleep Producers) vs) (s refl))),
+      same_count (kind 3) a (all_awake RoomListeners a) (same_all_room_listeners 3 refl a),
+    )
+producers_by false true room cs vs on s r =
+    let a = enough_awake 1 Producers cs in
+    omega (
+      arith,
+      one_count Producers (kind 3) producers_within cs vs on (r refl),
+      same_count (kind 3) a (room_listened_to room a) (same_room_listened room 3 refl a),
+    )
+producers_by false false room cs vs on s r = more_count (kind 3) cs vs on
+
+-- Listeners for room, of a list that was settled for its items.
+module _ (room : ℕ) (ws cs vs : List Waiter) (only : OnlyWakes ws vs) (more : OnlyWakes ws cs) (same : SameOn (kind 5) ws cs) where
+  all_room_listeners : (¬ OneSleeps RoomListeners vs) → count (kind 5) (all_awake RoomListeners (all_awake Producers cs)) ≤ count (kind 5) vs
+  all_room_listeners rule =
+      let a = all_awake Producers cs in
+      let on : OnKind (kind 5) a vs = along_same (kind 5) ws a vs (same_trans (kind 5) ws cs a same (same_all_producers 5 refl cs)) only in
+      more_count (kind 5) (all_awake RoomListeners a) vs (all_on RoomListeners (kind 5) a vs on (is_false (list_any (is_asleep RoomListeners) vs) rule))
+
+  after_producers : OnKind (kind 5) (enough_awake 1 Producers cs) vs
+  after_producers =
+      let a = enough_awake 1 Producers cs in along_same (kind 5) ws a vs (same_trans (kind 5) ws cs a same (same_producers 5 refl cs)) only
+
+  enough_room_listeners : (b : Bool) → has Producers (enough_awake 1 Producers cs) ≡ b
+      → (has Producers vs ≡ false → OneSleeps RoomListeners vs → room ≤ count_awake RoomListeners vs)
+      → let a = enough_awake 1 Producers cs in count (kind 5) (cond b a (enough_awake room RoomListeners a)) ≤ count (kind 5) vs
+  enough_room_listeners true e rule = more_count (kind 5) (enough_awake 1 Producers cs) vs after_producers
+  enough_room_listeners false e rule =
+      let a = enough_awake 1 Producers cs in
+      let none : has Producers vs ≡ false =
+      has_same Producers ws vs only ∙ (sym (has_same Producers ws a (only_trans ws cs a more (only_enough 1 Producers cs))) ∙ e) in
+      enough_count room RoomListeners (kind 5) room_listeners_within a vs after_producers (rule none)
+
+  room_listeners_by : (shut fits : Bool) → (shut ≡ true → ¬ OneSleeps RoomListeners vs)
+      → (fits ≡ true → has Producers vs ≡ false → OneSleeps RoomListeners vs → room ≤ count_awake RoomListeners vs)
+      → count (kind 5) (for_room shut fits room cs) ≤ count (kind 5) vs
+  room_listeners_by true fits s r = all_room_listeners (s refl)
+  room_listeners_by false true s r = enough_room_listeners (has Producers (enough_awake 1 Producers cs)) refl (r refl)
+  room_listeners_by false false s r = more_count (kind 5) cs vs (along_same (kind 5) ws cs vs same only)
 
 fits_only : (a b : ℕ) → nat_lt a b ≡ true → a < b
 fits_only a b h = grind (arith, nat_tests)
@@ -334,7 +305,7 @@ item_kinds (Some p) ws vs only stock h e =
       threads = threads_fewest stock.items p ws vs only (h.threads p e);
       dues = dues_fewest stock.items p ws vs only (h.watched p e);
       alarms = alarms_fewest stock.items p ws vs only (h.alarms p e);
-      listeners = listeners_fewest stock.items p ws vs only (h.listeners p e);
+      listeners = listeners_fewest stock.items p ws vs only (h.listeners p e) (h.heard p e);
     }
 
 first_none : (o : Option ℕ) → is_none o ≡ true → o ≡ None
@@ -356,9 +327,15 @@ fewest_by stock ws vs false e only h =
     let items = settled_for_items stock.items stock.first ws in
     let after = settled_for_room stock items in
     let parts = item_kinds stock.first ws vs only stock h refl in
-    let on : OnKind (kind 3) items vs = along_same (kind 3) ws items vs (same_items stock.items stock.first ws) only in
+    let same : SameOn (kind 5) ws items = same_items 5 stock.items stock.first ws of_room_5 in
+    let on : OnKind (kind 3) items vs = along_same (kind 3) ws items vs (same_items 3 stock.items stock.first ws of_room_3) only in
+    let fits = nat_lt stock.items stock.bound in
+    let left = stock.bound - stock.items in
     let room : count (kind 3) after ≤ count (kind 3) vs =
-    room_by stock.is_shut (nat_lt stock.items stock.bound) items vs on h.shut (λ f. h.room (fits_only stock.items stock.bound f)) in
+    producers_by stock.is_shut fits left items vs on h.shut (λ f. h.room (fits_only stock.items stock.bound f)) in
+    let room_up : count (kind 5) after ≤ count (kind 5) vs =
+    room_listeners_by left ws items vs only (only_items stock.items stock.first ws) same stock.is_shut fits h.shut_listeners
+    (λ f n s. omega (arith, h.room_listeners (fits_only stock.items stock.bound f) n s)) in
     omega (
       arith,
       by_kinds after,
@@ -368,10 +345,11 @@ fewest_by stock ws vs false e only h =
       parts.alarms,
       parts.listeners,
       room,
-      same_count (kind 0) items after (same_room stock 0 refl items),
-      same_count (kind 1) items after (same_room stock 1 refl items),
-      same_count (kind 2) items after (same_room stock 2 refl items),
-      same_count (kind 4) items after (same_room stock 4 refl items),
+      room_up,
+      same_count (kind 0) items after (same_room stock 0 refl refl items),
+      same_count (kind 1) items after (same_room stock 1 refl refl items),
+      same_count (kind 2) items after (same_room stock 2 refl refl items),
+      same_count (kind 4) items after (same_room stock 4 refl refl items),
     )
 
 pub fewest : (stock : Stock) (ws vs : List Waiter) → OnlyWakes ws vs → IsSettled stock vs → count_awake Everybody (settled stock ws) ≤ count_awake Everybody vs

@@ -6,6 +6,7 @@ pub mod Masks
 pub mod OnlyWakings
 pub mod Settling
 pub mod Fewest
+pub mod OfKinds
 pub mod Least
 pub mod FirstCome
 pub mod EveryRun

@@ -2,11 +2,11 @@
 use Rattle.std.proofs.Common.{◌≡◌, ℕ, zero, suc, ◌+◌, ◌-◌, ◌≤◌, List, [], ◌∷◌, Bool, true, false, not, ◌&&◌, ◌||◌, cond, Option, Some, None, nat_lt, ◌⊎◌, inl, inr, refl, sym, ◌∙◌, ap, subst, arith}
 use Rattle.std.specs.List.{list_any}
 use Rattle.wait_list.specs.declared.group.Group.{Group}
-use Rattle.wait_list.specs.declared.group.Group.TheVariants.{Threads, Listeners, Dues, LateAlarms, Producers, Everybody}
+use Rattle.wait_list.specs.declared.group.Group.TheVariants.{Threads, Listeners, Hearers, HearWatchers, Dues, LateAlarms, Producers, RoomListeners, Everybody}
 use Rattle.wait_list.specs.declared.waiter.Waiter.{Waiter}
 use Rattle.wait_list.specs.declared.stock.Stock.{Stock}
 use Rattle.wait_list.specs.Waiters.{is_in, is_asleep, is_awake, OneSleeps, OneIsAwake, has, count_awake, woken, numbers}
-use Rattle.wait_list.specs.Settled.{woken_first, enough_awake, all_awake, awake_if_in, is_watched, watched_by_one, listened_to, threads_settled, settled_for_items, settled_for_room, is_over, settled, IsSameOrWoken, OnlyWakes}
+use Rattle.wait_list.specs.Settled.{woken_first, enough_awake, all_awake, awake_if_in, is_watched, watched_by_one, heard_by_one, listened_to, room_listened_to, threads_settled, settled_for_items, settled_for_room, is_over, settled, IsSameOrWoken, OnlyWakes}
 
 pub both : (a b : Bool) → (a && b) ≡ true → (a ≡ true) × (b ≡ true)
 both true b h = (refl, h)
@@ -70,11 +70,19 @@ pub only_watched : (p : ℕ) (ws : List Waiter) → OnlyWakes ws (watched_by_one
 only_watched p ws =
     elim (is_watched p ws) as (λ b. OnlyWakes ws (cond b ws (enough_awake 1 Dues ws))) [ true ↦ only_refl ws | false ↦ only_enough 1 Dues ws ]
 
+pub only_heard : (p : ℕ) (ws : List Waiter) → OnlyWakes ws (heard_by_one p ws)
+only_heard p ws =
+    elim (list_any (is_asleep (HearWatchers p)) ws) as (λ b. OnlyWakes ws (cond b ws (enough_awake 1 Hearers ws))) [
+      | true ↦ only_refl ws
+      | false ↦ only_enough 1 Hearers ws
+    ]
+
 pub only_listened : (items p : ℕ) (ws : List Waiter) → OnlyWakes ws (listened_to items p ws)
 only_listened items p ws =
-    elim (has Threads ws) as (λ b. OnlyWakes ws (cond b ws (enough_awake items (Listeners p) ws))) [
+    let a = enough_awake items (Listeners p) ws in
+    elim (has Threads ws) as (λ b. OnlyWakes ws (cond b ws (heard_by_one p a))) [
       | true ↦ only_refl ws
-      | false ↦ only_enough items (Listeners p) ws
+      | false ↦ only_trans ws a (heard_by_one p a) (only_enough items (Listeners p) ws) (only_heard p a)
     ]
 
 pub only_items : (items : ℕ) (o : Option ℕ) (ws : List Waiter) → OnlyWakes ws (settled_for_items items o ws)
@@ -85,12 +93,27 @@ only_items items (Some p) ws =
     let c = listened_to items p b in
     only_trans ws a c (only_threads p ws) (only_trans a b c (only_watched p a) (only_listened items p b))
 
+pub only_room_listened : (room : ℕ) (ws : List Waiter) → OnlyWakes ws (room_listened_to room ws)
+only_room_listened room ws =
+    elim (has Producers ws) as (λ b. OnlyWakes ws (cond b ws (enough_awake room RoomListeners ws))) [
+      | true ↦ only_refl ws
+      | false ↦ only_enough room RoomListeners ws
+    ]
+
+pub only_shut : (ws : List Waiter) → OnlyWakes ws (all_awake RoomListeners (all_awake Producers ws))
+only_shut ws = let a = all_awake Producers ws in only_trans ws a (all_awake RoomListeners a) (only_all Producers ws) (only_all RoomListeners a)
+
+pub only_for_room : (room : ℕ) (ws : List Waiter) → OnlyWakes ws (room_listened_to room (enough_awake 1 Producers ws))
+only_for_room room ws =
+    let a = enough_awake 1 Producers ws in only_trans ws a (room_listened_to room a) (only_enough 1 Producers ws) (only_room_listened room a)
+
 pub only_room : (stock : Stock) (ws : List Waiter) → OnlyWakes ws (settled_for_room stock ws)
 only_room stock ws =
-    elim stock.is_shut as (λ b. OnlyWakes ws (cond b (all_awake Producers ws) (cond (nat_lt stock.items stock.bound) (enough_awake 1 Producers ws) ws))) [
-      | true ↦ only_all Producers ws
-      | false ↦ elim (nat_lt stock.items stock.bound) as (λ b. OnlyWakes ws (cond b (enough_awake 1 Producers ws) ws)) [
-        | true ↦ only_enough 1 Producers ws
+    let room = room_listened_to (stock.bound - stock.items) (enough_awake 1 Producers ws) in
+    elim stock.is_shut as (λ b. OnlyWakes ws (cond b (all_awake RoomListeners (all_awake Producers ws)) (cond (nat_lt stock.items stock.bound) room ws))) [
+      | true ↦ only_shut ws
+      | false ↦ elim (nat_lt stock.items stock.bound) as (λ b. OnlyWakes ws (cond b room ws)) [
+        | true ↦ only_for_room (stock.bound - stock.items) ws
         | false ↦ only_refl ws
       ]
     ]
@@ -216,6 +239,19 @@ first_are_awake : (n : ℕ) (g : Group) (ws : List Waiter) → OneSleeps g (woke
 first_are_awake n g [] h = absurd cc
 first_are_awake zero g (w ∷ ws) h = omega arith
 first_are_awake (suc n) g (w ∷ ws) h = first_by n g w ws (is_asleep g w) refl (first_are_awake n g ws) (first_are_awake (suc n) g ws) h
+
+-- Waking the first of a group wakes nobody, or one of it is awake.
+none_or_one_by : (n : ℕ) (g : Group) (w : Waiter) (ws : List Waiter) (b : Bool) → is_asleep g w ≡ b
+    → (woken_first (suc n) g ws ≡ ws) ⊎ OneIsAwake g (woken_first (suc n) g ws)
+    → let after = cond b (woken w ∷ woken_first n g ws) (w ∷ woken_first (suc n) g ws) in (after ≡ w ∷ ws) ⊎ OneIsAwake g after
+none_or_one_by n g w ws true e h = inr (left_or (is_awake g (woken w)) (list_any (is_awake g) (woken_first n g ws)) (awake_if_asleep g w e).1)
+none_or_one_by n g w ws false e (inl f) = inl (ap (λ (vs : List Waiter). w ∷ vs) f)
+none_or_one_by n g w ws false e (inr a) = inr (right_or (is_awake g w) (list_any (is_awake g) (woken_first (suc n) g ws)) a)
+
+pub none_or_one : (n : ℕ) (g : Group) (ws : List Waiter) → (woken_first n g ws ≡ ws) ⊎ OneIsAwake g (woken_first n g ws)
+none_or_one n g [] = inl refl
+none_or_one zero g (w ∷ ws) = inl refl
+none_or_one (suc n) g (w ∷ ws) = none_or_one_by n g w ws (is_asleep g w) refl (none_or_one (suc n) g ws)
 
 pub enough_are_awake : (n : ℕ) (g : Group) (ws : List Waiter) → OneSleeps g (enough_awake n g ws) → n ≤ count_awake g (enough_awake n g ws)
 enough_are_awake n g ws h = omega (arith, first_are_awake (n - count_awake g ws) g ws h)

@@ -1,9 +1,9 @@
 -- Runs of a queue and those who wait at it: whatever happens, in whatever order, the list is settled behind each event.
 use Rattle.std.specs.Prelude.{◌≡◌, ◌≢◌, ℕ, ◌<◌, ◌≤◌, List, [], ◌∷◌, Bool, true, false, ◌==◌, if◌then◌else◌, min, length, Option, Some, None}
 use Rattle.std.specs.List.{list_any, AllByRecursion}
-use Rattle.wait_list.specs.declared.group.Group.TheVariants.{Watchers, Everybody}
+use Rattle.wait_list.specs.declared.group.Group.TheVariants.{HearWatchers, Watchers, Everybody}
 use Rattle.wait_list.specs.declared.waiter.Wants.{Wants}
-use Rattle.wait_list.specs.declared.waiter.Wants.TheVariants.{Any, UpTo, Due, Alarm, Room}
+use Rattle.wait_list.specs.declared.waiter.Wants.TheVariants.{Any, UpTo, Due, Alarm, Room, RoomUp}
 use Rattle.wait_list.specs.declared.waiter.Waiter.{Waiter}
 use Rattle.wait_list.specs.declared.stock.Stock.{Stock}
 use Rattle.wait_list.specs.Waiters.{is_awake, OneSleeps, is_by, Change, changed}
@@ -68,13 +68,15 @@ run [] w = w
 run (e ∷ es) w = run es (happens w e)
 
 -- whether one who wants this has nothing to wake up for: no item that it takes, or none that is due before a thread
--- or a timer looks for it, and no room
+-- or a timer looks for it, nor before a listener comes back by itself, and no room
 abbrev pub HasNothing : World → Wants → Type 0
 HasNothing w Any = w.items ≡ []
-HasNothing w (UpTo bound) = AllByRecursion (λ p. bound < p) w.items
+HasNothing w (UpTo bound seen) =
+    AllByRecursion (λ p. bound < p) w.items × AllByRecursion (λ p. OneSleeps (HearWatchers p) w.waiters) w.items
 HasNothing w (Due watch) = AllByRecursion (λ p. OneSleeps (Watchers p) w.waiters) w.items
 HasNothing w (Alarm armed) = AllByRecursion (λ p. is_by p armed ≡ true) w.items
 HasNothing w Room = (w.bound ≤ length w.items) × (w.is_shut ≡ false)
+HasNothing w RoomUp = (w.bound ≤ length w.items) × (w.is_shut ≡ false)
 
 -- and something may still come
 pub record MaySleep (w : World) (wants : Wants) : Type 0 where

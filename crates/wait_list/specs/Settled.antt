@@ -1,8 +1,8 @@
 -- Whom a queue wakes, by what it has.
-use Rattle.std.specs.Prelude.{◌≡◌, ℕ, zero, suc, ◌<◌, ◌≤◌, ◌-◌, List, [], ◌∷◌, ◌++◌, Bool, true, false, ◌⊎◌, if◌then◌else◌, nat_lt, ◌&&◌, ◌||◌, is_none, map, Option, Some, None}
+use Rattle.std.specs.Prelude.{◌≡◌, ℕ, zero, suc, ◌+◌, ◌<◌, ◌≤◌, ◌-◌, List, [], ◌∷◌, ◌++◌, Bool, true, false, ◌⊎◌, if◌then◌else◌, nat_lt, ◌&&◌, ◌||◌, is_none, map, Option, Some, None}
 use Rattle.std.specs.List.{list_any}
 use Rattle.wait_list.specs.declared.group.Group.{Group}
-use Rattle.wait_list.specs.declared.group.Group.TheVariants.{Threads, Listeners, Dues, Watchers, LateAlarms, Producers, Everybody}
+use Rattle.wait_list.specs.declared.group.Group.TheVariants.{Threads, Listeners, Hearers, HearWatchers, Dues, Watchers, LateAlarms, Producers, RoomListeners, Everybody}
 use Rattle.wait_list.specs.declared.waiter.Waiter.{Waiter}
 use Rattle.wait_list.specs.declared.stock.Stock.{Stock}
 use Rattle.wait_list.specs.Waiters.{is_asleep, is_awake, has, count_awake, OneSleeps, OneIsAwake, woken}
@@ -16,6 +16,11 @@ pub record IsSettled (stock : Stock) (ws : List Waiter) : Type 0 where
   pub listeners :
       (first : ℕ) → stock.first ≡ Some first → has Threads ws ≡ false → OneSleeps (Listeners first) ws
       → stock.items ≤ count_awake (Listeners first) ws
+  -- where no thread is in the list, a listener sleeps beside a first item only where a listener was woken, or one that sleeps
+  -- comes back by itself by the time when that item is due
+  pub heard :
+      (first : ℕ) → stock.first ≡ Some first → has Threads ws ≡ false → OneSleeps Hearers ws
+      → OneIsAwake Hearers ws ⊎ OneSleeps (HearWatchers first) ws
   -- where nobody was woken who takes the first item when it is due, one of those who take what is due watches for it
   pub watched :
       (first : ℕ) → stock.first ≡ Some first → OneSleeps Dues ws
@@ -24,8 +29,15 @@ pub record IsSettled (stock : Stock) (ws : List Waiter) : Type 0 where
   pub alarms : (first : ℕ) → stock.first ≡ Some first → ¬ OneSleeps (LateAlarms first) ws
   -- a producer sleeps beside room only where one was woken
   pub room : stock.items < stock.bound → OneSleeps Producers ws → OneIsAwake Producers ws
+  -- a listener for room sleeps beside room only where a producer is in the list, or as many such listeners were woken as there
+  -- is room for
+  pub room_listeners :
+      stock.items < stock.bound → has Producers ws ≡ false → OneSleeps RoomListeners ws
+      → stock.bound ≤ stock.items + count_awake RoomListeners ws
   -- nobody waits for what never comes
   pub shut : stock.is_shut ≡ true → ¬ OneSleeps Producers ws
+  -- at a shut queue no listener for room sleeps
+  pub shut_listeners : stock.is_shut ≡ true → ¬ OneSleeps RoomListeners ws
   pub over : stock.is_shut ≡ true → stock.first ≡ None → ¬ OneSleeps Everybody ws
   pub spent : stock.is_spent ≡ true → ¬ OneSleeps Everybody ws
 
@@ -55,9 +67,13 @@ is_watched first ws = list_any (is_awake Threads) ws || list_any (is_asleep (Wat
 abbrev pub watched_by_one : ℕ → List Waiter → List Waiter
 watched_by_one first ws = if is_watched first ws then ws else enough_awake 1 Dues ws
 
--- where no thread is in the list, a listener is awake for each item
+-- a listener that sleeps comes back by itself by the time when an item of this priority is due, or one is awake
+abbrev pub heard_by_one : ℕ → List Waiter → List Waiter
+heard_by_one first ws = if list_any (is_asleep (HearWatchers first)) ws then ws else enough_awake 1 Hearers ws
+
+-- where no thread is in the list, a listener is awake for each item, and one hears of the first
 abbrev pub listened_to : ℕ → ℕ → List Waiter → List Waiter
-listened_to items first ws = if has Threads ws then ws else enough_awake items (Listeners first) ws
+listened_to items first ws = if has Threads ws then ws else heard_by_one first (enough_awake items (Listeners first) ws)
 
 -- a thread is awake for the first item
 abbrev pub threads_settled : ℕ → List Waiter → List Waiter
@@ -68,11 +84,15 @@ abbrev pub settled_for_items : ℕ → Option ℕ → List Waiter → List Waite
 settled_for_items items (Some first) ws = listened_to items first (watched_by_one first (threads_settled first ws))
 settled_for_items items None ws = ws
 
+-- where no producer is in the list, a listener for room is awake for each item that there is room for
+abbrev pub room_listened_to : ℕ → List Waiter → List Waiter
+room_listened_to room ws = if has Producers ws then ws else enough_awake room RoomListeners ws
+
 -- for room
 abbrev pub settled_for_room : Stock → List Waiter → List Waiter
 settled_for_room stock ws =
-    if stock.is_shut then all_awake Producers ws
-    else if nat_lt stock.items stock.bound then enough_awake 1 Producers ws
+    if stock.is_shut then all_awake RoomListeners (all_awake Producers ws)
+    else if nat_lt stock.items stock.bound then room_listened_to (stock.bound - stock.items) (enough_awake 1 Producers ws)
     else ws
 
 -- whether nothing comes any more for which anybody could wait

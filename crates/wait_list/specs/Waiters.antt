@@ -4,72 +4,108 @@ use Rattle.std.specs.Prelude.{Option, Some, None}
 use Rattle.std.specs.List.{list_any, AllByRecursion}
 use Rattle.std.specs.Int.{bit_at}
 use Rattle.wait_list.specs.declared.group.Group.{Group}
-use Rattle.wait_list.specs.declared.group.Group.TheVariants.{Threads, Listeners, Dues, Watchers, LateAlarms, Producers, Everybody}
+use Rattle.wait_list.specs.declared.group.Group.TheVariants.{Threads, Listeners, Hearers, HearWatchers, Dues, Watchers, LateAlarms, Producers, RoomListeners, Everybody}
 use Rattle.wait_list.specs.declared.waiter.Wants.{Wants}
-use Rattle.wait_list.specs.declared.waiter.Wants.TheVariants.{Any, UpTo, Due, Alarm, Room}
+use Rattle.wait_list.specs.declared.waiter.Wants.TheVariants.{Any, UpTo, Due, Alarm, Room, RoomUp}
 use Rattle.wait_list.specs.declared.waiter.Waiter.{Waiter}
 
 -- whether it is a thread that takes any item
 abbrev pub takes_any : Wants → Bool
 takes_any Any = true
-takes_any (UpTo bound) = false
+takes_any (UpTo bound seen) = false
 takes_any (Due watch) = false
 takes_any (Alarm armed) = false
 takes_any Room = false
+takes_any RoomUp = false
 
 -- whether it is a listener that could take an item of this priority
 abbrev pub listens : ℕ → Wants → Bool
 listens first Any = false
-listens first (UpTo bound) = nat_le first bound
+listens first (UpTo bound seen) = nat_le first bound
 listens first (Due watch) = false
 listens first (Alarm armed) = false
 listens first Room = false
+listens first RoomUp = false
 
 -- whether it takes what is due
 abbrev pub takes_due : Wants → Bool
 takes_due Any = false
-takes_due (UpTo bound) = false
+takes_due (UpTo bound seen) = false
 takes_due (Due watch) = true
 takes_due (Alarm armed) = false
 takes_due Room = false
+takes_due RoomUp = false
 
 -- whether this time comes by the time when that priority is due
 abbrev pub is_by : ℕ → Option ℕ → Bool
 is_by first None = false
 is_by first (Some time) = nat_le time first
 
+-- whether it is a listener that wants an item
+abbrev pub hears : Wants → Bool
+hears Any = false
+hears (UpTo bound seen) = true
+hears (Due watch) = false
+hears (Alarm armed) = false
+hears Room = false
+hears RoomUp = false
+
+-- whether it is one that saw a first item of this priority, or of an earlier one, when it came: it comes back by itself by then
+abbrev pub hears_by_itself : ℕ → Wants → Bool
+hears_by_itself first Any = false
+hears_by_itself first (UpTo bound seen) = is_by first seen
+hears_by_itself first (Due watch) = false
+hears_by_itself first (Alarm armed) = false
+hears_by_itself first Room = false
+hears_by_itself first RoomUp = false
+
 -- whether it takes what is due, and wakes up by itself by the time when this priority is due
 abbrev pub watches : ℕ → Wants → Bool
 watches first Any = false
-watches first (UpTo bound) = false
+watches first (UpTo bound seen) = false
 watches first (Due watch) = is_by first watch
 watches first (Alarm armed) = false
 watches first Room = false
+watches first RoomUp = false
 
 -- whether it is an alarm that doesn't ring by the time when this priority is due
 abbrev pub rings_late : ℕ → Wants → Bool
 rings_late first Any = false
-rings_late first (UpTo bound) = false
+rings_late first (UpTo bound seen) = false
 rings_late first (Due watch) = false
 rings_late first (Alarm armed) = not (is_by first armed)
 rings_late first Room = false
+rings_late first RoomUp = false
 
--- whether it wants room
+-- whether it is a thread that wants room
 abbrev pub is_producer : Wants → Bool
 is_producer Any = false
-is_producer (UpTo bound) = false
+is_producer (UpTo bound seen) = false
 is_producer (Due watch) = false
 is_producer (Alarm armed) = false
 is_producer Room = true
+is_producer RoomUp = false
+
+-- whether it is a listener that wants room
+abbrev pub listens_for_room : Wants → Bool
+listens_for_room Any = false
+listens_for_room (UpTo bound seen) = false
+listens_for_room (Due watch) = false
+listens_for_room (Alarm armed) = false
+listens_for_room Room = false
+listens_for_room RoomUp = true
 
 -- whether one who wants this is in the group
 abbrev pub is_in : Group → Wants → Bool
 is_in Threads wants = takes_any wants
 is_in (Listeners first) wants = listens first wants
+is_in Hearers wants = hears wants
+is_in (HearWatchers first) wants = hears_by_itself first wants
 is_in Dues wants = takes_due wants
 is_in (Watchers first) wants = watches first wants
 is_in (LateAlarms first) wants = rings_late first wants
 is_in Producers wants = is_producer wants
+is_in RoomListeners wants = listens_for_room wants
 is_in Everybody wants = true
 
 -- whether it is of the group, and sleeps

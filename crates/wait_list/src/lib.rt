@@ -3,7 +3,8 @@
 //! A thread that finds nothing to take puts itself into the list, and sleeps. Whoever has the lock has the list
 //! `settle` before it lets the lock go: that wakes those who could go on, as few as it may, and returns whom. So while
 //! the lock is free no thread sleeps beside an item that it could take, unless one that could was woken and has not
-//! come back. A woken listener never stands for a thread.
+//! come back. A woken listener never stands for a thread. A listener that could not take the first item hears of an
+//! earlier one, so that it sets its timer anew.
 //!
 //! - `WaitList::settle`: the list afterwards is `settled`, a function of the list and of what the queue has. It meets
 //!   `IsSettled`. The result has the bits of those who were woken.

@@ -2,7 +2,7 @@
 ghost use Rattle.std.specs.Prelude.{◌≡◌, ℕ, length, Some};
 ghost use Rattle.std.specs.List.{list_any};
 ghost use Rattle.wait_list.specs.Waiters.{is_asleep, is_awake, has, count_awake};
-ghost use Rattle.wait_list.specs.Settled.{woken_first, enough_awake, all_awake, awake_if_in, is_over, is_watched, watched_by_one, listened_to, threads_settled, settled_for_items, settled_for_room, settled};
+ghost use Rattle.wait_list.specs.Settled.{woken_first, enough_awake, all_awake, awake_if_in, is_over, is_watched, watched_by_one, heard_by_one, listened_to, room_listened_to, threads_settled, settled_for_items, settled_for_room, settled};
 
 use crate::group::Group;
 use crate::stock::Stock;
@@ -135,12 +135,22 @@ fn have_one_watch(waiters: &mut [Waiter], first: u64)
     }
 }
 
-// Wakes a listener for each item, where no thread is in the list.
+// Has one of the listeners come back by the time of this first item, or wakes one: its timer is set for a later one.
+fn have_one_hear(waiters: &mut [Waiter], first: u64)
+    ensures { waiters.new ≡ heard_by_one first waiters.old }
+{
+    if !any_asleep(waiters, Group::HearWatchers(first)) {
+        wake_enough(waiters, 1, Group::Hearers);
+    }
+}
+
+// Wakes a listener for each item, where no thread is in the list, and has one hear of the first.
 fn wake_listeners(waiters: &mut [Waiter], items: u64, first: u64)
     ensures { waiters.new ≡ listened_to items first waiters.old }
 {
     if !any(waiters, Group::Threads) {
         wake_enough(waiters, items, Group::Listeners(first));
+        have_one_hear(waiters, first);
     }
 }
 
@@ -153,13 +163,24 @@ fn settle_for_items(waiters: &mut [Waiter], items: u64, first: u64)
     wake_listeners(waiters, items, first);
 }
 
+// Wakes a listener for each item that there is room for, where no thread that wants room is in the list.
+fn wake_room_listeners(waiters: &mut [Waiter], room: u64)
+    ensures { waiters.new ≡ room_listened_to room waiters.old }
+{
+    if !any(waiters, Group::Producers) {
+        wake_enough(waiters, room, Group::RoomListeners);
+    }
+}
+
 fn settle_for_room(waiters: &mut [Waiter], stock: Stock)
     ensures { waiters.new ≡ settled_for_room stock waiters.old }
 {
     if stock.is_shut {
         wake_all(waiters, Group::Producers);
+        wake_all(waiters, Group::RoomListeners);
     } else if stock.items < stock.bound {
         wake_enough(waiters, 1, Group::Producers);
+        wake_room_listeners(waiters, stock.bound - stock.items);
     }
 }
 

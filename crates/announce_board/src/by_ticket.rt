@@ -20,6 +20,7 @@ ghost use Rattle.announce_board.specs.Tokens.{IsLeadOf, is_idle};
 use crate::boxed_book::BoxedBook;
 use crate::desk::Desk;
 use crate::laws::law_steps_are_allowed;
+use crate::locking::drop_slot;
 use crate::rule::{Board, BoardSeat, ReleaseWith, Slot};
 use crate::tokens::{Lead, Pen};
 use crate::words::LOCK;
@@ -67,7 +68,7 @@ fn put_home_by_ticket<S: TicketStore<Entry<P>>, P: Part>(
     let mut book = book;
     let answer = book.boxed.apply_by_ticket(place, serial, ticketed);
     let (book, wakes) = book.settled();
-    drop(board.exchange(seat, 0, Slot::with(book)));
+    drop_slot(board.exchange(seat, 0, Slot::with(book)));
     board.store::<ReleaseWith>(seat, LOCK, 0);
     (answer, wakes)
 }

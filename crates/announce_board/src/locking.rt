@@ -39,6 +39,21 @@ fn try_lock<S: Store<Entry<P>>, P: Part>(
     board.compare_exchange_with::<TryLock>(seat, LOCK, 0, 1, &said) == 0
 }
 
+/// Drops what came out of a slot. Where a Book goes home none came out, so it is freed out of line.
+#[inline(always)]
+pub fn drop_slot<S: Store<Entry<P>>, P: Part>(slot: Slot<S, P>) {
+    if let Some(book) = slot.into_inner() {
+        free(book);
+    }
+}
+
+// Frees a Book.
+#[cold]
+#[inline(never)]
+fn free<S: Store<Entry<P>>, P: Part>(book: BoxedBook<S, P>) {
+    drop(book);
+}
+
 /// Tries the lock of a desk of these terms, and takes the Book out of its slot where the pen has won.
 pub fn win_book<S: Store<Entry<P>>, P: Part>(
     board: &Board<S, P>,
@@ -77,7 +92,7 @@ pub fn put_home<S: Store<Entry<P>>, P: Part>(
 {
     law_steps_are_allowed::<S, P>();
     let (book, wakes) = book.settled();
-    drop(board.exchange(seat, 0, Slot::with(book)));
+    drop_slot(board.exchange(seat, 0, Slot::with(book)));
     board.store::<Release>(seat, LOCK, 0);
     wakes
 }

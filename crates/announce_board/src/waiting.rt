@@ -13,6 +13,7 @@ use crate::applying::take_back;
 use crate::boxed_book::BoxedBook;
 use crate::desk::Desk;
 use crate::laws::law_steps_are_allowed;
+use crate::locking::drop_slot;
 use crate::rule::{Board, BoardSeat, ChangeList, HandOut, Slot};
 use crate::tokens::{Lead, Pen};
 use crate::words::LOCK;
@@ -39,7 +40,7 @@ fn keep_changed<S: Store<Entry<P>>, P: Part>(
         → seat.new.me ≡ (Holder (after_change (pen_at seat.old.me) change), (0, out) ∷ []) }
 {
     law_steps_are_allowed::<S, P>();
-    drop(board.exchange(seat, 0, Slot::with(book)));
+    drop_slot(board.exchange(seat, 0, Slot::with(book)));
     board.load::<ChangeList>(seat, LOCK);
     take_back(board, seat)
 }

@@ -2,14 +2,12 @@
 ghost use Rattle.std.specs.Prelude.{◌≡◌, ◌==◌, ◌<◌, ◌↔◌, ◌⊎◌, ℕ, List, [], ◌∷◌, ◌++◌, length, true, false, IsTrue, IfSome, is_some, slice_index_or};
 ghost use Rattle.wait_list.specs.declared.waiter.Waiter.{Waiter};
 ghost use Rattle.std.specs.Int.{bit_at};
-ghost use Rattle.std.specs.List.{list_any};
-ghost use Rattle.wait_list.specs.Waiters.{is_asleep, has_number, is_woken_at, without, without_all, asleep, numbers, AreWaiters};
-ghost use Rattle.wait_list.specs.Settled.{IsSettled, settled};
+ghost use Rattle.wait_list.specs.Waiters.{has_number, is_woken_at, without, without_all, asleep, numbers, AreWaiters};
+ghost use Rattle.wait_list.specs.Settled.{IsSettled, is_watched, settled};
 
-use crate::group::Group;
 use crate::stock::Stock;
 use crate::waiter::{Waiter, Wants};
-use crate::waking::{any_asleep, settle_all};
+use crate::waking::{is_watched, settle_all};
 use arrayvec::ArrayVec;
 use std::marker::Model;
 
@@ -59,11 +57,12 @@ impl WaitList {
         place_of(self.entries.as_slice(), number).is_some()
     }
 
-    /// Whether one of those who take what is due sleeps until this priority is due at most.
+    /// Whether an item of this priority is taken when it is due: by a thread that was woken, or by one of those who take what is due
+    /// and sleep until then at most.
     pub fn is_watched(&self, first: u64) -> bool
-        ensures { result ≡ list_any (is_asleep (Group.Watchers first)) self.now }
+        ensures { result ≡ is_watched first self.now }
     {
-        any_asleep(self.entries.as_slice(), Group::Watchers(first))
+        is_watched(self.entries.as_slice(), first)
     }
 
     /// One with this number, which nobody in the list has, waits for this from now on.

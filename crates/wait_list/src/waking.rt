@@ -22,8 +22,8 @@ fn is_awake(waiter: &Waiter, group: Group) -> bool
     waiter.is_woken && group.has(waiter.wants)
 }
 
-/// Whether one of the group sleeps.
-pub(crate) fn any_asleep(waiters: &[Waiter], group: Group) -> bool
+// Whether one of the group sleeps.
+fn any_asleep(waiters: &[Waiter], group: Group) -> bool
     ensures { result ≡ list_any (is_asleep group) waiters.now }
 {
     for waiter in waiters {
@@ -119,8 +119,8 @@ fn wake_all(waiters: &mut [Waiter], group: Group)
     }
 }
 
-// Whether an item of this priority is taken when it is due.
-fn is_watched(waiters: &[Waiter], first: u64) -> bool
+/// Whether an item of this priority is taken when it is due.
+pub(crate) fn is_watched(waiters: &[Waiter], first: u64) -> bool
     ensures { result ≡ is_watched first waiters.now }
 {
     any_awake(waiters, Group::Threads) || any_asleep(waiters, Group::Watchers(first))

@@ -1,10 +1,9 @@
 // Those who wait at a Book.
 ghost use Rattle.std.specs.Prelude.{◌≡◌, ◌<◌, ◌↔◌, ℕ, [], ◌∷◌, ◌++◌, true, false, IsTrue};
 ghost use Rattle.std.specs.Int.{bit_at};
-ghost use Rattle.std.specs.List.{list_any};
 ghost use Rattle.pq_types.specs.History.{left};
-ghost use Rattle.wait_list.specs.declared.group.Group.{Group};
-ghost use Rattle.wait_list.specs.Waiters.{has_number, is_asleep, is_woken_at, without, without_all, asleep};
+ghost use Rattle.wait_list.specs.Settled.{is_watched};
+ghost use Rattle.wait_list.specs.Waiters.{has_number, is_woken_at, without, without_all, asleep};
 ghost use Rattle.pq_book.specs.Stock.{first_priority, stock_of, with_waiters, settled_book, IsSettledBook};
 
 use crate::book::Book;
@@ -29,9 +28,10 @@ impl<S: Store<Entry<P>>, A: Allocator, P: Part> Book<S, A, P> {
         self.waiters.has(number)
     }
 
-    /// Whether one of those who take what is due sleeps until this priority is due at most.
+    /// Whether an item of this priority is taken when it is due: by a thread that was woken, or by one of those who take what is due
+    /// and sleep until then at most.
     pub fn is_watched(&self, first: u64) -> bool
-        ensures { result ≡ list_any (is_asleep (Group.Watchers first)) self.now.waiters }
+        ensures { result ≡ is_watched first self.now.waiters }
     {
         self.waiters.is_watched(first)
     }

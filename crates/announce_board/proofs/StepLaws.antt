@@ -1,6 +1,6 @@
 -- The laws of the machine on which the steps of a pen rest, and what they say of the Book at home.
 use Rattle.std.proofs.Common.{◌≡◌, ℕ, ◌≤◌, ap, sym, ◌∙◌, subst, arith}
-use Rattle.std.specs.Prelude.{Option, Some}
+use Rattle.std.specs.Prelude.{Some}
 use mathlib.Core.Option.{some, none}
 use mathlib.Core.Option as home
 use Rattle.desk_core.specs.Words.{MixedByWord, WordsMix}

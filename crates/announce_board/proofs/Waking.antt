@@ -1,5 +1,5 @@
 -- The mask that a pen keeps of those whom its releases have woken.
-use Rattle.std.proofs.Common.{◌≡◌, ◌≢◌, ◌↔◌, ◌==◌, ◌&&◌, ◌||◌, not, ◌<◌, ℕ, Bool, true, false, true≢false, List, [], ◌∷◌, ◌++◌, inl, inr, cond, length, ◌+◌, bit_or, refl, ap, sym, ◌∙◌, subst, arith, eqb}
+use Rattle.std.proofs.Common.{◌≡◌, ◌↔◌, ◌==◌, ◌&&◌, ◌||◌, not, ℕ, Bool, true, false, true≢false, List, [], ◌∷◌, ◌++◌, inl, inr, cond, length, ◌+◌, bit_or, refl, ap, sym, ◌∙◌, subst, arith}
 use Rattle.std.specs.List.{list_any}
 use Rattle.std.specs.Int.{bit_at}
 use Rattle.std.proofs.lemmas.Bool.{cases_eq, eqb-true, eq-eqb}
@@ -28,9 +28,10 @@ none_owed = record { bits = λ n. (λ e. absurd (omega (arith, e, bit_at-zero n)
 
 in_either : (a b i : ℕ) (x y : Bool) → (bit_at a i ≡ 1) ↔ (x ≡ true) → (bit_at b i ≡ 1) ↔ (y ≡ true) → (bit_at (bit_or a b) i ≡ 1) ↔ ((x || y) ≡ true)
 in_either a b i true y h k = (λ e. refl, λ e. omega (arith, h.1 refl, bit_at_or a b i, bit_at-lt b i))
-in_either a b i false y h k =
-    (λ e. elim (cases_eq (bit_at a i) 1) [ inl one ↦ absurd (true≢false (sym (h.0 one))) | inr ne ↦ k.0 (omega (arith, e, ne, bit_at_or a b i, bit_at-lt a i)) ],
-     λ e. omega (arith, k.1 e, bit_at_or a b i, bit_at-lt a i))
+in_either a b i false y h k = (
+  λ e. elim (cases_eq (bit_at a i) 1) [ inl one ↦ absurd (true≢false (sym (h.0 one))) | inr ne ↦ k.0 (omega (arith, e, ne, bit_at_or a b i, bit_at-lt a i)) ],
+  λ e. omega (arith, k.1 e, bit_at_or a b i, bit_at-lt a i),
+)
 
 -- of those of two masks
 pub both_masks : (a b : ℕ) (xs ys : List ℕ) → IsMaskOf a xs → IsMaskOf b ys → IsMaskOf (bit_or a b) (xs ++ ys)

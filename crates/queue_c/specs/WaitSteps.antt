@@ -48,7 +48,7 @@ patience_of wants priority =
 abbrev pub both : Option ℕ → Option Patience → Option (ℕ × Patience)
 both None patience = None
 both (Some number) None = None
-both (Some number) (Some patience) = Some (number , patience)
+both (Some number) (Some patience) = Some (number, patience)
 
 -- the number and the way of one that waits so, if there are such
 abbrev pub wait_of : (number wants priority : ℕ) → Option (ℕ × Patience)

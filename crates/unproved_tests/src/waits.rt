@@ -28,10 +28,7 @@ fn two_of<R: Abort>(
     (pool, first, second)
 }
 
-fn two<R: Abort>(
-    rt: &R,
-    alloc: Global,
-) -> (Pool<Heap>, SharedHandle<Heap>, SharedHandle<Heap>) {
+fn two<R: Abort>(rt: &R, alloc: Global) -> (Pool<Heap>, SharedHandle<Heap>, SharedHandle<Heap>) {
     let (queue, newcomers) = opened(rt, alloc, &[1, 2]);
     two_of(rt, alloc, queue, newcomers)
 }

@@ -1,5 +1,6 @@
 -- What the calls for C answer by which one may wait, and what they make of what its handle holds.
-use Rattle.std.specs.Prelude.{◌≡◌, ◌≢◌, ℕ, ◌≤◌, ◌↔◌, false, true, [], ◌∷◌, Option, None, Some, IfSome, IsSome, nat_le, ◌==◌, if◌then◌else◌}
+use Rattle.std.specs.Prelude.{◌≡◌, ◌≢◌, ℕ, ◌≤◌, ◌↔◌, ◌==◌, nat_le, if◌then◌else◌, false, true, [], ◌∷◌}
+use Rattle.std.specs.Prelude.{Option, None, Some, IfSome, IsSome}
 use Rattle.std.specs.Option.{MatchOption}
 use Rattle.pq_types.specs.Item.{Item}
 use Rattle.pq_types.specs.Asked.{Answer}
@@ -47,7 +48,7 @@ patience_of wants priority =
 abbrev pub both : Option ℕ → Option Patience → Option (ℕ × Patience)
 both None patience = None
 both (Some number) None = None
-both (Some number) (Some patience) = Some (number , patience)
+both (Some number) (Some patience) = Some (number, patience)
 
 -- the number and the way of one that waits so, if there are such
 abbrev pub wait_of : (number wants priority : ℕ) → Option (ℕ × Patience)
@@ -66,7 +67,8 @@ TellsAll told answer after = Tells told answer × (owes_any after.pen.owed ≡ t
 abbrev pub TakingOrWaiting : Option Joined → ℕ → Option (ℕ × Patience) → Entry → PlainAnswer → Option Joined → Type 0
 TakingOrWaiting (Some before) bound (Some wait) stands told (Some after) =
     MayCall before
-    × ((seen : Looked) × TakesOrWaitsBy words_of_item wait.0 (UpTo bound) wait.1 before seen stands after × TellsAll told (told_as seen) after)
+    × ((seen : Looked) × TakesOrWaitsBy words_of_item wait.0 (UpTo bound) wait.1 before seen stands after
+    × TellsAll told (told_as seen) after)
 TakingOrWaiting before bound wait stands told after = ⊥
 
 -- The idle member has found the lock free, and carried the push of this item out, with the answer that is told, which is not that
@@ -74,8 +76,8 @@ TakingOrWaiting before bound wait stands told after = ⊥
 abbrev pub Pushing : Option Joined → Option ℕ → Item → RoomWait → PlainAnswer → Option Joined → Type 0
 Pushing (Some before) (Some number) x wait told (Some after) =
     MayCall before
-    × ((answer : Answer) × PushesOrWaitsBy words_of_item number x wait before (pushed.Answered answer) after × (answer ≢ Refused Full)
-    × TellsAll told answer after)
+    × ((answer : Answer) × PushesOrWaitsBy words_of_item number x wait before (pushed.Answered answer) after
+    × (answer ≢ Refused Full) × TellsAll told answer after)
 Pushing before number x wait told after = ⊥
 
 -- the idle member has found the lock free, and waits for room under this number, and it is told that the queue is full
@@ -91,12 +93,13 @@ Leaving before mask after = ⊥
 
 -- the mask has exactly those whom the member owed a wake, which owes none from then on
 abbrev pub HandingOut : Option Joined → (mask : ℕ) → Option Joined → Type 0
-HandingOut (Some before) mask (Some after) = IsMaskOf mask before.pen.owed × (after ≡ record before { pen = after_hand_out before.pen })
+HandingOut (Some before) mask (Some after) =
+    IsMaskOf mask before.pen.owed × (after ≡ record before { pen = after_hand_out before.pen })
 HandingOut before mask after = ⊥
 
 -- a take up to this priority, or a wait for one, if there is such a number and such a way to wait, with what is told
-pub record TakeOrWaitAnswers (before : Option Contents) (bound : ℕ) (wait : Option (ℕ × Patience)) (code : ℕ) (told : PlainAnswer)
-    (after : Option Contents) : Type 0 where
+pub record TakeOrWaitAnswers (before : Option Contents) (bound : ℕ) (wait : Option (ℕ × Patience)) (code : ℕ)
+    (told : PlainAnswer) (after : Option Contents) : Type 0 where
   pub out : code ≡ OK → TakingOrWaiting (member_in before) bound wait entry.Out told (member_in after)
   pub entered : code ≡ ENTERED → TakingOrWaiting (member_in before) bound wait entry.Waits told (member_in after)
   pub watches : code ≡ WATCHES → TakingOrWaiting (member_in before) bound wait entry.Watches told (member_in after)
@@ -110,8 +113,8 @@ pub record TakeOrWaitAnswers (before : Option Contents) (bound : ℕ) (wait : Op
   pub owner : owner_in after ≡ owner_in before
 
 -- a push of this item, or a wait for room, if there is such a number, with what is told
-pub record PushOrWaitAnswers (before : Option Contents) (number : Option ℕ) (x : Item) (wait : RoomWait) (code : ℕ) (told : PlainAnswer)
-    (after : Option Contents) : Type 0 where
+pub record PushOrWaitAnswers (before : Option Contents) (number : Option ℕ) (x : Item) (wait : RoomWait) (code : ℕ)
+    (told : PlainAnswer) (after : Option Contents) : Type 0 where
   pub out : code ≡ OK → Pushing (member_in before) number x wait told (member_in after)
   pub entered : code ≡ ENTERED → WaitingForRoom (member_in before) number x wait told (member_in after)
   pub misses : code ≡ LOCK_HELD → Missing (member_in before) (member_in after)

@@ -76,7 +76,8 @@ fn take_or_wait(
     wants: u32,
     answer: &mut PlainAnswer,
 ) -> u32
-    ensures answers { TakeOrWaitAnswers (Some held.old) priority (wait_of number wants priority) result answer.new (Some held.new) }
+    ensures answers { TakeOrWaitAnswers (Some held.old) priority (wait_of number wants priority)
+        result answer.new (Some held.new) }
     ensures untold { result ≢ OK → result ≢ ENTERED → result ≢ WATCHES → answer.new ≡ answer.old }
 {
     let Contents::Member(member, _) = held else {
@@ -104,10 +105,10 @@ fn take_or_wait(
 /// most this one; where it takes none, has this number wait again, at once where no other member leads, without a post. 0: nobody
 /// waits under this number, and the answer is told as by `pq_core_try_pop_or_look`; 15: it waits, and may sleep until its number
 /// is handed out by `pq_core_take_wakes`; 16: so it does, but comes back by itself when the first item is due, or has its alarm
-/// ring then. It waits for `wants`: 0 not at all, 1 any item, 2 what is due, 3 an item up to this priority, as a listener, 4 what is
-/// due, by an alarm. 8 where another member led, and then nothing was done. Refusals, which do nothing: 42 where the handle holds no
-/// member, 45 where there is no such number or `wants`, 43 where the last request is not answered yet, 11 where all posts are spent.
-/// Takes memory for the pushes of others alone.
+/// ring then. It waits for `wants`: 0 not at all, 1 any item, 2 what is due, 3 an item up to this priority, as a listener, 4 what
+/// is due, by an alarm. 8 where another member led, and then nothing was done. Refusals, which do nothing: 42 where the handle
+/// holds no member, 45 where there is no such number or `wants`, 43 where the last request is not answered yet, 11 where all
+/// posts are spent. Takes memory for the pushes of others alone.
 #[unsafe(no_mangle)]
 pub extern "C" fn pq_core_take_or_wait(
     alloc: Global,
@@ -117,7 +118,8 @@ pub extern "C" fn pq_core_take_or_wait(
     wants: u32,
     answer: &mut PlainAnswer,
 ) -> u32
-    ensures answers { TakeOrWaitAnswers member.old.value priority (wait_of number wants priority) result answer.new member.new.value }
+    ensures answers { TakeOrWaitAnswers member.old.value priority (wait_of number wants priority)
+        result answer.new member.new.value }
     ensures untold { result ≢ OK → result ≢ ENTERED → result ≢ WATCHES → answer.new ≡ answer.old }
 {
     let Some(mut held) = member.take(alloc) else {
@@ -136,7 +138,8 @@ fn push_or_wait(
     listens: u32,
     answer: &mut PlainAnswer,
 ) -> u32
-    ensures answers { PushOrWaitAnswers (Some held.old) (number_of number) item (room_wait listens) result answer.new (Some held.new) }
+    ensures answers { PushOrWaitAnswers (Some held.old) (number_of number) item (room_wait listens)
+        result answer.new (Some held.new) }
     ensures untold { result ≢ OK → result ≢ ENTERED → answer.new ≡ answer.old }
 {
     let Contents::Member(member, _) = held else {
@@ -173,7 +176,8 @@ pub extern "C" fn pq_core_push_or_wait(
     listens: u32,
     answer: &mut PlainAnswer,
 ) -> u32
-    ensures answers { PushOrWaitAnswers member.old.value (number_of number) (item priority value) (room_wait listens) result answer.new member.new.value }
+    ensures answers { PushOrWaitAnswers member.old.value (number_of number) (item priority value) (room_wait listens)
+        result answer.new member.new.value }
     ensures untold { result ≢ OK → result ≢ ENTERED → answer.new ≡ answer.old }
 {
     let Some(mut held) = member.take(alloc) else {

@@ -13,7 +13,8 @@ use Rattle.queue_pool.specs.Shared.{TriesBy}
 use Rattle.queue_pool.specs.declared.shared.Undone.{Undone}
 
 -- It looked at the first item, and took that out where it wanted it, or waits under this number as its patience says.
-abbrev pub TriesTakeOrWaitBy : (words number : ℕ) → Wanted → Patience → Joined → Result (Looked × Entry) Undone → Joined → Type 0
+abbrev pub TriesTakeOrWaitBy :
+    (words number : ℕ) → Wanted → Patience → Joined → Result (Looked × Entry) Undone → Joined → Type 0
 TriesTakeOrWaitBy words number wanted patience before tried after =
     TriesBy (λ told. TakesOrWaitsBy words number wanted patience before told.0 told.1 after) before tried after
 

@@ -41,9 +41,10 @@ impl<S: Store<StoreEntry<P>>, P: Part> SharedHandle<S, P> {
         Ok(told)
     }
 
-    /// Takes whoever waits under this number, below 64, out of the list, and pushes the item, or has the number wait for room where
-    /// nothing but the bound refuses the push, where the last request is answered, not all serials are spent, and it finds the lock
-    /// free, as `Queue::push_or_wait` does. So no push is refused as `Full`. Takes memory for pushes alone, and never waits.
+    /// Takes whoever waits under this number, below 64, out of the list, and pushes the item, or has the number wait for room
+    /// where nothing but the bound refuses the push, where the last request is answered, not all serials are spent, and it finds
+    /// the lock free, as `Queue::push_or_wait` does. So no push is refused as `Full`. Takes memory for pushes alone, and never
+    /// waits.
     pub fn push_or_wait(
         &mut self,
         number: u8,
@@ -68,8 +69,8 @@ impl<S: Store<StoreEntry<P>>, P: Part> SharedHandle<S, P> {
         Err(Undone::LockHeld)
     }
 
-    /// Takes those who wait under these numbers, the bits of a mask, out of the list, where it finds the lock free: whether it did.
-    /// It answers nobody. Takes no memory, and never waits.
+    /// Takes those who wait under these numbers, the bits of a mask, out of the list, where it finds the lock free: whether it
+    /// did. It answers nobody. Takes no memory, and never waits.
     pub fn leave(&mut self, numbers: u64) -> bool
         ensures { TriesLeaveBy numbers self.old result self.new }
     {
@@ -84,8 +85,8 @@ impl<S: Store<StoreEntry<P>>, P: Part> SharedHandle<S, P> {
         self.member.owes_wakes()
     }
 
-    /// Hands out the numbers of those whom its calls have woken, as the bits of a mask: its caller wakes them, and it owes nobody a
-    /// wake from then on. Takes no memory, and never waits.
+    /// Hands out the numbers of those whom its calls have woken, as the bits of a mask: its caller wakes them, and it owes nobody
+    /// a wake from then on. Takes no memory, and never waits.
     #[inline(always)]
     pub fn take_wakes(&mut self) -> u64
         ensures wakes { IsMaskOf result self.old.pen.owed }

@@ -28,10 +28,7 @@ fn two_of<R: Abort>(
     (pool, first, second)
 }
 
-fn two<R: Abort>(
-    rt: &R,
-    alloc: Global,
-) -> (Pool<Heap>, SharedHandle<Heap>, SharedHandle<Heap>) {
+fn two<R: Abort>(rt: &R, alloc: Global) -> (Pool<Heap>, SharedHandle<Heap>, SharedHandle<Heap>) {
     let (queue, newcomers) = opened(rt, alloc, &[1, 2]);
     two_of(rt, alloc, queue, newcomers)
 }
@@ -142,7 +139,8 @@ fn a_shut_wakes_all_of_the_list(rt: HostRuntime) -> Result<(), Fail> {
     Ok(())
 }
 
-// Of those who wait for what is due one watches for the first item; an alarm rings for itself. One without patience waits for nothing.
+// Of those who wait for what is due one watches for the first item; an alarm rings for itself. One without patience waits for
+// nothing.
 #[test]
 fn one_of_those_for_what_is_due_watches(rt: HostRuntime) -> Result<(), Fail> {
     let (pool, mut taker, mut pusher) = two(&rt, rt.alloc());

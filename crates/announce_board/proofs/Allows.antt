@@ -18,28 +18,22 @@ use Rattle.pq_types.specs.declared.answer.Answer.TheVariants.{NoMemory}
 use Rattle.pq_types.specs.declared.answer.Answer.TheVariants as answer
 use Rattle.pq_types.specs.declared.control.Notice.{Notice}
 use Rattle.pq_types.specs.declared.control.Control.TheVariants.{Answered}
-use Rattle.desk_core.specs.Words.{word_number, word_of, mixed, MixedByWord, WordsMix}
+use Rattle.desk_core.specs.Words.{word_number, word_of, mixed}
 use Rattle.pq_types.specs.Control.{kind_of, request_item, answer_item, notice_has_item, posted, answered, is_answer}
 use Rattle.pq_types.specs.Mail.{IsProperControl, control_word}
 use Rattle.pq_types.specs.declared.control.Kind.TheVariants as kind
 use Rattle.pq_types.specs.declared.journal.TheConstants.{GREATEST_NUMBER}
 use Rattle.pq_types.specs.Queue.{IsProperRequestOf}
-use Rattle.pq_types.specs.History.{journal_after, journal_by, Limits, MayDo, MayAnswer}
-use Rattle.pq_types.specs.Laws.{ControlWordsDiffer}
+use Rattle.pq_types.specs.History.{journal_after, journal_by, MayDo, MayAnswer}
 use Rattle.pq_book.specs.Book.{Volume}
-use Rattle.desk_core.specs.Archiving.{archived_of, EveryRunHasLimits, LimitsRise}
-use Rattle.desk_core.specs.Waiters.{EveryRunHasWaiters}
 use Rattle.wait_list.specs.Waiters.{Change}
 use Rattle.pq_book.specs.Stock.{settled_book}
-use Rattle.desk_core.specs.Beyond.{NextIsUnknown}
-use Rattle.desk_core.specs.Dealing.{IsReached, Takes, MovesReach}
-use Rattle.desk_core.specs.Desk.{Desk, Has, time, put, locked, freed, with_control, with_cell, with_pen, dealer_opening}
+use Rattle.desk_core.specs.Dealing.{IsReached, Takes}
+use Rattle.desk_core.specs.Desk.{Desk, Has, time, put, locked, freed, with_control, with_cell, with_pen}
 use Rattle.desk_core.specs.Steps.{Event, actor, Drafts, Posts, Tries, Reads, ReadsItem, LaysItem, Answers, Applies, Archives, Changes, HandsOut, Releases, ReleasesBy, Looks, SeesItem, TakesItem, Step}
-use Rattle.desk_core.specs.Keeping.{DraftKeeps, PostKeeps, LeadKeeps, MissKeeps, ReadKeeps, ReadItemKeeps, LayItemKeeps, AnswerKeeps, ApplyKeeps, ArchiveKeeps, ChangeKeeps, HandOutKeeps, ReleaseKeeps, ReleaseByKeeps, LookKeeps, SeeItemKeeps, TakeItemKeeps, DueIsNew, PensAreSeated}
 use Rattle.desk_core.specs.Looking as looking
-use Rattle.desk_core.specs.Knows.{Knows, LeadersKnow, HomeIsKnown}
-use Rattle.desk_core.specs.Clauses.{RuleGivesClauses}
-use Rattle.desk_core.specs.Layout.{lock_at, control_at, item_at, LockStored, ControlStored, ItemStored, Loaded, WordsAreReadBack}
+use Rattle.desk_core.specs.Knows.{Knows}
+use Rattle.desk_core.specs.Layout.{lock_at, control_at, item_at}
 use Rattle.desk_core.specs.Pen.{IsIdle, IsKept, after_draft, after_post, after_lead, after_miss, after_read, after_read_item, after_lay, after_answer, after_apply, after_archive, after_change, after_hand_out, after_release, after_release_by, after_look, after_see, after_take, book_with, book_in_hand, limits_in_hand}
 use Rattle.desk_core.specs.Rule.{MeetsRule}
 use Rattle.desk_core.specs.Duties.{DutiesAreKept, weight_of}
@@ -58,67 +52,7 @@ use Rattle.announce_board.proofs.Duties.{acts_on}
 use Rattle.announce_board.proofs.Sums.{length_at}
 use Rattle.announce_board.proofs.Weights.{weighs_on}
 use Rattle.announce_board.proofs.Same.{same_request, same_answer, kind_posted, same_draft, same_waiting, same_due, same_notice, not_true, refused_alone, none_refused, same_applied, same_ended, same_archived, same_changed, same_book}
-
--- the laws of the machine that the steps rest on
-pub record Laws : Type 0 where
-  pub draft : DraftKeeps
-  pub post : PostKeeps
-  pub lead : LeadKeeps
-  pub miss : MissKeeps
-  pub read : ReadKeeps
-  pub read_item : ReadItemKeeps
-  pub lay_item : LayItemKeeps
-  pub answer : AnswerKeeps
-  pub apply : ApplyKeeps
-  pub archive : ArchiveKeeps
-  pub change : ChangeKeeps
-  pub hand_out : HandOutKeeps
-  pub release : ReleaseKeeps
-  pub release_by : ReleaseByKeeps
-  pub look : LookKeeps
-  pub see_item : SeeItemKeeps
-  pub take_item : TakeItemKeeps
-  pub due : DueIsNew
-  pub seated : PensAreSeated
-  pub clauses : RuleGivesClauses
-  pub home : HomeIsKnown
-  pub leaders : LeadersKnow
-  pub unknown : NextIsUnknown
-  pub lock_stored : LockStored
-  pub control_stored : ControlStored
-  pub item_stored : ItemStored
-  pub loaded : Loaded
-  pub read_back : WordsAreReadBack
-  pub controls_differ : ControlWordsDiffer
-  pub by_word : MixedByWord
-  pub mix : WordsMix
-  pub goes_on : MovesReach
-  pub limited : EveryRunHasLimits
-  pub rise : LimitsRise
-  pub waited : EveryRunHasWaiters
-
--- a fact of an index and a word, where both are known by equations
-pub at_both : (F : ℕ → ℕ → Type 0) (i j n k : ℕ) → i ≡ j → n ≡ k → F j k → F i n
-at_both F i j n k e f h = subst (λ x. F x n) (sym e) (subst (F j) (sym f) h)
-
--- the Book that the machine sees at home is the one in the slot
-pub book_there : (x : home.Option (home.Option Slotted)) (b : Volume) → book_in x ≡ Some b → x ≡ some (some (with_book b))
-book_there none b e = absurd (cc e)
-book_there (some none) b e = absurd (cc e)
-book_there (some (some (says n))) b e = absurd (cc e)
-book_there (some (some (with_book c))) b e = let f : Some c ≡ Some b = e in let g : c ≡ b = cc in ap (λ v. some (some (with_book v))) g
-
--- the Book at home meets the terms of the opening
-pub book_bounded : EveryRunHasLimits → LimitsRise → (room : ℕ) (terms : Terms) (places : ℕ) (d : Desk) → room ≤ GREATEST_NUMBER → IsReached places (first_limits room terms) d
-    → (book : Volume) → d.home ≡ Some book → MeetsTerms terms book
-book_bounded limited rise room terms places d small (moves, run) book at =
-    let first = first_limits room terms in
-    let archived = archived_of (dealer_opening places first) moves d run in
-    let fits = ((limited places first moves d small run).home book at).0 in
-    let up = rise first archived in
-    let more = up.allowed in
-    let same = ap (λ (l : Limits). l.allowed) fits in
-    (ap (λ (l : Limits). l.bound) fits ∙ up.bound, omega (arith, more, same))
+use Rattle.announce_board.proofs.StepLaws.{Laws, at_both, book_there, book_bounded}
 
 -- the terms that are said
 one_said : (a b : Terms) → ◌≡◌ {A = home.Option Slotted} (some (says a)) (some (says b)) → a ≡ b

@@ -24,7 +24,7 @@ use Rattle.announce_board.specs.declared.terms.Terms.{Terms}
 use Rattle.announce_board.specs.Slots.{MeetsTerms, Slotted, with_book, book_of, first_limits}
 use Rattle.announce_board.specs.Steps.{pen_at}
 use Rattle.announce_board.specs.Opening.{OpeningKept, DealingAllowed, EndsAreTold, IsHomeBook, IsHomeWith, IsHeldWith, HasAll, ClosedByAll}
-use Rattle.announce_board.proofs.Allows.{book_there, book_bounded}
+use Rattle.announce_board.proofs.StepLaws.{book_there, book_bounded}
 use Rattle.announce_board.proofs.Homes.{same_volume}
 use Rattle.announce_board.proofs.Lines.{lines_are_of}
 use Rattle.announce_board.proofs.Gathered.{nobody_leads, keepers_testify, pens_apart}

@@ -1,5 +1,5 @@
 use Rattle.announce_board.proofs.Allows as allows
-use Rattle.announce_board.proofs.Allows.{Laws}
+use Rattle.announce_board.proofs.StepLaws.{Laws}
 use Rattle.announce_board.proofs.running.law_steps_are_moves.Goals as goal
 
 pub returns : goal.returns

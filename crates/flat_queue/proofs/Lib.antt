@@ -33,3 +33,4 @@ pub mod CallStepping
 pub mod Dues
 pub mod DueStepping
 pub mod ClosedHistories
+pub mod WaitStepping

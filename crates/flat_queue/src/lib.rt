@@ -44,6 +44,12 @@
 //!   whose stores can (`TicketStore`). `Queue::reschedule` moves it so to another priority, by one line, whose number is its new
 //!   ticket. Both wait until they have the lock, and post nothing; `Queue::carry_out_by_ticket` does so where it finds the lock
 //!   free, and wakes nobody.
+//! - `Queue::take_or_wait` and `push_or_wait` take a member's entry, by its number, out of those who wait in the list beside the heap,
+//!   look or push, and enter again where they have to wait: all under one lock, so that nothing comes between. A take enters where
+//!   its look takes nothing, as its patience says; a push where nothing but its bound refuses it. `Queue::leave` takes entries out.
+//!   Each try finds the lock free, or nothing was done.
+//! - Each release wakes whom it is to wake, as few as it may, and the member keeps their numbers: `Member::owes_wakes` says whether
+//!   there are any, and `Queue::take_wakes` hands them out, as a mask.
 //! - `Queue::count_items` counts the items under the lock, those that wait and the most that waited at once, and makes no
 //!   request. `Queue::peek` tells so which item is first, and how many lines the journal has.
 //! - `Queue::push_all` puts many items into the queue under one lock, and `Queue::pop_all_up_to` takes many out that are due

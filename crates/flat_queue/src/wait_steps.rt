@@ -221,10 +221,7 @@ fn wants_for<S: Store<StoreEntry<P>>, P: Part>(
 }
 
 // The priority of the first item, where nobody watches for it.
-fn watch_for<S: Store<StoreEntry<P>>, P: Part>(
-    lead: &Lead<S, P>,
-    first: Option<u64>,
-) -> Option<u64>
+fn watch_for<S: Store<StoreEntry<P>>, P: Part>(lead: &Lead<S, P>, first: Option<u64>) -> Option<u64>
     ensures { result ≡ watch_for first lead.now.book.waiters }
 {
     match first {

@@ -358,11 +358,6 @@ pq_code pq_pop_due(pq_member *it, uint64_t priority, pq_item *item, uint64_t unt
  * Counting the items.
  */
 
-pq_code flatpq_count(pq_member *it, uint64_t *count, uint64_t *peak, uint32_t *owes_wake) {
-    uint64_t unasked = 0;
-    return LEAVE_OUT(pq_core_try_count(&it->proved, count, peak != NULL ? peak : &unasked, owes_wake));
-}
-
 typedef struct sizing {
     pq_member *member;
     uint64_t *size, *peak;
@@ -372,7 +367,11 @@ typedef struct sizing {
 /* A count is made where a shut has to wait for the archive. */
 static pq_code try_size(void *asked) {
     sizing *it = asked;
-    return flatpq_before(it->member) == LOCK_HELD ? LOCK_HELD : flatpq_count(it->member, it->size, it->peak, &it->answer.owes_wake);
+    uint64_t unasked, *peak = it->peak != NULL ? it->peak : &unasked;
+    if (flatpq_before(it->member) == LOCK_HELD) {
+        return LOCK_HELD;
+    }
+    return LEAVE_OUT(pq_core_try_count(&it->member->proved, it->size, peak, &it->answer.owes_wake));
 }
 
 pq_code pq_size(pq_member *member, uint64_t until, uint64_t *size, uint64_t *peak) {

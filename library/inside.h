@@ -29,18 +29,18 @@ struct pq_member {
     pq_queue *queue;
     uint32_t is_shared : 1; /* it is the one inside a queue */
     uint32_t has_tickets : 1;
-    uint32_t listens; /* it was joined, and listens: 1 and its number */
     uint32_t place;
-    pq_member *next; /* of those that are in no use */
+    uint64_t listens; /* it was joined, and listens under this number; 0: it does not. A number is a bit of a mask. */
+    pq_member *next;  /* of those that are in no use */
 } __attribute__((aligned(128)));
 
 /* A thread's record of its own member of a queue (own.c). */
 typedef struct own {
     pq_member *shared; /* what pq_own returns */
     pq_member *member;
-    uint32_t busy;    /* the thread is in a call by the member. Only this thread writes these two. */
-    uint32_t listens; /* it listens: 1 and its number. It does so without a member, and its record stays meanwhile. */
+    uint32_t busy;  /* the thread is in a call by the member. Only this thread writes it, and `listens`. */
     uint32_t taken; /* WANTED or TAKEN. It is written under the lock of members. */
+    uint64_t listens; /* it listens under this number. It does so without a member, and its record stays meanwhile. */
     uint32_t place;
     pq_queue *queue;
     struct own *next;               /* of the thread */
@@ -49,26 +49,13 @@ typedef struct own {
 
 enum { WANTED = 1, TAKEN = 2 };
 
-/* A thread that waits for a member (queue.c), or for a number (waiting.c). */
-typedef struct wanting {
-    struct wanting *next, **at;
-    own *record; /* NULL where it joins */
-    pq_member *got;
-    pq_code code;
-    uint32_t is_served; /* the thread sleeps while this is 0; of a number: 1 and this */
-} wanting;
-
-typedef struct line {
-    wanting *first, **end;
-} line;
-
 /* A queue. What changes together has cache lines of its own. */
 struct pq_queue {
     pq_member own;
     core proved;
     uint64_t time_zero, time_unit;
     uint64_t most_items; /* 0: as many as there are */
-    uint64_t gone;       /* numbers of those that wait no more, and whose entries are to be taken out */
+    uint64_t gone;       /* numbers whose entries are to be taken out */
     uint32_t is_shut;    /* SHUT_WAITS, IS_SHUT (shutting.c) */
     uint32_t members; /* how many there may be */
     const pthread_mutex_t *lock; /* of members: that of the copy of the library which opened the queue */
@@ -83,15 +70,13 @@ struct pq_queue {
     uint32_t waiting;   /* threads that wait without a member, or listen so; a queue where any does is not closed */
     pq_member *spare;   /* members in no use */
     own *owns;
-    line wanted;        /* threads that wait for a member */
+    struct wanting *wanted, **wanted_end; /* threads that wait for a member, and where the next one goes */
     void (*left)(void *context, pq_item item);
     void *left_context;
 
-    /* Those that wait, without a lock but for the line. */
-    uint64_t numbers __attribute__((aligned(64))); /* that are in use */
-    uint64_t holders;                              /* those of them by which a joined member waits */
-    uint32_t in_line;                              /* threads that wait for one, */
-    line unnumbered[4];                            /* by what they want */
+    /* Those that wait, without a lock. Numbers in use, and of them those by which a joined member waits, and those whose threads get no member. */
+    uint64_t numbers __attribute__((aligned(64))), holders, stranded;
+    uint32_t unnumbered[3], given[3]; /* by what they want: threads that have no number, and at what they sleep */
     waiter waiters[64];
 
     /* What is archived, without a lock (durable.c). */
@@ -130,8 +115,7 @@ HIDDEN pq_code flatpq_may_read(void);
 HIDDEN int flatpq_barrier(void);                                             /* in all threads of the process: whether it was made */
 HIDDEN int flatpq_sleep(const uint32_t *word, uint32_t seen, uint64_t until); /* while the word is that: 0; 1: the time has come */
 HIDDEN void flatpq_nap(uint64_t until);
-HIDDEN void flatpq_wake(const uint32_t *word);
-HIDDEN void flatpq_wake_each(const uint32_t *word);
+HIDDEN void flatpq_wake(const uint32_t *word, int most); /* so many of those that sleep at it */
 HIDDEN int flatpq_is_late(uint64_t until);
 
 /* What the proved calls do to memory is left out. What a thread did before it pushed an item happens before what another does with it, and
@@ -156,8 +140,7 @@ extern pthread_mutex_t flatpq_members HIDDEN; /* the lock of all queues' members
 HIDDEN void flatpq_unlock(pq_queue *queue);   /* unlocks that; the queue may be gone after this */
 HIDDEN pq_code flatpq_get_member(pq_queue *queue, uint64_t until, own *record, pq_member **member); /* without the lock */
 HIDDEN void flatpq_release(pq_queue *queue, pq_member *member);
-HIDDEN void flatpq_put_into_line(line *into, wanting *it);
-HIDDEN void flatpq_take_from_line(line *from, wanting *it);
+HIDDEN void flatpq_count(pq_queue *queue, uint32_t *count, uint32_t more); /* under the lock. The queue may be gone after this. */
 
 /*
  * own.c: which member a call uses. The first four are called under the lock.
@@ -266,7 +249,6 @@ INLINE pq_code flatpq_before(pq_member *member) {
  */
 HIDDEN pq_code flatpq_push(pq_member *member, pq_item item, uint64_t until, core_answer *answer); /* it does not wait for room */
 HIDDEN pq_code flatpq_take_first(pq_member *member, uint64_t priority, uint64_t until, core_answer *answer);
-HIDDEN pq_code flatpq_count(pq_member *member, uint64_t *count, uint64_t *peak, uint32_t *owes_wake); /* tries once; peak may be NULL */
 HIDDEN pq_code flatpq_refusal(uint32_t kind); /* what an answer of this kind comes to, which refuses the request */
 HIDDEN pq_code flatpq_looked(pq_member *member, const core_answer *answer); /* what such a look comes to that was so answered; it wakes */
 HIDDEN void flatpq_return_first(pq_code code, const core_answer *answer, pq_item *item, uint64_t *number);
@@ -284,7 +266,7 @@ enum { AWAKE = 0, SLEEPING = 1, LISTENS = 2, WOKEN = 3, NOTIFYING = 4, AWAITED =
 HIDDEN void flatpq_deliver(pq_queue *queue, uint64_t wakes); /* these numbers are woken */
 HIDDEN void flatpq_wake_after(pq_member *member);
 HIDDEN int flatpq_claim(waiter *it); /* no thread notifies it from now on. 1: none has */
-HIDDEN void flatpq_leave_waiting(pq_queue *queue, pq_member *member, uint32_t number); /* the thread may have no member: NULL */
+HIDDEN void flatpq_hand_on(pq_queue *queue);
 
 /* Copies an item that a proved call has just written, by its two numbers: one load of 16 bytes would wait for both stores. */
 INLINE void flatpq_copy(pq_item *to, const volatile pq_item *from) {
@@ -300,49 +282,50 @@ INLINE void flatpq_carried_out(pq_member *member, const core_answer *answer) {
 }
 
 /*
- * waiting.c: a thread waits for an item. bounded.c: for room. listening.c: it listens.
+ * waiting.c: a thread waits for an item, or for room. listening.c: it listens.
  */
-enum { ROOM = 0, ANY = 1, DUE = 2, UP_TO = 3, ALARM = 4 };
+enum { ROOM = 0, ANY = 1, DUE = 2, UP_TO = 3, ALARM = 4, ROOM_TO_LISTEN = 5 };
 
 typedef struct wait {
     pq_queue *queue;
     pq_member *member; /* by which it makes its next step; NULL: the thread has none */
     own *mine;
-    int pushes;
-    pq_item item; /* which it pushes */
+    int is_own;
+    uint32_t wants;    /* ANY, .. */
+    pq_item item;      /* which it pushes; or its priority is that up to which it takes */
     core_answer *answer;
     uint64_t until;
-    uint64_t priority; /* up to which it takes an item */
-    uint32_t wants;    /* ANY, .. */
-    uint32_t number;   /* under which it waits */
-    int has_number, is_in; /* it has one; its entry is in the list */
+    uint64_t number;       /* under which it waits; 0: it has none */
+    int is_in;             /* its entry may be in the list */
     int watches;           /* it is to come back by itself once the first item is due */
+    uint64_t *listens;     /* where it stands that it listens, */
+    void (*notify)(void *context);
+    void *context;
 } wait;
 
+INLINE waiter *flatpq_waiter_of(const wait *it) {
+    return &it->queue->waiters[__builtin_ctzll(it->number)];
+}
+INLINE int flatpq_is_over(pq_code code) { /* it waits for nothing more */
+    return code != PQ_EMPTY && code != PQ_NOT_DUE && code != PQ_FULL;
+}
 HIDDEN int flatpq_take_number(wait *it); /* 0: none is free */
 HIDDEN void flatpq_give_numbers(pq_queue *queue, uint64_t numbers);
 HIDDEN pq_code flatpq_begin_wait(wait *it, pq_member *member);
-HIDDEN pq_code flatpq_step(wait *it, uint32_t word, uint64_t until); /* one step, by a word that is set before its entry is made */
 HIDDEN pq_code flatpq_look(wait *it, uint64_t until); /* without a number */
-HIDDEN void flatpq_end_wait(wait *it);  /* its entry leaves */
-HIDDEN pq_code flatpq_wait(wait *it, pq_code code); /* goes on with a wait whose last look came to this */
-HIDDEN void flatpq_end_waiting(wait *it);
-HIDDEN void flatpq_count_waiting(pq_queue *queue, uint32_t more);
+HIDDEN pq_code flatpq_step(wait *it, uint32_t word, uint64_t until); /* one step, by a word that is set before its entry is made */
+HIDDEN void flatpq_end_wait(wait *it);     /* its entry leaves */
+HIDDEN void flatpq_wait_no_more(wait *it); /* it is counted as waiting no more. Without a member the queue may be gone after this. */
+HIDDEN pq_code flatpq_push_to_room(pq_member **member, own **mine, pq_item item, uint64_t until, core_answer *answer);
 HIDDEN uint64_t flatpq_due_time(const pq_queue *queue, uint64_t priority); /* at which an item of this priority is due */
 HIDDEN uint64_t flatpq_due_now(const pq_queue *queue);                     /* the greatest priority that is due */
 HIDDEN int flatpq_unlisten(wait *it); /* 1: it listened, and was not notified */
-
-/*
- * bounded.c: pushes that found the queue full wait for room.
- */
-HIDDEN pq_code flatpq_push_to_room(pq_member **member, own **mine, pq_item item, uint64_t until, core_answer *answer);
 
 /*
  * durable.c: threads wait until an entry is archived.
  */
 HIDDEN void flatpq_count_archived(pq_queue *queue, uint64_t archived);
 HIDDEN void flatpq_end_awaiting(pq_queue *queue); /* the queue is closed or freed */
-HIDDEN void flatpq_count_staying(pq_queue *queue, uint32_t more);
 
 /*
  * journal.c

@@ -10,175 +10,146 @@
 
 #include <sys/timerfd.h>
 
-/* A call that listens. */
-typedef struct listening {
-    wait wait;
-    waiter *waits;
-    void (*notify)(void *context);
-    void *context;
-    int is_notified; /* it listened, and was notified meanwhile */
-} listening;
-
-/* Where it stands that a member listens, or a thread by its own: 1 and its number. */
-static uint32_t *listens_of(const wait *it) {
-    return it->mine != NULL ? &it->mine->listens : &it->member->listens;
-}
-
-static void begin_listening(wait *it) {
-    *listens_of(it) = it->number + 1;
-    __atomic_fetch_add(&it->queue->waiting, it->mine != NULL, SEQ);
-}
-
-/* A thread without a member is counted as waiting on. */
 int flatpq_unlisten(wait *it) {
-    const uint32_t listens = *listens_of(it);
-    int listened = 0;
-    if (listens) {
-        it->number = listens - 1;
-        listened = flatpq_claim(&it->queue->waiters[it->number]);
-        flatpq_end_wait(it);
-        *listens_of(it) = 0;
-        __atomic_fetch_sub(&it->queue->waiting, it->mine != NULL && it->member != NULL, SEQ);
+    int listened;
+    if (it->number == 0) {
+        return 0;
+    }
+    listened = flatpq_claim(flatpq_waiter_of(it));
+    *it->listens = 0;
+    flatpq_end_wait(it);
+    if (it->is_own) {
+        flatpq_wait_no_more(it);
     }
     return listened;
 }
 
-static int is_over(pq_code code) {
-    return code != PQ_EMPTY && code != PQ_NOT_DUE && code != PQ_FULL;
-}
-
-/* Of several members that are joined the last that does not wait has to stay awake, for those that call by their own. */
-static int is_last_awake(const wait *it) {
+/* Of several members that are joined the last that does not wait stays awake, for those that call by their own. */
+static int may_listen(wait *it) {
     const uint32_t members = it->queue->members;
-    return it->mine == NULL && members > 1 && (uint32_t)__builtin_popcountll(__atomic_load_n(&it->queue->holders, SEQ)) + 1 >= members;
+    return flatpq_take_number(it)
+           && (it->is_own || members == 1 || (uint32_t)__builtin_popcountll(__atomic_load_n(&it->queue->holders, SEQ)) < members);
 }
 
-static pq_code listen(listening *it) {
-    wait *waits = &it->wait;
-    pq_code code;
-    if (!waits->has_number) {
-        code = flatpq_look(waits, AT_ONCE);
-        if (is_over(code)) {
-            return code;
-        }
-        if (is_last_awake(waits) || !flatpq_take_number(waits)) {
-            return PQ_ALL_JOINED;
-        }
-        begin_listening(waits);
-    }
-    it->waits = &waits->queue->waiters[waits->number];
-    flatpq_claim(it->waits);
-    it->waits->notify = it->notify;
-    it->waits->context = it->context;
-    code = flatpq_step(waits, LISTENS, AT_ONCE);
-    if (is_over(code)) {
-        it->is_notified = !flatpq_unlisten(waits);
-    }
-    return code;
-}
-
-/* Where another thread has the lock for long the call is to be made again, and else comes to this. */
-static pq_code listen_by(listening *it, pq_member *member, pq_code none) {
-    pq_code code = flatpq_begin_wait(&it->wait, member);
-    if (code != PQ_OK) {
+static pq_code begin_listening(wait *it) {
+    pq_code code = flatpq_look(it, AT_ONCE);
+    if (flatpq_is_over(code)) {
         return code;
     }
-    code = listen(it);
-    flatpq_end(it->wait.mine);
-    if (code == PQ_TIMED_OUT) {
-        if (!it->is_notified) {
-            it->notify(it->context);
-        }
-        return none;
+    if (!may_listen(it)) {
+        flatpq_end_wait(it);
+        return PQ_ALL_JOINED;
     }
+    *it->listens = it->number;
+    __atomic_fetch_add(&it->queue->waiting, (uint32_t)it->is_own, SEQ);
     return code;
 }
 
-pq_code pq_take_or_listen(pq_member *member, uint64_t priority, pq_item *item, uint64_t *number, void (*notify)(void *context), void *context) {
-    core_answer answer;
-    listening it = { { .answer = &answer, .priority = priority, .wants = UP_TO }, .notify = notify, .context = context };
-    pq_code code = listen_by(&it, member, PQ_EMPTY);
-    flatpq_return_first(code, &answer, item, number);
-    return code;
-}
-
-pq_code pq_push_or_listen(pq_member *member, pq_item item, uint64_t *number, void (*notify)(void *context), void *context) {
-    core_answer answer;
-    listening it = { { .answer = &answer, .pushes = 1, .item = item, .wants = UP_TO }, .notify = notify, .context = context };
-    pq_code code = listen_by(&it, member, PQ_FULL);
-    if (code == PQ_OK && number != NULL) {
-        *number = answer.number;
-    }
-    return code;
-}
-
-/*
- * Alarms.
- */
-
-/* Sets a timer: PQ_FOREVER unsets it. 0: it is none. */
-static int set_timer(int timer, uint64_t time) {
+/* 0: it is none. */
+static int set_timer(void *timer, uint64_t time) {
     const uint64_t second = 1000000000;
     struct itimerspec at = { { 0, 0 }, { 0, 0 } };
     if (time != PQ_FOREVER) {
         at.it_value.tv_sec = (time_t)(time / second);
         at.it_value.tv_nsec = (long)(time % second);
     }
-    return timerfd_settime(timer, TFD_TIMER_ABSTIME, &at, NULL) == 0;
+    return timerfd_settime((int)(intptr_t)timer, TFD_TIMER_ABSTIME, &at, NULL) == 0;
 }
 
-static void ring(void *context) {
+static void ring(void *timer) {
     const uint64_t over = 1;
-    set_timer((int)(intptr_t)context, over);
+    (void)set_timer(timer, over);
 }
 
-/* Sets the timer of an alarm that came to this. */
-static pq_code arm(listening *it, int timer, pq_code code) {
-    const uint64_t soon = 100000;
-    if (code == PQ_TIMED_OUT) {
-        /* Another thread had the lock for long: this call is to be made again. */
-        return set_timer(timer, pq_after(soon)) ? PQ_EMPTY : PQ_NO_TIMER;
-    }
-    if (is_over(code)) {
-        return code;
-    }
-    if (!set_timer(timer, code == PQ_EMPTY ? PQ_FOREVER : flatpq_due_time(it->wait.queue, it->wait.answer->item.priority))) {
-        flatpq_unlisten(&it->wait);
+static pq_code arm(const wait *it, pq_code code) {
+    if (!set_timer(it->context, code == PQ_EMPTY ? PQ_FOREVER : flatpq_due_time(it->queue, it->answer->item.priority))) {
         return PQ_NO_TIMER;
     }
-    if (__atomic_load_n(&it->waits->word, SEQ) != LISTENS) {
+    if (__atomic_load_n(&flatpq_waiter_of(it)->word, SEQ) != LISTENS) {
         ring(it->context);
     }
     return code;
 }
 
-pq_code pq_take_due_or_listen(pq_member *member, int timer, pq_item *item, uint64_t *number) {
-    core_answer answer;
-    listening it = { { .answer = &answer, .wants = ALARM }, .notify = ring, .context = (void *)(intptr_t)timer };
-    pq_code code = flatpq_begin_wait(&it.wait, member);
+static pq_code take_or_listen(wait *it) {
+    pq_code code = it->number != 0 ? PQ_EMPTY : begin_listening(it);
+    if (!flatpq_is_over(code)) {
+        waiter *waits = flatpq_waiter_of(it);
+        (void)flatpq_claim(waits);
+        waits->notify = it->notify;
+        waits->context = it->context;
+        code = flatpq_step(it, LISTENS, AT_ONCE);
+    }
+    return it->wants == ALARM && !flatpq_is_over(code) ? arm(it, code) : code;
+}
+
+/* Makes a call that listens. Where others have the lock, or all members, for long it is to be made again, and else comes to this. */
+static pq_code listen(wait *it, pq_member *member, pq_code none) {
+    const uint64_t soon = 100000;
+    int is_notified = 0;
+    pq_code code = flatpq_begin_wait(it, member);
     if (code == PQ_OK) {
-        it.wait.priority = flatpq_due_now(it.wait.queue);
-        code = arm(&it, timer, listen(&it));
-        flatpq_end(it.wait.mine);
-        flatpq_return_first(code, &answer, item, number);
+        it->item.priority = it->wants == ALARM ? flatpq_due_now(it->queue) : it->item.priority;
+        code = take_or_listen(it);
+    }
+    if (flatpq_is_over(code) && it->number != 0) {
+        is_notified = !flatpq_unlisten(it) && it->member != NULL; /* else it was notified before this call */
+    }
+    flatpq_end(it->mine);
+    if (code != PQ_TIMED_OUT) {
+        return code;
+    }
+    if (it->wants == ALARM) {
+        return set_timer(it->context, pq_after(soon)) ? none : PQ_NO_TIMER;
+    }
+    if (!is_notified) {
+        it->notify(it->context);
+    }
+    return none;
+}
+
+static pq_code take_by(wait *it, pq_member *member, pq_item *item, uint64_t *number) {
+    core_answer answer;
+    pq_code code;
+    it->answer = &answer;
+    code = listen(it, member, PQ_EMPTY);
+    flatpq_return_first(code, &answer, item, number);
+    return code;
+}
+
+pq_code pq_take_or_listen(pq_member *member, uint64_t priority, pq_item *item, uint64_t *number, void (*notify)(void *context), void *context) {
+    wait it = { .wants = UP_TO, .item = { priority, 0 }, .notify = notify, .context = context };
+    return take_by(&it, member, item, number);
+}
+
+pq_code pq_take_due_or_listen(pq_member *member, int timer, pq_item *item, uint64_t *number) {
+    wait it = { .wants = ALARM, .notify = ring, .context = (void *)(intptr_t)timer };
+    return take_by(&it, member, item, number);
+}
+
+pq_code pq_push_or_listen(pq_member *member, pq_item item, uint64_t *number, void (*notify)(void *context), void *context) {
+    core_answer answer;
+    wait it = { .wants = ROOM_TO_LISTEN, .item = item, .answer = &answer, .notify = notify, .context = context };
+    pq_code code = listen(&it, member, PQ_FULL);
+    if (code == PQ_OK && number != NULL) {
+        *number = answer.number;
     }
     return code;
 }
 
+static int listens(const pq_member *member) {
+    const own *mine = flatpq_own_of(member);
+    return (mine != NULL ? mine->listens : member->listens) != 0;
+}
+
 int pq_unlisten(pq_member *member) {
-    wait it = { .is_in = 1 };
+    wait it = { .number = 0 };
     int listened;
-    if (member == NULL || flatpq_special & FORKED) {
+    if (member == NULL || flatpq_special & FORKED || !listens(member)) {
         return 0;
     }
-    if (member->is_shared && ((it.mine = flatpq_own_of(member)) == NULL || !it.mine->listens)) {
-        return 0;
-    }
-    if (flatpq_begin_wait(&it, member) != PQ_OK) {
-        it.queue = member->queue;
-        it.mine = flatpq_own_of(member);
-    }
+    (void)!flatpq_begin_wait(&it, member);
     listened = flatpq_unlisten(&it);
-    flatpq_end_waiting(&it);
+    flatpq_end(it.mine);
     return listened;
 }

@@ -46,7 +46,7 @@ void flatpq_mark(pq_queue *queue, uint32_t taken) {
 }
 
 void flatpq_put_in(pq_queue *queue, own *record, pq_member *member) {
-    own made = { &queue->own, member, 1, record->listens, queue->is_marked ? WANTED : 0, member->place, queue, NULL, queue->owns, &queue->owns };
+    own made = { &queue->own, member, 1, queue->is_marked ? WANTED : 0, record->listens, member->place, queue, NULL, queue->owns, &queue->owns };
     *record = made;
     if (queue->owns != NULL) {
         queue->owns->at = &record->next_of_queue;
@@ -244,7 +244,7 @@ static own *new_record(void) {
 
 /* Gets a member for the thread, whose last record, if there is one, is TAKEN. */
 static COLD pq_code get_own(pq_member *shared, own *taken, uint64_t until, own **mine) {
-    const uint32_t listens = taken != NULL ? taken->listens : 0;
+    const uint64_t listens = taken != NULL ? taken->listens : 0;
     own *made;
     pq_member *member;
     pq_code code;

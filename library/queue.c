@@ -61,6 +61,7 @@ pq_code pq_open(const pq_options *options, pq_queue **queue) {
     made->most_items = asked->most_items;
     made->members = members;
     made->lock = &flatpq_members;
+    made->wanted_end = &made->wanted;
     made->own.queue = made;
     made->own.is_shared = 1;
     made->own.has_tickets = asked->tickets != 0;
@@ -93,7 +94,7 @@ static void end(pq_queue *queue) {
 
 void flatpq_unlock(pq_queue *queue) {
     int ends = queue->is_freed && !queue->is_ending && queue->out == 0 && queue->staying == 0 && queue->waiting == 0;
-    int is_wanted = queue->is_freed || queue->wanted.first != NULL;
+    int is_wanted = queue->is_freed || queue->wanted != NULL;
     queue->is_ending |= (uint32_t)ends;
     if (!ends && is_wanted != (int)queue->is_marked) {
         flatpq_mark(queue, is_wanted ? WANTED : 0);
@@ -102,6 +103,12 @@ void flatpq_unlock(pq_queue *queue) {
     if (ends) {
         end(queue);
     }
+}
+
+void flatpq_count(pq_queue *queue, uint32_t *count, uint32_t more) {
+    pthread_mutex_lock(&flatpq_members);
+    __atomic_fetch_add(count, more, SEQ);
+    flatpq_unlock(queue);
 }
 
 /*
@@ -152,36 +159,37 @@ static pq_code find_member(pq_queue *queue, pq_member **member) {
     return code == PQ_ALL_JOINED ? flatpq_take_over(queue, member) : code;
 }
 
-/* A line of threads that wait, in the order in which they came. */
-void flatpq_put_into_line(line *into, wanting *it) {
-    if (into->first == NULL) {
-        into->end = &into->first;
-    }
-    it->at = into->end;
-    *into->end = it;
-    into->end = &it->next;
+/* A thread that waits for a member. */
+typedef struct wanting {
+    struct wanting *next, **at; /* in the order in which they came */
+    own *record;                /* NULL where it joins */
+    pq_member *got;
+    pq_code code;
+    uint32_t is_served; /* the thread sleeps while this is 0 */
+} wanting;
+
+static void begin_wanting(pq_queue *queue, wanting *it) {
+    it->at = queue->wanted_end;
+    *queue->wanted_end = it;
+    queue->wanted_end = &it->next;
 }
 
-void flatpq_take_from_line(line *from, wanting *it) {
+static void end_wanting(pq_queue *queue, const wanting *it) {
     *it->at = it->next;
-    if (it->next != NULL) {
-        it->next->at = it->at;
-    } else {
-        from->end = it->at;
-    }
+    *(it->next != NULL ? &it->next->at : &queue->wanted_end) = it->at;
 }
 
 /* The first thread that waits for a member gets this one, or is refused by this code. It goes on without the lock. */
 static void serve(pq_queue *queue, pq_code code, pq_member *member) {
-    wanting *first = queue->wanted.first;
-    flatpq_take_from_line(&queue->wanted, first);
+    wanting *first = queue->wanted;
+    end_wanting(queue, first);
     first->code = code;
     first->got = member;
     if (code == PQ_OK && first->record != NULL) {
         flatpq_put_in(queue, first->record, member);
     }
     __atomic_store_n(&first->is_served, 1, SEQ);
-    flatpq_wake(&first->is_served);
+    flatpq_wake(&first->is_served, 1);
 }
 
 static void give_back(pq_queue *queue, pq_member *member) {
@@ -194,7 +202,7 @@ static void give_back(pq_queue *queue, pq_member *member) {
 
 /* The member is in no call. The first thread that waits for one gets it. */
 void flatpq_release(pq_queue *queue, pq_member *member) {
-    if (queue->wanted.first != NULL) {
+    if (queue->wanted != NULL) {
         serve(queue, PQ_OK, member);
     } else {
         give_back(queue, member);
@@ -202,7 +210,7 @@ void flatpq_release(pq_queue *queue, pq_member *member) {
 }
 
 static void refuse_all(pq_queue *queue) {
-    while (queue->wanted.first != NULL) {
+    while (queue->wanted != NULL) {
         serve(queue, PQ_CLOSED, NULL);
     }
 }
@@ -210,7 +218,7 @@ static void refuse_all(pq_queue *queue) {
 /* Waits for a member until then. 1: another thread served this one, and it does not have the lock; the queue may be gone if the code is
    PQ_CLOSED. */
 static int wait_for_member(pq_queue *queue, uint64_t until, wanting *it) {
-    flatpq_put_into_line(&queue->wanted, it);
+    begin_wanting(queue, it);
     if (!queue->is_marked) {
         flatpq_mark(queue, WANTED);
     }
@@ -226,7 +234,7 @@ static int wait_for_member(pq_queue *queue, uint64_t until, wanting *it) {
             return 1;
         }
     } while (!flatpq_is_late(until));
-    flatpq_take_from_line(&queue->wanted, it);
+    end_wanting(queue, it);
     return 0;
 }
 
@@ -240,7 +248,7 @@ pq_code flatpq_get_member(pq_queue *queue, uint64_t until, own *record, pq_membe
     pthread_mutex_lock(&flatpq_members);
     if (queue->is_closed) {
         it.code = PQ_CLOSED;
-    } else if (queue->wanted.first == NULL) {
+    } else if (queue->wanted == NULL) {
         it.code = find_member(queue, &it.got);
     }
     if (it.code == PQ_ALL_JOINED && until != PQ_NOW) {

@@ -53,7 +53,7 @@ pq_code pq_shut(pq_queue *queue) {
         __atomic_compare_exchange_n(&queue->is_shut, &is_open, SHUT_WAITS, 0, SEQ, SEQ);
         flatpq_end_shut(queue);
         flatpq_deliver(queue, __atomic_load_n(&queue->numbers, SEQ));
-        flatpq_count_staying(queue, UINT32_MAX);
+        flatpq_count(queue, &queue->staying, UINT32_MAX);
     }
     return code;
 }

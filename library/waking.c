@@ -9,6 +9,10 @@
  * A thread that waits no more, and finds the lock held, sets its number's bit in `gone`, and tries the lock once more. Each thread that had the lock
  * reads `gone` after that, and takes those entries out. One that finds the lock held then puts the bits back, and tries again: so the one that has
  * the lock reads `gone` later. Only who took an entry out gives its number back.
+ *
+ * A thread that comes back, and gets no member, is still in the list, and others may rely on it. It sets its bit in `stranded`, and then reads
+ * `holders`: those that wait and have a member. One of these sets its bit there, and then reads `stranded`. Either moves the bits to `gone`. So none
+ * of those that could go on relies on one that cannot.
  */
 #include "inside.h"
 
@@ -26,11 +30,11 @@ void pq_notify_fd(void *context) {
 static void deliver(waiter *it) {
     uint32_t word = SLEEPING;
     if (__atomic_compare_exchange_n(&it->word, &word, WOKEN, 0, SEQ, SEQ)) {
-        flatpq_wake(&it->word);
+        flatpq_wake(&it->word, 1);
     } else if (word == LISTENS && __atomic_compare_exchange_n(&it->word, &word, NOTIFYING, 0, SEQ, SEQ)) {
         it->notify(it->context);
         if (__atomic_exchange_n(&it->word, WOKEN, SEQ) == AWAITED) {
-            flatpq_wake(&it->word);
+            flatpq_wake(&it->word, 1);
         }
     }
 }
@@ -62,8 +66,9 @@ static int take_out(pq_member *member, uint64_t numbers) {
     return 1;
 }
 
-static void take_out_gone(pq_member *member) {
+COLD void flatpq_wake_after(pq_member *member) {
     uint64_t *gone = &member->queue->gone;
+    flatpq_deliver(member->queue, pq_core_take_wakes(&member->proved));
     while (__atomic_load_n(gone, SEQ) != 0) {
         uint64_t numbers = __atomic_exchange_n(gone, 0, SEQ);
         if (!take_out(member, numbers)) {
@@ -75,17 +80,29 @@ static void take_out_gone(pq_member *member) {
     }
 }
 
-COLD void flatpq_wake_after(pq_member *member) {
-    flatpq_deliver(member->queue, pq_core_take_wakes(&member->proved));
-    take_out_gone(member);
+void flatpq_hand_on(pq_queue *queue) {
+    const uint64_t numbers = __atomic_exchange_n(&queue->stranded, 0, SEQ);
+    __atomic_fetch_or(&queue->gone, numbers, SEQ);
 }
 
 /* Without a member others take the entry out: all that sleep are woken for that. */
-void flatpq_leave_waiting(pq_queue *queue, pq_member *member, uint32_t number) {
-    __atomic_store_n(&queue->waiters[number].word, AWAKE, SEQ);
-    __atomic_fetch_or(&queue->gone, (uint64_t)1 << number, SEQ);
-    if (member != NULL) {
-        take_out_gone(member);
+void flatpq_end_wait(wait *it) {
+    pq_queue *queue = it->queue;
+    const uint64_t number = it->number;
+    if (number == 0) {
+        return;
+    }
+    it->number = 0;
+    __atomic_fetch_and(&queue->holders, ~number, SEQ);
+    __atomic_store_n(&queue->waiters[__builtin_ctzll(number)].word, AWAKE, SEQ);
+    if (!it->is_in) {
+        flatpq_give_numbers(queue, number);
+        return;
+    }
+    it->is_in = 0;
+    __atomic_fetch_or(&queue->gone, number, SEQ);
+    if (it->member != NULL) {
+        flatpq_wake_after(it->member);
     } else {
         flatpq_deliver(queue, __atomic_load_n(&queue->numbers, SEQ));
     }

@@ -111,7 +111,7 @@ static void check_members(void) {
     if (ending == FREED) {
         return;
     }
-    if (queue->wanted.first == NULL) {
+    if (queue->wanted == NULL) {
         return;
     }
     if (queue->is_closed) {
@@ -248,8 +248,8 @@ void check_end(void) {
         return;
     }
     /* A thread that could not get a member leaves its entry to others. */
-    if ((queue->numbers & ~queue->gone) != numbers_at_first || queue->waiting != 0 || queue->staying != 0 || queue->wanted.first != NULL
-        || queue->in_line != 0) {
+    if ((queue->numbers & ~queue->gone) != numbers_at_first || queue->waiting != 0 || queue->staying != 0 || queue->wanted != NULL
+        || (queue->holders | queue->stranded | queue->unnumbered[ROOM] | queue->unnumbered[ANY] | queue->unnumbered[DUE]) != 0) {
         fail("threads have ended, and something of them is left in the queue: numbers %llx, gone %llx, waiting %u, staying %u",
              (unsigned long long)queue->numbers, (unsigned long long)queue->gone, queue->waiting, queue->staying);
     }

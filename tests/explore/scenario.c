@@ -76,7 +76,7 @@ static void read_number(opening *it, const char *name, uint64_t number) {
     } else if (strcmp(name, "entries") == 0) {
         it->options.entries = (uint32_t)number;
     } else if (strcmp(name, "numbers") == 0) {
-        numbers_at_first = ((uint64_t)1 << 61) - ((uint64_t)1 << number);
+        numbers_at_first = (UINT64_MAX >> 6) & -((uint64_t)1 << number);
     } else if (strcmp(name, "used") == 0) {
         it->used = number;
     } else if (strcmp(name, "bound") == 0) {

@@ -203,19 +203,25 @@ fn run_while_a_thread_waits(wakers: &[Waker], woken: &mpsc::Receiver<ThreadId>) 
     let queue = Options::new().most_items(1).open().unwrap();
     let mut listening = queue.join().unwrap();
     for waker in wakers {
-        assert_eq!(queue.push(9, 1).map(|_| ()), Ok(()));
-        let seen = listening.take_or_listen(5, &mut Context::from_waker(waker));
-        assert_eq!(seen, Ok(Due::Later(9)));
-        thread::scope(|scope| {
-            let waiting = scope.spawn(|| queue.push(3, 1).map(|_| ()));
-            thread::sleep(Duration::from_millis(10));
-            assert_eq!(queue.pop(), Ok(Some((9, 1))));
-            let runs_in = woken.recv().unwrap();
-            assert!(runs_in != waiting.thread().id() && runs_in != thread::current().id());
-            assert_eq!(waiting.join().unwrap(), Ok(()));
-        });
-        assert!(!listening.unlisten());
-        assert_eq!(queue.clear(), Ok(1));
+        // The thread runs it itself where it did not wait yet: then once more.
+        let mut has_waited = false;
+        while !has_waited {
+            assert_eq!(queue.push(9, 1).map(|_| ()), Ok(()));
+            let seen = listening.take_or_listen(5, &mut Context::from_waker(waker));
+            assert_eq!(seen, Ok(Due::Later(9)));
+            has_waited = thread::scope(|scope| {
+                let waiting = scope.spawn(|| queue.push(3, 1).map(|_| ()));
+                let pushes = waiting.thread().id();
+                thread::sleep(Duration::from_millis(10));
+                assert_eq!(queue.pop(), Ok(Some((9, 1))));
+                let runs_in = woken.recv().unwrap();
+                assert!(runs_in != thread::current().id());
+                assert_eq!(waiting.join().unwrap(), Ok(()));
+                runs_in != pushes
+            });
+            assert!(!listening.unlisten());
+            assert_eq!(queue.clear(), Ok(1));
+        }
     }
 }
 

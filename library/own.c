@@ -4,7 +4,7 @@
  * A thread has a record of each of its own members. It alone writes `busy` there, at the begin and the end of each call, and takes no lock.
  * A thread that needs a member takes an idle one over: it writes `taken` in that record, makes a barrier in all threads, and reads `busy`. The
  * owner writes `busy` first, and then reads `taken`. So one of the two sees what the other wrote. An owner that sees it goes on under the lock.
- * `kept` stands beside `busy`: the member listens. It changes only while `busy` is set.
+ * A record that listens stays its thread's when it is TAKEN, and its thread's next call makes another of it.
  *
  * While a thread waits for a member all records of the queue are marked WANTED. The mark of a record came before a look at `busy`, which found
  * it set, or the record is new and busy. So each call that ends sees the mark, and hands its member over to the first thread that waits.
@@ -46,7 +46,7 @@ void flatpq_mark(pq_queue *queue, uint32_t taken) {
 }
 
 void flatpq_put_in(pq_queue *queue, own *record, pq_member *member) {
-    own made = { &queue->own, member, 1, 0, queue->is_marked ? WANTED : 0, member->place, queue, NULL, queue->owns, &queue->owns };
+    own made = { &queue->own, member, 1, queue->is_marked ? WANTED : 0, record->listens, member->place, queue, NULL, queue->owns, &queue->owns };
     *record = made;
     if (queue->owns != NULL) {
         queue->owns->at = &record->next_of_queue;
@@ -67,7 +67,7 @@ static pq_member *take_out(own *record) {
 
 /* The record is marked, and a barrier was made. */
 static int is_idle(const own *record) {
-    return __atomic_load_n(&record->busy, SEQ) == 0 && __atomic_load_n(&record->kept, SEQ) == 0;
+    return __atomic_load_n(&record->busy, SEQ) == 0;
 }
 
 pq_code flatpq_take_over(pq_queue *queue, pq_member **member) {
@@ -87,22 +87,19 @@ pq_code flatpq_take_over(pq_queue *queue, pq_member **member) {
     return PQ_ALL_JOINED;
 }
 
-/* Takes all idle members over, and gives them back: whether others that listen relied on one of them. Without a barrier it is the thread's own. */
-int flatpq_take_back(pq_queue *queue) {
+/* Takes all idle members over, and gives them back. Without a barrier it is the thread's own. */
+void flatpq_take_back(pq_queue *queue) {
     const own *mine = find(&queue->own);
     own *next;
-    int has_barrier, has_left = 0;
+    int has_barrier;
     flatpq_mark(queue, WANTED);
     has_barrier = flatpq_barrier();
     for (own *it = queue->owns; it != NULL; it = next) {
         next = it->next_of_queue;
         if ((has_barrier || it == mine) && is_idle(it)) {
-            pq_member *member = take_out(it);
-            has_left |= (int)member->has_left;
-            flatpq_release(queue, member);
+            flatpq_release(queue, take_out(it));
         }
     }
-    return has_left;
 }
 
 /*
@@ -122,6 +119,14 @@ static void forget(own *forgotten) {
     free(forgotten);
 }
 
+static void forget_unless_it_listens(own *it) {
+    if (!it->listens) {
+        forget(it);
+    } else if (flatpq_thread.last == it) {
+        flatpq_thread.last = &no_own;
+    }
+}
+
 static int is_taken(const own *it) {
     return __atomic_load_n(&it->taken, __ATOMIC_ACQUIRE) == TAKEN;
 }
@@ -131,7 +136,7 @@ static void forget_taken(void) {
         own *next;
         for (own *it = flatpq_thread.owns[i]; it != NULL; it = next) {
             next = it->next;
-            if (is_taken(it)) {
+            if (is_taken(it) && !it->listens) {
                 forget(it);
             }
         }
@@ -144,9 +149,6 @@ static int enter_under_lock(own *it) {
     pthread_mutex_lock(&flatpq_members);
     has_it = !is_taken(it);
     pthread_mutex_unlock(&flatpq_members);
-    if (!has_it) {
-        forget(it);
-    }
     return has_it;
 }
 
@@ -158,7 +160,14 @@ static int enter(own *it) {
    entered, so a queue may be closed while threads end. */
 static void leave(own *it) {
     pq_queue *queue;
-    pq_member *member;
+    if (it->listens) {
+        pq_member *shared = it->shared;
+        pq_unlisten(shared);
+        it = find(shared);
+    }
+    if (it == NULL) {
+        return;
+    }
     pthread_mutex_lock(&flatpq_members);
     if (is_taken(it)) {
         pthread_mutex_unlock(&flatpq_members);
@@ -166,13 +175,7 @@ static void leave(own *it) {
         return;
     }
     queue = it->queue;
-    member = take_out(it);
-    if (member->has_left || member->listens) {
-        pthread_mutex_unlock(&flatpq_members);
-        flatpq_unlisten(member);
-        pthread_mutex_lock(&flatpq_members);
-    }
-    flatpq_release(queue, member);
+    flatpq_release(queue, take_out(it));
     forget(it);
     flatpq_unlock(queue);
 }
@@ -239,14 +242,26 @@ static own *new_record(void) {
     return aligned_alloc(_Alignof(own), sizeof(own));
 }
 
-/* Gets a member for the thread. */
-static COLD pq_code get_own(pq_member *shared, uint64_t until, own **mine) {
-    own *made = new_record();
+/* Gets a member for the thread, whose last record, if there is one, is TAKEN. */
+static COLD pq_code get_own(pq_member *shared, own *taken, uint64_t until, own **mine) {
+    const uint64_t listens = taken != NULL ? taken->listens : 0;
+    own *made;
     pq_member *member;
-    pq_code code = made != NULL ? flatpq_get_member(shared->queue, until, made, &member) : PQ_NO_MEMORY;
+    pq_code code;
+    if (taken != NULL) {
+        forget_unless_it_listens(taken);
+    }
+    if ((made = new_record()) == NULL) {
+        return PQ_NO_MEMORY;
+    }
+    made->listens = listens;
+    code = flatpq_get_member(shared->queue, until, made, &member);
     if (code != PQ_OK) {
         free(made);
         return code == PQ_ALL_JOINED ? PQ_TIMED_OUT : code;
+    }
+    if (listens) {
+        forget(taken);
     }
     made->next = *list_of(shared);
     *list_of(shared) = made;
@@ -257,7 +272,7 @@ static COLD pq_code get_own(pq_member *shared, uint64_t until, own **mine) {
 pq_code flatpq_begin_own(pq_member *shared, uint64_t until, own **mine) {
     own *it = find(shared);
     if (it == NULL || !enter(it)) {
-        pq_code code = get_own(shared, until, &it);
+        pq_code code = get_own(shared, it, until, &it);
         if (code != PQ_OK) {
             return code;
         }
@@ -272,55 +287,16 @@ COLD void flatpq_end_own(own *it) {
     pq_queue *queue;
     pthread_mutex_lock(&flatpq_members);
     if (is_taken(it)) {
-        forget(it);
+        forget_unless_it_listens(it);
         pthread_mutex_unlock(&flatpq_members);
         return;
     }
     queue = it->queue;
-    if (it->taken == WANTED && !it->kept) {
+    if (it->taken == WANTED) {
         flatpq_release(queue, take_out(it));
-        forget(it);
+        forget_unless_it_listens(it);
     }
     flatpq_unlock(queue);
-}
-
-/*
- * Members that sleep: their threads wait for an item, or they listen. One member stays awake, so that calls which end get it, and of several that
- * are not joined one of these. A thread that waits by a joined member keeps that anyway, and so sleeps as it likes.
- */
-
-static int may_sleep(const pq_queue *queue, uint32_t seen, uint32_t as, int listens) {
-    uint32_t own = seen % JOINED_SLEEPS, asleep = own + seen % IS_JOINED / JOINED_SLEEPS, kept = own + seen / IS_JOINED;
-    if (queue->members == 1 || (as == JOINED_SLEEPS && !listens)) {
-        return 1;
-    }
-    return asleep + 1 < queue->members && (as == JOINED_SLEEPS || own == 0 || kept + 1 < queue->members);
-}
-
-uint32_t flatpq_may_sleep(pq_queue *queue, uint32_t as, int listens) {
-    uint32_t seen = __atomic_load_n(&queue->sleepers, SEQ);
-    while (may_sleep(queue, seen, as, listens)) {
-        if (__atomic_compare_exchange_n(&queue->sleepers, &seen, seen + as, 0, SEQ, SEQ)) {
-            return as;
-        }
-    }
-    return 0;
-}
-
-/* One that waits without a member goes on, and passes this on where it doesn't sleep then. */
-void flatpq_count_awake(pq_queue *queue, uint32_t as) {
-    __atomic_fetch_sub(&queue->sleepers, as, SEQ);
-    if (__atomic_load_n(&queue->staying, SEQ) > 0) {
-        __atomic_fetch_add(&queue->turns, 1, SEQ);
-        flatpq_wake(&queue->turns);
-    }
-}
-
-void flatpq_call(pq_queue *queue, const uint32_t *count) {
-    if (__atomic_load_n(count, SEQ) > 0) {
-        __atomic_fetch_add(&queue->turns, 1, SEQ);
-        flatpq_wake_each(&queue->turns);
-    }
 }
 
 pq_member *pq_own(pq_queue *queue) {
@@ -334,9 +310,8 @@ void pq_leave(pq_queue *queue) {
     }
 }
 
-int flatpq_has_own(const pq_member *shared) {
-    const own *it = find(shared);
-    return it != NULL && !is_taken(it);
+own *flatpq_own_of(const pq_member *shared) {
+    return find(shared);
 }
 
 uint32_t pq_place(pq_member *member) {

@@ -29,6 +29,7 @@ void check_begin(pq_options options, int is_observed) {
     if (queue == NULL || (is_observed && pq_join(queue, PQ_NOW, &observer) != PQ_OK)) {
         fail("no queue");
     }
+    queue->numbers = numbers_at_first;
 }
 
 void check_call_begins(enum call call, uint64_t limit, uint64_t number) {
@@ -106,33 +107,18 @@ int is_journal_full(void) {
     return observe(&it) && it.first.kind == KIND_JOURNAL_FULL;
 }
 
-/* One member stays awake, if there are several. */
-static void check_listeners(void) {
-    uint32_t count = 0;
-    for (own *it = queue->owns; it != NULL; it = it->next_of_queue) {
-        count += it->member->listens != 0;
-    }
-    for (int i = 0; i < fiber_count; i++) {
-        count += used[i] != pq_own(queue) && used[i]->listens != 0;
-    }
-    if (count == queue->members && count > 1) {
-        fail("all %u members listen", count);
-    }
-}
-
 static void check_members(void) {
     if (ending == FREED) {
         return;
     }
-    check_listeners();
-    if (queue->first == NULL) {
+    if (queue->wanted == NULL) {
         return;
     }
     if (queue->is_closed) {
         fail("the queue is closed, and a thread waits for a member");
     }
     for (own *it = queue->owns; it != NULL && !refuses_barriers; it = it->next_of_queue) {
-        if (it->busy == 0 && it->kept == 0 && it->taken != TAKEN) {
+        if (it->busy == 0 && it->taken != TAKEN) {
             fail("a member is idle, and a thread waits for one");
         }
     }
@@ -261,11 +247,11 @@ void check_end(void) {
         free_queue();
         return;
     }
-    if (queue->concerned != 0 || queue->alarm_count != 0 || queue->staying != 0 || queue->first != NULL || queue->takers.first != NULL
-        || queue->timers.first != NULL || queue->listeners.first != NULL || queue->alarms.first != NULL || queue->producers.first != NULL
-        || queue->room_listeners.first != NULL) {
-        fail("threads have ended, and something of them is left in the queue: concerned %u, alarms %u, staying %u", queue->concerned,
-             queue->alarm_count, queue->staying);
+    /* A thread that could not get a member leaves its entry to others. */
+    if ((queue->numbers & ~queue->gone) != numbers_at_first || queue->waiting != 0 || queue->staying != 0 || queue->wanted != NULL
+        || (queue->holders | queue->stranded | queue->unnumbered[ROOM] | queue->unnumbered[ANY] | queue->unnumbered[DUE]) != 0) {
+        fail("threads have ended, and something of them is left in the queue: numbers %llx, gone %llx, waiting %u, staying %u",
+             (unsigned long long)queue->numbers, (unsigned long long)queue->gone, queue->waiting, queue->staying);
     }
     code = pq_close(queue, &journal);
     if (code != PQ_OK) {

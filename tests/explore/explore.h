@@ -140,6 +140,7 @@ void check_begin(pq_options options, int is_observed);
 void check_settled(void);
 void check_end(void);
 void check_shut_at_end(void);
+extern uint64_t numbers_at_first; /* that are in use */
 int is_journal_full(void);
 void end_observing(void);
 void journal_begin(void);

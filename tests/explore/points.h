@@ -30,6 +30,5 @@ int proved_begins(const void *handle, int may_hold); /* 0: another thread holds 
 pq_code proved_ends(pq_code code);
 pq_code proved_post(core *member, uint32_t request, uint64_t priority, uint64_t value);
 pq_code proved_answer(core *member, core_answer *answer);
-pq_code proved_claim(core *member, uint32_t *count);
 
 #endif

@@ -49,7 +49,15 @@ pub record LeavesAndLeadsBy (words number : ℕ) (before ready : Joined) : Type 
   pub sweeps : SweepsWhereBy words hinted led served
   pub leaves : ready ≡ record served { pen = after_change served.pen (LeavesList number) }
 
--- so it did, and released the lock with this request of its own, which was so answered
+-- It leads, and stands as it stood: nothing is due to it.
+pub record StandsReady (before ready : Joined) : Type 0 where
+  pub queue : ready.queue ≡ before.queue
+  pub room : ready.pen.room ≡ before.pen.room
+  pub posts : ready.pen.posts ≡ before.pen.posts
+  pub standing : ready.pen.standing ≡ before.pen.standing
+  pub due : ready.pen.due ≡ None
+
+-- The member did so, and released the lock with this request of its own, which was so answered.
 pub record LeavesAndCarriesOutBy (words number : ℕ) (before : Joined) (request : Request) (answer : Answer) (after : Joined) : Type 0 where
   pub ready : Joined
   pub leads : LeavesAndLeadsBy words number before ready

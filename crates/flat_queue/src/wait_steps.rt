@@ -6,15 +6,17 @@ ghost use Rattle.wait_list.specs.Waiters.{Leaves, has_number};
 ghost use Rattle.pq_book.specs.Book.{limits_of};
 ghost use Rattle.desk_core.specs.Pen.{after_change, after_release};
 ghost use Rattle.desk_core.specs.Words.{word_number};
+ghost use Rattle.announce_board.specs.Slots.{MeetsTerms};
 ghost use Rattle.announce_board.specs.Tokens.{IsLeadOf, is_idle};
 ghost use Rattle.flat_queue.specs.Members.{HasRoomForAll, pen_of};
 ghost use Rattle.flat_queue.specs.Memory.{HasSpareRoom};
 ghost use Rattle.flat_queue.specs.Turns.{FindsLockHeld};
 ghost use Rattle.flat_queue.specs.WaitSteps.{entered_for, watch_for, wants_for, wants_left, entry_for, room_wants, IsJustFull};
-ghost use Rattle.flat_queue.specs.WaitSteps.{TakesOrWaitsBy, PushesOrWaitsBy, LeavesTheList};
+ghost use Rattle.flat_queue.specs.WaitSteps.{LeavesAndLeadsBy, StandsReady, TakesOrWaitsBy, PushesOrWaitsBy, LeavesTheList};
 
 use crate::looking::{Looked, Wanted, left_there, looked_by};
 use crate::member::Member;
+use crate::others::Served;
 use crate::queue::Queue;
 use crate::settling::law_one_room;
 use announce_board::Lead;
@@ -90,9 +92,7 @@ impl<S: Store<StoreEntry<P>>, P: Part> Queue<S, P> {
         ensures held { IfNone result (FindsLockHeld member.old member.new) }
     {
         law_one_room(member);
-        let mut lead = self.lead(member)?;
-        let served = self.serve_others(member, &mut lead);
-        let lead = self.take_out(member, lead, number);
+        let (lead, served) = self.lead_out(member, number)?;
         let Some(left) = left_there(&lead, self.desk.room(), wanted) else {
             let answer = self.release_with(member, lead, Request::Pop, served);
             return Some((looked_by(answer), Entry::Out));
@@ -126,9 +126,7 @@ impl<S: Store<StoreEntry<P>>, P: Part> Queue<S, P> {
         ensures held { IfNone result (FindsLockHeld member.old member.new) }
     {
         law_one_room(member);
-        let mut lead = self.lead(member)?;
-        let served = self.serve_others(member, &mut lead);
-        let lead = self.take_out(member, lead, number);
+        let (lead, served) = self.lead_out(member, number)?;
         if is_just_full(&lead, self.desk.room()) {
             self.enter_and_release(member, lead, number, Some(room_wants(wait)));
             return Some(PushedOr::Waits);
@@ -152,11 +150,28 @@ impl<S: Store<StoreEntry<P>>, P: Part> Queue<S, P> {
         true
     }
 
+    // The member leads, serves the others, and takes the entry of this number out of those who wait.
+    fn lead_out(&self, member: &mut Member<S, P>, number: u8) -> Option<(Lead<S, P>, Served)>
+        requires queue { member.old.queue ≡ self.now }
+        ensures leads { IfSome result (λ led. LeavesAndLeadsBy (word_number P.wide) number member.old member.new) }
+        ensures lead { IfSome result (λ led. IsLeadOf (pen_of member.new) led.0) }
+        ensures terms { IfSome result (λ led. MeetsTerms self.now.terms led.0.book) }
+        ensures gone { IfSome result (λ led. has_number number member.new.pen.waiters ≡ false) }
+        ensures ready { IfSome result (λ led. StandsReady member.old member.new) }
+        ensures held { IfNone result (FindsLockHeld member.old member.new) }
+    {
+        let mut lead = self.lead(member)?;
+        let served = self.serve_others(member, &mut lead);
+        let lead = self.take_out(member, lead, number);
+        Some((lead, served))
+    }
+
     // The leader takes the entry of this number out of those who wait.
     fn take_out(&self, member: &mut Member<S, P>, lead: Lead<S, P>, number: u8) -> Lead<S, P>
         requires queue { member.old.queue ≡ self.now }
         requires lead { IsLeadOf (pen_of member.old) lead }
         ensures lead { IsLeadOf (pen_of member.new) result }
+        ensures limits { limits_of result.book ≡ limits_of lead.book }
         ensures gone { has_number number member.new.pen.waiters ≡ false }
         ensures after { member.new ≡ record member.old { pen = after_change member.old.pen (Leaves number) } }
     {

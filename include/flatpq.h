@@ -61,7 +61,7 @@ typedef enum pq_code {
     PQ_ALL_JOINED = 41,   /* as many members are in use as the queue was opened for, or as many listen as may */
     PQ_NO_MEMBER = 42,    /* the member is NULL, or another copy of the library has opened the queue */
     PQ_NO_ENTRY = 46,     /* the journal has no such entry */
-    PQ_EMPTY = 48,        /* the queue has no item; of a call that listens also: another thread had the lock */
+    PQ_EMPTY = 48,        /* the queue has no item; of a call that listens also: others had the lock, or all members */
     PQ_FORGOTTEN = 49,    /* some of these entries are no longer in memory */
     PQ_NOT_DUE = 50,      /* the priority of the first item is above the bound: the item stays */
     PQ_SHUT = 51,         /* the queue is shut, so it takes no push; or it is shut and empty */
@@ -206,22 +206,22 @@ PQ_CHECKED pq_code pq_remove(pq_member *member, uint64_t ticket, pq_item *item, 
    queue too. PQ_OK; PQ_GONE, which has an entry too; PQ_NO_TICKETS; PQ_NO_MEMORY: the item stays as it was. */
 PQ_CHECKED pq_code pq_reschedule(pq_member *member, uint64_t ticket, uint64_t priority, uint64_t until, uint64_t *number);
 
-/* For event loops and futures. A thread that listens by pq_own holds no member meanwhile. At most 61 listen at once, and not all members of
+/* For event loops and futures. A thread that listens by pq_own holds no member meanwhile. At most 58 listen at once, and not all members of
    several that are joined: else PQ_ALL_JOINED.
    A member listens for one thing at a time: a call to listen for another ends that. It may push, pop and peek meanwhile. */
 
 /* Takes the first item out if it is due (pq_take_due); else the member listens by `timer`, a timerfd of CLOCK_MONOTONIC that no other member
    has. It is readable once the first item is due, when an earlier one comes, on a shut, or sometimes for nothing. Then call again, while this
-   returns PQ_OK. The program neither sets nor reads it, and closes it after pq_unlisten. The call does not wait for the queue's lock. If another
-   thread has that for long, it returns PQ_EMPTY, and the timer is readable within 0.1 ms. PQ_OK; PQ_NOT_DUE, PQ_EMPTY: wait for the timer; after
+   returns PQ_OK. The program neither sets nor reads it, and closes it after pq_unlisten. The call does not wait for the queue's lock. If others
+   have that, or all members, for long, it returns PQ_EMPTY, and the timer is readable within 0.1 ms. PQ_OK; PQ_NOT_DUE, PQ_EMPTY: wait for the timer; after
    PQ_NOT_DUE *item is the first item, which stays; PQ_SHUT; PQ_NO_TIMER; or a refusal. */
 PQ_CHECKED pq_code pq_take_due_or_listen(pq_member *member, int timer, pq_item *item, uint64_t *number);
 
 /* Takes the first item out if its priority is at most this one; else the member listens. It does not wait for the queue's lock.
    PQ_OK; PQ_EMPTY: it listens; PQ_NOT_DUE: it listens, and *item is the first item, and stays; PQ_SHUT; or a refusal. After PQ_NOT_DUE call
    again once *item is within the bound: nothing notifies of that. While the member listens, notify(context) is called at most once, after a
-   push, move or shut, or for nothing. Any thread that calls the queue may call it. If another thread has the lock for long, this call does, and
-   returns PQ_EMPTY although items may be there. After notify call again. notify must not wait or call this library. As many are notified as
+   push, move or shut, or for nothing. Any thread that calls the queue may call it. If others have the lock, or all members, for long, this call does,
+   and returns PQ_EMPTY although items may be there. After notify call again. notify must not wait or call this library. As many are notified as
    there are items that they can take, first come first served, and none while a thread waits for any item. One is notified of a first item
    that none of them can take yet, and that is earlier than those which they saw. */
 PQ_CHECKED pq_code pq_take_or_listen(pq_member *member, uint64_t priority, pq_item *item, uint64_t *number,

@@ -312,8 +312,7 @@ INLINE int flatpq_is_over(pq_code code) { /* it waits for nothing more */
 HIDDEN int flatpq_take_number(wait *it); /* 0: none is free */
 HIDDEN void flatpq_give_numbers(pq_queue *queue, uint64_t numbers);
 HIDDEN pq_code flatpq_begin_wait(wait *it, pq_member *member);
-HIDDEN pq_code flatpq_look(wait *it, uint64_t until); /* without a number */
-HIDDEN pq_code flatpq_step(wait *it, uint32_t word, uint64_t until); /* one step, by a word that is set before its entry is made */
+HIDDEN pq_code flatpq_step(wait *it, uint32_t word, uint64_t until);
 HIDDEN void flatpq_end_wait(wait *it);     /* its entry leaves */
 HIDDEN void flatpq_wait_no_more(wait *it); /* it is counted as waiting no more. Without a member the queue may be gone after this. */
 HIDDEN pq_code flatpq_push_to_room(pq_member **member, own **mine, pq_item item, uint64_t until, core_answer *answer);

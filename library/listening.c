@@ -32,7 +32,7 @@ static int may_listen(wait *it) {
 }
 
 static pq_code begin_listening(wait *it) {
-    pq_code code = flatpq_look(it, AT_ONCE);
+    pq_code code = flatpq_step(it, LISTENS, AT_ONCE);
     if (flatpq_is_over(code)) {
         return code;
     }

@@ -136,6 +136,10 @@ static pq_code get_number(wait *it) {
  * Steps.
  */
 
+static int pushes(const wait *it) {
+    return it->wants == ROOM || it->wants == ROOM_TO_LISTEN;
+}
+
 static pq_code try_step(void *asked) {
     wait *it = asked;
     core *proved = &it->member->proved;
@@ -144,7 +148,7 @@ static pq_code try_step(void *asked) {
     if (code != PQ_OK) {
         return code;
     }
-    if (it->wants != ROOM && it->wants != ROOM_TO_LISTEN) {
+    if (!pushes(it)) {
         return LEAVE_OUT(pq_core_take_or_wait(proved, number, it->item.priority, it->wants, it->answer));
     }
     if (IS_WATCHED) {
@@ -153,8 +157,13 @@ static pq_code try_step(void *asked) {
     return LEAVE_OUT(pq_core_push_or_wait(proved, number, it->item.priority, it->item.value, it->wants, it->answer));
 }
 
+/* The word is set before the entry is made. Without a number nothing is entered. */
 pq_code flatpq_step(wait *it, uint32_t word, uint64_t until) {
     pq_code code;
+    if (it->number == 0) {
+        return pushes(it) ? flatpq_push(it->member, it->item, until, it->answer)
+                          : flatpq_take_first(it->member, it->item.priority, until, it->answer);
+    }
     __atomic_store_n(&flatpq_waiter_of(it)->word, word, SEQ);
     code = flatpq_try(try_step, it, it->queue, until);
     if (code != PQ_OK && code != ENTERED && code != WATCHES) {
@@ -165,21 +174,12 @@ pq_code flatpq_step(wait *it, uint32_t word, uint64_t until) {
     return flatpq_looked(it->member, it->answer);
 }
 
-pq_code flatpq_look(wait *it, uint64_t until) {
-    return it->wants == ROOM || it->wants == ROOM_TO_LISTEN ? flatpq_push(it->member, it->item, until, it->answer)
-                                                            : flatpq_take_first(it->member, it->item.priority, until, it->answer);
-}
-
-static pq_code look_until(wait *it, uint64_t until) {
-    return it->number != 0 ? flatpq_step(it, SLEEPING, until) : flatpq_look(it, until);
-}
-
 /* Where the lock is held until the deadline it tries some times more. */
 static pq_code look(wait *it) {
     pq_code code;
     it->item.priority = it->wants == DUE ? flatpq_due_now(it->queue) : it->item.priority;
-    code = look_until(it, it->until);
-    return code == PQ_TIMED_OUT ? look_until(it, AT_ONCE) : code;
+    code = flatpq_step(it, SLEEPING, it->until);
+    return code == PQ_TIMED_OUT ? flatpq_step(it, SLEEPING, AT_ONCE) : code;
 }
 
 /* An item may have become due meanwhile. */

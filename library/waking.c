@@ -94,7 +94,6 @@ void flatpq_end_wait(wait *it) {
     }
     it->number = 0;
     __atomic_fetch_and(&queue->holders, ~number, SEQ);
-    __atomic_store_n(&queue->waiters[__builtin_ctzll(number)].word, AWAKE, SEQ);
     if (!it->is_in) {
         flatpq_give_numbers(queue, number);
         return;

@@ -14,9 +14,9 @@
 // writes archives to a file survives a crash: wait_archived waits until a push is on disk, and journal<Key>::read_from reads the file back.
 //
 // Any number of threads may call a queue itself. A thread gets a member of its own at its first call. If all members are in use it takes
-// over an idle one, or waits for one. A thread that waits for an item mostly keeps its member meanwhile (pq_take), and one that waits for
-// room does. A program that moves members between threads joins them (queue::join). The last argument is the time until which a call may wait
-// (deadline); drain and clear have none.
+// over an idle one, or waits for one. A thread that waits for an item or for room holds no member meanwhile, so any number may wait. A program
+// that moves members between threads joins them (queue::join), and one that waits by such a member keeps it. The last argument is the time
+// until which a call may wait (deadline); drain and clear have none.
 //
 // Queues, members, listeners and journals are moved and never copied, and free what they hold. They may end in any order: a joined member
 // goes on after its queue has ended. If a queue, member or listener was moved from, its calls return code::no_member; batches of nothing

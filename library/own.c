@@ -4,13 +4,12 @@
  * A thread has a record of each of its own members. It alone writes `busy` there, at the begin and the end of each call, and takes no lock.
  * A thread that needs a member takes an idle one over: it writes `taken` in that record, makes a barrier in all threads, and reads `busy`. The
  * owner writes `busy` first, and then reads `taken`. So one of the two sees what the other wrote. An owner that sees it goes on under the lock.
- * A record that listens stays its thread's when it is TAKEN, and its thread's next call makes another of it.
  *
  * While a thread waits for a member all records of the queue are marked WANTED. The mark of a record came before a look at `busy`, which found
  * it set, or the record is new and busy. So each call that ends sees the mark, and hands its member over to the first thread that waits.
  *
- * A record that is TAKEN is never used again. Its thread frees it at one of its next calls, or when it ends. A queue is freed after all of its
- * records were TAKEN. So no record is mistaken for one of a new queue at the same address.
+ * A record that is TAKEN is its thread's alone, and has no member: the thread's next call gets it one. The thread frees it when it makes another, or
+ * ends, unless it listens. A queue is freed after all of its records were TAKEN. So a new queue at the same address finds a record without a member.
  */
 #include "inside.h"
 
@@ -45,13 +44,18 @@ void flatpq_mark(pq_queue *queue, uint32_t taken) {
     }
 }
 
+/* The thread is in a call by it. */
 void flatpq_put_in(pq_queue *queue, own *record, pq_member *member) {
-    own made = { &queue->own, member, 1, queue->is_marked ? WANTED : 0, record->listens, member->place, queue, NULL, queue->owns, &queue->owns };
-    *record = made;
+    record->member = member;
+    record->queue = queue;
+    record->place = member->place;
+    record->next_of_queue = queue->owns;
+    record->at = &queue->owns;
     if (queue->owns != NULL) {
         queue->owns->at = &record->next_of_queue;
     }
     queue->owns = record;
+    __atomic_store_n(&record->taken, queue->is_marked ? WANTED : 0, SEQ);
 }
 
 /* The record is its thread's alone after this: the member that it had. */
@@ -106,41 +110,25 @@ void flatpq_take_back(pq_queue *queue) {
  * The records of a thread.
  */
 
-/* Frees a record that is TAKEN. */
-static void forget(own *forgotten) {
-    own **at = list_of(forgotten->shared);
-    while (*at != forgotten) {
-        at = &(*at)->next;
-    }
-    *at = forgotten->next;
-    if (flatpq_thread.last == forgotten) {
-        flatpq_thread.last = &no_own;
-    }
-    free(forgotten);
-}
-
-static void forget_unless_it_listens(own *it) {
-    if (!it->listens) {
-        forget(it);
-    } else if (flatpq_thread.last == it) {
-        flatpq_thread.last = &no_own;
-    }
-}
-
 static int is_taken(const own *it) {
     return __atomic_load_n(&it->taken, __ATOMIC_ACQUIRE) == TAKEN;
 }
 
+/* Frees records that are TAKEN, and do not listen. */
 static void forget_taken(void) {
     for (int i = 0; i < LISTS; i++) {
-        own *next;
-        for (own *it = flatpq_thread.owns[i]; it != NULL; it = next) {
-            next = it->next;
+        own **at = &flatpq_thread.owns[i];
+        while (*at != NULL) {
+            own *it = *at;
             if (is_taken(it) && !it->listens) {
-                forget(it);
+                *at = it->next;
+                free(it);
+            } else {
+                at = &it->next;
             }
         }
     }
+    flatpq_thread.last = &no_own;
 }
 
 /* Begins a call by a record that another thread wants or took over. 0: it took it over. */
@@ -156,28 +144,23 @@ static int enter(own *it) {
     return flatpq_enter(it, flatpq_special) || enter_under_lock(it);
 }
 
-/* Gives the member of a record back. A function that is called with an item that was left may make calls by other records. The record is not
-   entered, so a queue may be closed while threads end. */
+/* Gives the member of a record back. A function that is called with an item that was left may make calls by other records, and so free this one.
+   The record is not entered, so a queue may be closed while threads end. */
 static void leave(own *it) {
-    pq_queue *queue;
     if (it->listens) {
         pq_member *shared = it->shared;
         pq_unlisten(shared);
         it = find(shared);
     }
-    if (it == NULL) {
-        return;
-    }
     pthread_mutex_lock(&flatpq_members);
-    if (is_taken(it)) {
+    if (it == NULL || is_taken(it)) {
         pthread_mutex_unlock(&flatpq_members);
-        forget(it);
-        return;
+    } else {
+        pq_queue *queue = it->queue;
+        flatpq_release(queue, take_out(it));
+        flatpq_unlock(queue);
     }
-    queue = it->queue;
-    flatpq_release(queue, take_out(it));
-    forget(it);
-    flatpq_unlock(queue);
+    forget_taken();
 }
 
 /* Gives the members of a thread back: 0 if it has none. */
@@ -229,7 +212,8 @@ static void stay_loaded(void) {
 }
 
 /* A record for this thread, whose end gives the member back: the system makes another round of destructors where one sets the key again. */
-static own *new_record(void) {
+static own *new_record(pq_member *shared) {
+    own *made, **list;
     pthread_once(&once, make_key);
     stay_loaded();
     if (!has_key || pthread_setspecific(at_end, &flatpq_thread) != 0) {
@@ -239,42 +223,24 @@ static own *new_record(void) {
         return NULL;
     }
     forget_taken();
-    return aligned_alloc(_Alignof(own), sizeof(own));
-}
-
-/* Gets a member for the thread, whose last record, if there is one, is TAKEN. */
-static COLD pq_code get_own(pq_member *shared, own *taken, uint64_t until, own **mine) {
-    const uint64_t listens = taken != NULL ? taken->listens : 0;
-    own *made;
-    pq_member *member;
-    pq_code code;
-    if (taken != NULL) {
-        forget_unless_it_listens(taken);
+    if ((made = aligned_alloc(_Alignof(own), sizeof(own))) != NULL) {
+        const own empty = { .shared = shared, .taken = TAKEN, .next = *(list = list_of(shared)) };
+        *made = empty;
+        *list = made;
     }
-    if ((made = new_record()) == NULL) {
-        return PQ_NO_MEMORY;
-    }
-    made->listens = listens;
-    code = flatpq_get_member(shared->queue, until, made, &member);
-    if (code != PQ_OK) {
-        free(made);
-        return code == PQ_ALL_JOINED ? PQ_TIMED_OUT : code;
-    }
-    if (listens) {
-        forget(taken);
-    }
-    made->next = *list_of(shared);
-    *list_of(shared) = made;
-    *mine = made;
-    return PQ_OK;
+    return made;
 }
 
 pq_code flatpq_begin_own(pq_member *shared, uint64_t until, own **mine) {
     own *it = find(shared);
-    if (it == NULL || !enter(it)) {
-        pq_code code = get_own(shared, it, until, &it);
+    if (it == NULL && (it = new_record(shared)) == NULL) {
+        return PQ_NO_MEMORY;
+    }
+    if (!enter(it)) {
+        pq_member *member;
+        pq_code code = flatpq_get_member(shared->queue, until, it, &member);
         if (code != PQ_OK) {
-            return code;
+            return code == PQ_ALL_JOINED ? PQ_TIMED_OUT : code;
         }
     }
     flatpq_thread.last = it;
@@ -287,14 +253,12 @@ COLD void flatpq_end_own(own *it) {
     pq_queue *queue;
     pthread_mutex_lock(&flatpq_members);
     if (is_taken(it)) {
-        forget_unless_it_listens(it);
         pthread_mutex_unlock(&flatpq_members);
         return;
     }
     queue = it->queue;
     if (it->taken == WANTED) {
         flatpq_release(queue, take_out(it));
-        forget_unless_it_listens(it);
     }
     flatpq_unlock(queue);
 }

@@ -58,10 +58,10 @@ typedef enum pq_code {
     PQ_EXHAUSTED = 11,    /* the member has made all its requests: 2^56, or 2^24 - 1 if the journal fills */
     PQ_NOT_WRITTEN = 31,  /* a write failed */
     PQ_MEMBERS_LEFT = 40, /* a member was not given back, or is in a call */
-    PQ_ALL_JOINED = 41,   /* as many members are in use as the queue was opened for, or this one is the last awake */
+    PQ_ALL_JOINED = 41,   /* as many members are in use as the queue was opened for, or as many listen as may */
     PQ_NO_MEMBER = 42,    /* the member is NULL, or another copy of the library has opened the queue */
     PQ_NO_ENTRY = 46,     /* the journal has no such entry */
-    PQ_EMPTY = 48,        /* the queue has no item; of a call that listens also: another thread had the lock */
+    PQ_EMPTY = 48,        /* the queue has no item; of a call that listens also: others had the lock, or all members */
     PQ_FORGOTTEN = 49,    /* some of these entries are no longer in memory */
     PQ_NOT_DUE = 50,      /* the priority of the first item is above the bound: the item stays */
     PQ_SHUT = 51,         /* the queue is shut, so it takes no push; or it is shut and empty */
@@ -129,7 +129,7 @@ pq_code pq_shut(pq_queue *queue);
 int pq_is_shut(pq_queue *queue);
 
 /* Closes the queue. *journal gets its journal and the items that are left in it; journal may be NULL. The call takes back the own members
-   of threads that are in no call, and do not listen.
+   of threads that are in no call. PQ_MEMBERS_LEFT also while a thread waits or listens.
    PQ_OK; PQ_MEMBERS_LEFT, PQ_NO_MEMORY: the queue stays open; PQ_CLOSED, PQ_FORKED. */
 PQ_CHECKED pq_code pq_close(pq_queue *queue, pq_journal **journal);
 
@@ -139,9 +139,8 @@ PQ_CHECKED pq_code pq_close(pq_queue *queue, pq_journal **journal);
 void pq_free(pq_queue *queue, void (*left)(void *context, pq_item item), void *context);
 
 /* The calling thread's own member, as a pointer that all threads may share. A thread gets its member at its first call, and gives it back when
-   it ends. If all members are in use, a call takes over one that its thread does not use, or waits for one until its `until`. So more
-   threads than members may call, and wait for an item (pq_take). A thread that waits for room keeps its member. So open a queue with a bound
-   for more members than threads that wait for room. Else the take that would end their wait may itself wait for ever. */
+   it ends. If all members are in use, a call takes over one that its thread does not use, or waits for one until its `until`. A thread that
+   waits for an item or for room, or listens, holds no member meanwhile. So any number of threads may call, and wait. */
 pq_member *pq_own(pq_queue *queue);
 
 /* Gives the calling thread's own member back now, if the thread has one. */
@@ -164,7 +163,7 @@ uint32_t pq_place(pq_member *member);
    PQ_SHUT, PQ_UNARCHIVED, PQ_FULL, PQ_NO_MEMORY. If nothing is there to take, a call that takes is refused for PQ_JOURNAL_FULL alone, or while
    a shut waits for the archive (PQ_UNARCHIVED). */
 
-/* Puts an item in. If the queue has as many items as pq_options allow, the call waits until one goes out, and keeps its member meanwhile.
+/* Puts an item in. If the queue has as many items as pq_options allow, the call waits until one goes out.
    PQ_OK; PQ_FULL: there was no room until then; PQ_SHUT, PQ_NO_MEMORY. */
 PQ_CHECKED pq_code pq_push(pq_member *member, pq_item item, uint64_t until, uint64_t *number);
 
@@ -180,8 +179,7 @@ PQ_CHECKED pq_code pq_peek(pq_member *member, pq_item *item, uint64_t until, uin
 PQ_CHECKED pq_code pq_pop_due(pq_member *member, uint64_t priority, pq_item *item, uint64_t until, uint64_t *number);
 
 /* Waits for an item, and takes the first one out. PQ_OK; PQ_EMPTY: none came until then; PQ_SHUT: the queue is shut and empty. Only PQ_OK has an
-   entry. A thread that waits keeps its member, and at a queue for one member all others wait meanwhile. But of two or more members that are not
-   joined, one stays awake: the thread that would sleep with it waits without a member. */
+   entry. A thread that waits by a joined member keeps that. */
 PQ_CHECKED pq_code pq_take(pq_member *member, pq_item *item, uint64_t until, uint64_t *number);
 
 /* Waits until the first item is due, also in a shut queue, and takes it out. Priorities are times (pq_options); by default those of pq_now.
@@ -208,22 +206,26 @@ PQ_CHECKED pq_code pq_remove(pq_member *member, uint64_t ticket, pq_item *item, 
    queue too. PQ_OK; PQ_GONE, which has an entry too; PQ_NO_TICKETS; PQ_NO_MEMORY: the item stays as it was. */
 PQ_CHECKED pq_code pq_reschedule(pq_member *member, uint64_t ticket, uint64_t priority, uint64_t until, uint64_t *number);
 
-/* For event loops and futures. A thread that listens by pq_own keeps its member. The last that is awake (pq_take) doesn't listen: PQ_ALL_JOINED.
-   A member listens for one thing at a time: a call to listen for another ends that. It may push, pop and peek meanwhile. */
+/* For event loops and futures. A member listens for one thing at a time: a call to listen for another ends that. It may push, pop and peek
+   meanwhile. 32 may listen at once, and up to 58 while few threads wait. The last member of several may not, while all others are joined and wait
+   or listen. A call that may not listen returns PQ_ALL_JOINED.
+   An item wakes one thread in pq_take. If no thread waits there, as many listeners of pq_take_or_listen are notified as there are items that
+   they can take, first come first served. Then one thread in pq_take_due is woken, too, unless one of these wakes up by itself in time. */
 
 /* Takes the first item out if it is due (pq_take_due); else the member listens by `timer`, a timerfd of CLOCK_MONOTONIC that no other member
    has. It is readable once the first item is due, when an earlier one comes, on a shut, or sometimes for nothing. Then call again, while this
-   returns PQ_OK. The program neither sets nor reads it, and closes it after pq_unlisten. The call does not wait for the queue's lock. If another
-   thread has that for long, it returns PQ_EMPTY, and the timer is readable within 0.1 ms. PQ_OK; PQ_NOT_DUE, PQ_EMPTY: wait for the timer; after
-   PQ_NOT_DUE *item is the first item, which stays; PQ_SHUT; PQ_NO_TIMER; or a refusal. */
+   returns PQ_OK. All such timers are readable for an item, which one member gets. The program neither sets nor reads the timer, and closes it
+   after pq_unlisten. The call does not wait for the queue's lock. If others have that, or all members, for long, it returns PQ_EMPTY, and the
+   timer is readable within 0.1 ms. PQ_OK; PQ_NOT_DUE, PQ_EMPTY: wait for the timer; after PQ_NOT_DUE *item is the first item, which stays;
+   PQ_SHUT; PQ_NO_TIMER; or a refusal. */
 PQ_CHECKED pq_code pq_take_due_or_listen(pq_member *member, int timer, pq_item *item, uint64_t *number);
 
 /* Takes the first item out if its priority is at most this one; else the member listens. It does not wait for the queue's lock.
    PQ_OK; PQ_EMPTY: it listens; PQ_NOT_DUE: it listens, and *item is the first item, and stays; PQ_SHUT; or a refusal. After PQ_NOT_DUE call
    again once *item is within the bound: nothing notifies of that. While the member listens, notify(context) is called at most once, after a
-   push, move or shut, or for nothing. Any thread that calls the queue may call it. If another thread has the lock for long, this call does, and
-   returns PQ_EMPTY although items may be there. After notify call again. notify must not wait or call this library. A push notifies one member.
-   So all that listen shall pass the same bound, or the current time. */
+   push, move or shut, or for nothing. Any thread that calls the queue may call it. If others have the lock, or all members, for long, this call does,
+   and returns PQ_EMPTY although items may be there. After notify call again. notify must not wait or call this library. Of a first item that no
+   listener can take yet one is notified, if it is earlier than those which they saw. */
 PQ_CHECKED pq_code pq_take_or_listen(pq_member *member, uint64_t priority, pq_item *item, uint64_t *number,
                                      void (*notify)(void *context), void *context);
 

@@ -11,6 +11,7 @@ enum { MOST_AT_ONCE = 64 };
 /* Items to push, or room for the items that are popped; and how far the batch is. */
 typedef struct batch {
     pq_member *member;
+    own *mine;
     uint32_t kind; /* KIND_PUSHED or KIND_POPPED, and these are its items */
     const pq_item *pushed;
     pq_item *popped;
@@ -68,7 +69,7 @@ static pq_code came_to(batch *it) {
 /* The next item waits for room. */
 static pq_code push_to_room(batch *it) {
     core_answer answer;
-    pq_code code = flatpq_push_to_room(it->member, it->pushed[it->done], it->until, &answer);
+    pq_code code = flatpq_push_to_room(&it->member, &it->mine, it->pushed[it->done], it->until, &answer);
     if (code == PQ_OK) {
         count_done(it, 1, answer.number);
     }
@@ -110,10 +111,10 @@ pq_code pq_push_many(pq_member *member, const pq_item *items, size_t count, uint
     code = flatpq_begin(&member, until, &mine);
     *done = 0;
     if (code == PQ_OK) {
-        batch all = { .member = member, .kind = KIND_PUSHED, .pushed = items, .until = until };
+        batch all = { .member = member, .mine = mine, .kind = KIND_PUSHED, .pushed = items, .until = until };
         code = carry_out_all(&all, count);
         return_done(&all, done, number);
-        flatpq_end(mine);
+        flatpq_end(all.mine);
     }
     return code;
 }

@@ -84,7 +84,7 @@ static pq_code step_answer(pq_member *it, core_answer *answer) {
         watch_answer(answer);
         flatpq_carried_out(it, answer);
     } else if (code == NOT_ANSWERED) {
-        flatpq_wake_after(it, NULL);
+        flatpq_wake_after(it);
     }
     return code;
 }
@@ -184,7 +184,7 @@ INLINE pq_code result(const core_answer *answer, pq_item *item, uint64_t *number
 /* Ends a call that has its answer, or this code instead. A push that found the queue full waits for room first. */
 static pq_code end(call *it, own *mine, pq_code code) {
     if (code == PQ_OK && it->answer.kind == KIND_FULL && it->until != PQ_NOW) {
-        code = flatpq_push_to_room(it->member, it->item, it->until, &it->answer);
+        code = flatpq_push_to_room(&it->member, &mine, it->item, it->until, &it->answer);
     }
     flatpq_end(mine);
     return code == PQ_OK ? result(&it->answer, it->first, it->number) : code;
@@ -215,7 +215,7 @@ _Static_assert(KIND_PUSHED == (int)PQ_PUSH && KIND_POPPED == (int)PQ_POP && KIND
 
 /* Whether the request was carried out, and has the usual answer, and nobody is to be woken. */
 INLINE int is_done(pq_code code, const call *it) {
-    return LIKELY(code == PQ_OK) && LIKELY(__atomic_load_n(&it->member->queue->concerned, __ATOMIC_RELAXED) == 0);
+    return LIKELY(code == PQ_OK) && LIKELY(__atomic_load_n(&it->member->queue->gone, __ATOMIC_RELAXED) == 0);
 }
 
 /* What a call returns whose request is done. */
@@ -328,20 +328,9 @@ static pq_code try_take(void *asked) {
     return code != PQ_OK ? code : LEAVE_OUT(pq_core_try_pop_or_look(&it->member->proved, 1, it->priority, it->answer));
 }
 
-static pq_code try_step(void *asked) {
-    const taking *it = asked;
-    pq_code code = flatpq_before(it->member);
-    return code != PQ_OK ? code : LEAVE_OUT(pq_core_step_take(&it->member->proved, it->priority, it->answer));
-}
-
 pq_code flatpq_take_first(pq_member *member, uint64_t priority, uint64_t until, core_answer *answer) {
     taking it = { member, priority, answer };
     return taken(member, flatpq_try(try_take, &it, member->queue, until), answer);
-}
-
-pq_code flatpq_step_take(pq_member *member, uint64_t priority, uint64_t until, core_answer *answer) {
-    taking it = { member, priority, answer };
-    return taken(member, flatpq_try(try_step, &it, member->queue, until), answer);
 }
 
 void flatpq_return_first(pq_code code, const core_answer *answer, pq_item *item, uint64_t *number) {
@@ -369,11 +358,6 @@ pq_code pq_pop_due(pq_member *it, uint64_t priority, pq_item *item, uint64_t unt
  * Counting the items.
  */
 
-pq_code flatpq_count(pq_member *it, uint64_t *count, uint64_t *peak, uint32_t *owes_wake) {
-    uint64_t unasked = 0;
-    return LEAVE_OUT(pq_core_try_count(&it->proved, count, peak != NULL ? peak : &unasked, owes_wake));
-}
-
 typedef struct sizing {
     pq_member *member;
     uint64_t *size, *peak;
@@ -383,7 +367,11 @@ typedef struct sizing {
 /* A count is made where a shut has to wait for the archive. */
 static pq_code try_size(void *asked) {
     sizing *it = asked;
-    return flatpq_before(it->member) == LOCK_HELD ? LOCK_HELD : flatpq_count(it->member, it->size, it->peak, &it->answer.owes_wake);
+    uint64_t unasked, *peak = it->peak != NULL ? it->peak : &unasked;
+    if (flatpq_before(it->member) == LOCK_HELD) {
+        return LOCK_HELD;
+    }
+    return LEAVE_OUT(pq_core_try_count(&it->member->proved, it->size, peak, &it->answer.owes_wake));
 }
 
 pq_code pq_size(pq_member *member, uint64_t until, uint64_t *size, uint64_t *peak) {

@@ -14,6 +14,8 @@ typedef struct core_inside *core;
    public call returns these codes. */
 #define LOCK_HELD ((pq_code)8)
 #define ANSWERED ((pq_code)14)
+#define ENTERED ((pq_code)15)
+#define WATCHES ((pq_code)16)
 #define NOT_ANSWERED ((pq_code)43)
 
 enum { KIND_PUSHED, KIND_POPPED, KIND_FIRST, KIND_EMPTY, KIND_JOURNAL_FULL, KIND_NO_MEMORY, KIND_SHUT, KIND_UNARCHIVED, KIND_FULL };
@@ -21,7 +23,7 @@ enum { KIND_PUSHED, KIND_POPPED, KIND_FIRST, KIND_EMPTY, KIND_JOURNAL_FULL, KIND
 /* The answer to a request: the number of its journal entry, 0 where it has none, and the item of KIND_POPPED and KIND_FIRST. */
 typedef struct core_answer {
     uint32_t kind;
-    uint32_t owes_wake; /* not 0: the call carried requests out, and threads that wait for an item are to be woken (pq_core_wakes_owed) */
+    uint32_t owes_wake; /* not 0: others are to be woken (pq_core_take_wakes) */
     uint64_t number;
     pq_item item;
 } core_answer;
@@ -82,9 +84,12 @@ pq_code pq_core_try_count(core *member, uint64_t *count, uint64_t *peak, uint32_
 pq_code pq_core_try_push_many(core *member, const pq_item *items, size_t count, core_batch *batch);
 pq_code pq_core_try_pop_many(core *member, uint64_t bound, pq_item *items, size_t room, core_popped *popped);
 pq_code pq_core_archive(core *member, uint64_t archived, core *journal);
-pq_code pq_core_step_take(core *member, uint64_t priority, core_answer *answer);
-pq_code pq_core_end_take(core *member);
-pq_code pq_core_wakes_owed(core *member, uint32_t *count);
+/* Those that wait, by numbers below 64. The next two take the entry of this number out, look, and where there is nothing to take, or no room, enter
+   again: ENTERED, or WATCHES where the thread is to come back by itself once the first item is due, or its alarm to ring then. PQ_OK: it is out. */
+pq_code pq_core_take_or_wait(core *member, uint32_t number, uint64_t priority, uint32_t wants, core_answer *answer);
+pq_code pq_core_push_or_wait(core *member, uint32_t number, uint64_t priority, uint64_t value, uint32_t listens, core_answer *answer);
+pq_code pq_core_leave(core *member, uint64_t numbers);
+uint64_t pq_core_take_wakes(core *member); /* the numbers of those that the calls of this member have woken since */
 
 /* Journals. */
 pq_code pq_core_lines(core *journal, size_t *count);

@@ -7,10 +7,12 @@
  */
 #include "inside.h"
 
+#include <limits.h>
+
 static void wake_awaiting(pq_queue *queue) {
     __atomic_fetch_add(&queue->archives, 1, SEQ);
     if (__atomic_load_n(&queue->staying, SEQ) > 0) {
-        flatpq_wake_each(&queue->archives);
+        flatpq_wake(&queue->archives, INT_MAX);
     }
 }
 
@@ -46,13 +48,6 @@ static pq_code look(pq_queue *queue, uint64_t number, uint64_t until) {
     return flatpq_is_late(until) ? PQ_TIMED_OUT : LOCK_HELD;
 }
 
-/* Changes how many threads the queue's memory stays for. It may be gone after this. */
-void flatpq_count_staying(pq_queue *queue, uint32_t more) {
-    pthread_mutex_lock(&flatpq_members);
-    __atomic_fetch_add(&queue->staying, more, SEQ);
-    flatpq_unlock(queue);
-}
-
 static pq_code sleep_until_archived(pq_queue *queue, uint64_t number, uint64_t until) {
     for (;;) {
         uint32_t seen = __atomic_load_n(&queue->archives, SEQ);
@@ -71,9 +66,9 @@ pq_code pq_wait_archived(pq_queue *queue, uint64_t number, uint64_t until) {
     }
     code = look(queue, number, until);
     if (code == LOCK_HELD) {
-        flatpq_count_staying(queue, 1);
+        flatpq_count(queue, &queue->staying, 1);
         code = sleep_until_archived(queue, number, until);
-        flatpq_count_staying(queue, UINT32_MAX);
+        flatpq_count(queue, &queue->staying, UINT32_MAX);
     }
     return code;
 }

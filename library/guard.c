@@ -7,7 +7,6 @@
 #include "inside.h"
 
 #include <errno.h>
-#include <limits.h>
 #include <linux/futex.h>
 #include <linux/membarrier.h>
 #include <sched.h>
@@ -126,16 +125,8 @@ void flatpq_nap(uint64_t until) {
     }
 }
 
-static void wake(const uint32_t *word, int most) {
+void flatpq_wake(const uint32_t *word, int most) {
     syscall(SYS_futex, word, FUTEX_WAKE | FUTEX_PRIVATE_FLAG, most, NULL, NULL, 0);
-}
-
-void flatpq_wake(const uint32_t *word) {
-    wake(word, 1);
-}
-
-void flatpq_wake_each(const uint32_t *word) {
-    wake(word, INT_MAX);
 }
 
 /* A push releases a byte of this table by the item's value, which stays while the item is moved, and a call that returns the item acquires it.

@@ -16,22 +16,12 @@
 #define LIKELY(holds) ((int)__builtin_expect((holds) != 0, 1))
 #define SEQ __ATOMIC_SEQ_CST
 
-/* A member that waits for an item, or for room: its thread sleeps, or it listens. The lock of the queue's lists guards all but `word`
-   (waiting.c, bounded.c). */
+/* One that waits for an item, or for room, under a number of the queue (waiting.c): a thread that sleeps, or a member that listens. */
 typedef struct waiter {
-    struct waiters *list;          /* the list that it waits in */
-    struct waiter *next, **at;     /* its place there; at is NULL where it is in no list */
-    void (*notify)(void *context); /* NULL of a thread */
+    uint32_t word;                 /* a thread sleeps while it is SLEEPING */
+    void (*notify)(void *context); /* these are written while nobody is notified, and read by who changed LISTENS to NOTIFYING */
     void *context;
-    uint64_t priority; /* up to which it takes an item, where it listens */
-    uint64_t armed;    /* of an alarm: the time for which its timer is set; PQ_FOREVER while it looks, and where the queue is empty */
-    uint32_t is_woken; /* it was taken out of its list to be woken, and has not looked since */
-    uint32_t word;     /* a thread sleeps at it */
 } waiter;
-
-typedef struct waiters {
-    waiter *first, **end;
-} waiters;
 
 /* A member. The one inside a queue stands for each thread's own member, and only its `queue`, and what the queue is, are used. */
 struct pq_member {
@@ -39,23 +29,18 @@ struct pq_member {
     pq_queue *queue;
     uint32_t is_shared : 1; /* it is the one inside a queue */
     uint32_t has_tickets : 1;
-    uint32_t listens;      /* its thread keeps it between calls */
     uint32_t place;
-    uint32_t has_left;     /* its last take_or_listen that looked found an item */
-    uint32_t concern;      /* it listens, and is counted so in `concerned`: for what is left in a shut queue, or for room */
-    uint32_t looks;        /* LOOKS, LOOKS_FOR_ROOM: it listens, and its call still looks: that call does not notify it */
-    uint32_t sleeps_as;    /* it listens, and is counted so in `sleepers` */
-    pq_member *next;       /* of those that are in no use */
-    waiter waits;
+    uint64_t listens; /* it was joined, and listens under this number; 0: it does not. A number is a bit of a mask. */
+    pq_member *next;  /* of those that are in no use */
 } __attribute__((aligned(128)));
 
 /* A thread's record of its own member of a queue (own.c). */
 typedef struct own {
     pq_member *shared; /* what pq_own returns */
     pq_member *member;
-    uint32_t busy;  /* the thread is in a call by the member */
-    uint32_t kept;  /* the member listens, between calls too. Only this thread writes these two. */
+    uint32_t busy;  /* the thread is in a call by the member. Only this thread writes it, and `listens`. */
     uint32_t taken; /* WANTED or TAKEN. It is written under the lock of members. */
+    uint64_t listens; /* it listens under this number. It does so without a member, and its record stays meanwhile. */
     uint32_t place;
     pq_queue *queue;
     struct own *next;               /* of the thread */
@@ -63,15 +48,7 @@ typedef struct own {
 } __attribute__((aligned(64))) own;
 
 enum { WANTED = 1, TAKEN = 2 };
-
-/* A thread that waits for a member (queue.c). */
-typedef struct wanting {
-    struct wanting *next, **at;
-    own *record; /* NULL where it joins */
-    pq_member *got;
-    pq_code code;
-    uint32_t is_served; /* the thread sleeps while this is 0 */
-} wanting;
+enum { KINDS = 6 }; /* of threads that wait (waiting.c) */
 
 /* A queue. What changes together has cache lines of its own. */
 struct pq_queue {
@@ -79,8 +56,7 @@ struct pq_queue {
     core proved;
     uint64_t time_zero, time_unit;
     uint64_t most_items; /* 0: as many as there are */
-    uint32_t concerned;  /* whom it concerns that an item was taken: DRAIN of each that waits for what is left in a shut queue, and PRODUCER of
-                            each that waits, or listens, for room */
+    uint64_t gone;       /* numbers whose entries are to be taken out */
     uint32_t is_shut;    /* SHUT_WAITS, IS_SHUT (shutting.c) */
     uint32_t members; /* how many there may be */
     const pthread_mutex_t *lock; /* of members: that of the copy of the library which opened the queue */
@@ -91,43 +67,25 @@ struct pq_queue {
     uint32_t is_ending; /* a thread frees its memory; the function `left` may call it meanwhile */
     uint32_t is_marked; /* the records of the queue are WANTED */
     uint32_t out;       /* members in use */
-    uint32_t staying;   /* threads for which its memory stays: they wait until an entry is archived, or until they may sleep, shut it, or wake
-                           others */
+    uint32_t staying;   /* threads for which its memory stays: they wait until an entry is archived, or shut it */
+    uint32_t waiting;   /* threads that wait without a member, or listen so; a queue where any does is not closed */
     pq_member *spare;   /* members in no use */
     own *owns;
-    wanting *first, **end;
+    struct wanting *wanted, **wanted_end; /* threads that wait for a member, and where the next one goes */
     void (*left)(void *context, pq_item item);
     void *left_context;
 
-    /* Members that wait for an item, or for room, under the lock `waiting`. */
-    pthread_mutex_t waiting __attribute__((aligned(64)));
-    waiters takers, timers, listeners; /* threads that take any item, threads that take what is due, and members that listen */
-    waiters alarms;                    /* members that listen by a timer (listening.c) */
-    waiters producers, room_listeners; /* threads that wait for room, and members that listen for it */
-    uint32_t producer_on_way;          /* one of these was woken, and has not settled that yet */
-    uint64_t owed;    /* wakes that are owed, the one that is on its way among them */
-    uint32_t on_way;  /* a thread was woken, and has not settled that yet */
-    uint64_t watched; /* until when a thread sleeps that watches for what is due; 0: none does */
-    uint32_t sleepers; /* OWN_SLEEPS or JOINED_SLEEPS of each member that sleeps, and IS_JOINED of each that was joined. This and the next two need no
-                          lock. */
-    uint32_t turns;    /* how often one of those that wait without a member may go on: they sleep at it */
-    uint32_t eager;    /* threads that take any item, and so wait or did so in this call */
-    uint64_t incoming __attribute__((aligned(64))); /* wakes that are owed, and not in `owed` yet. It needs no lock. */
-    uint64_t earliest;    /* an item may be due then, for which alarms are to be rung; PQ_FOREVER: none. It needs no lock. */
-    uint32_t alarm_count; /* of the list above. It needs no lock. */
-    uint32_t room;        /* NONE_SAID, SAID or HEARD: there may be room, for which a producer is to be woken. It needs no lock. */
+    /* Those that wait, without a lock. Numbers in use, and of them those by which a joined member waits, and those whose threads get no member. */
+    uint64_t numbers __attribute__((aligned(64))), holders, stranded;
+    uint32_t unnumbered[KINDS], given[KINDS]; /* threads of each kind that have no number, and at what they sleep */
+    waiter waiters[64];
 
     /* What is archived, without a lock (durable.c). */
     uint64_t archived __attribute__((aligned(64))); /* how many entries */
-    uint32_t archives;                              /* how often that rose: threads sleep at it */
+    uint32_t archives;                              /* how often that rose: threads sleep until it changes */
 };
 
 enum { SHUT_WAITS = 1, IS_SHUT = 2 };
-enum { LOOKS = 1, LOOKS_FOR_ROOM = 2 };
-enum { DRAIN = 1, PRODUCER = 1 << 16 };
-enum { OWN_SLEEPS = 1, JOINED_SLEEPS = 1 << 8, IS_JOINED = 1 << 16 };
-enum { NONE_SAID = 0, SAID = 1, HEARD = 2 };
-
 /* How far apart a thread's calls are: by that a call decides whether it spins (calls.c). Times are nanoseconds. */
 typedef struct pace {
     uint32_t calls;        /* made since it last waited for the lock */
@@ -158,8 +116,7 @@ HIDDEN pq_code flatpq_may_read(void);
 HIDDEN int flatpq_barrier(void);                                             /* in all threads of the process: whether it was made */
 HIDDEN int flatpq_sleep(const uint32_t *word, uint32_t seen, uint64_t until); /* while the word is that: 0; 1: the time has come */
 HIDDEN void flatpq_nap(uint64_t until);
-HIDDEN void flatpq_wake(const uint32_t *word);
-HIDDEN void flatpq_wake_each(const uint32_t *word);
+HIDDEN void flatpq_wake(const uint32_t *word, int most); /* so many of those that sleep there */
 HIDDEN int flatpq_is_late(uint64_t until);
 
 /* What the proved calls do to memory is left out. What a thread did before it pushed an item happens before what another does with it, and
@@ -184,6 +141,7 @@ extern pthread_mutex_t flatpq_members HIDDEN; /* the lock of all queues' members
 HIDDEN void flatpq_unlock(pq_queue *queue);   /* unlocks that; the queue may be gone after this */
 HIDDEN pq_code flatpq_get_member(pq_queue *queue, uint64_t until, own *record, pq_member **member); /* without the lock */
 HIDDEN void flatpq_release(pq_queue *queue, pq_member *member);
+HIDDEN void flatpq_count(pq_queue *queue, uint32_t *count, uint32_t more); /* under the lock. The queue may be gone after this. */
 
 /*
  * own.c: which member a call uses. The first four are called under the lock.
@@ -191,13 +149,10 @@ HIDDEN void flatpq_release(pq_queue *queue, pq_member *member);
 HIDDEN void flatpq_mark(pq_queue *queue, uint32_t taken);
 HIDDEN void flatpq_put_in(pq_queue *queue, own *record, pq_member *member);
 HIDDEN pq_code flatpq_take_over(pq_queue *queue, pq_member **member);
-HIDDEN int flatpq_take_back(pq_queue *queue);
+HIDDEN void flatpq_take_back(pq_queue *queue);
 HIDDEN pq_code flatpq_begin_own(pq_member *shared, uint64_t until, own **mine);
 HIDDEN void flatpq_end_own(own *mine);
-HIDDEN int flatpq_has_own(const pq_member *shared);
-HIDDEN uint32_t flatpq_may_sleep(pq_queue *queue, uint32_t as, int listens); /* counts it so, and returns this; or 0 */
-HIDDEN void flatpq_count_awake(pq_queue *queue, uint32_t as);
-HIDDEN void flatpq_call(pq_queue *queue, const uint32_t *count); /* those that wait without a member, if this counts any */
+HIDDEN own *flatpq_own_of(const pq_member *shared); /* the thread's record, which may be TAKEN; NULL: it has none */
 
 INLINE void flatpq_fence(uint32_t special) {
     if (LIKELY((special & FENCES) == 0)) {
@@ -254,14 +209,6 @@ static inline void flatpq_end(own *mine) {
     }
 }
 
-/* Ends a call that may have changed whether the member listens. */
-static inline void flatpq_end_keeping(own *mine, const pq_member *member) {
-    if (mine != NULL) {
-        __atomic_store_n(&mine->kept, member->listens, __ATOMIC_RELAXED);
-    }
-    flatpq_end(mine);
-}
-
 /*
  * resting.c: how a call rests that finds the lock held.
  */
@@ -303,36 +250,24 @@ INLINE pq_code flatpq_before(pq_member *member) {
  */
 HIDDEN pq_code flatpq_push(pq_member *member, pq_item item, uint64_t until, core_answer *answer); /* it does not wait for room */
 HIDDEN pq_code flatpq_take_first(pq_member *member, uint64_t priority, uint64_t until, core_answer *answer);
-/* The same by a step of a take that waits, which announces the member before it looks. */
-HIDDEN pq_code flatpq_step_take(pq_member *member, uint64_t priority, uint64_t until, core_answer *answer);
-HIDDEN pq_code flatpq_count(pq_member *member, uint64_t *count, uint64_t *peak, uint32_t *owes_wake); /* tries once; peak may be NULL */
 HIDDEN pq_code flatpq_refusal(uint32_t kind); /* what an answer of this kind comes to, which refuses the request */
-HIDDEN pq_code flatpq_looked(pq_member *member, const core_answer *answer); /* what such a look comes to that was so answered */
+HIDDEN pq_code flatpq_looked(pq_member *member, const core_answer *answer); /* what such a look comes to that was so answered; it wakes */
 HIDDEN void flatpq_return_first(pq_code code, const core_answer *answer, pq_item *item, uint64_t *number);
 INLINE pq_code flatpq_polled(pq_code code) { /* what such a look comes to in a call that waits for no item: it doesn't return the end */
     return code == PQ_SHUT ? PQ_EMPTY : code;
 }
 
 /*
- * waking.c: members that wait for an item are woken.
+ * waking.c: those that wait are woken.
  */
 
-/* A waiter's word. A thread sets WAKING under the lock of the lists, and WOKEN without it, once it is done with the waiter. */
-enum { ASLEEP = 0, WOKEN = 1, WAKING = 2, AWAITED = 3 };
+/* A waiter's word. */
+enum { AWAKE = 0, SLEEPING = 1, LISTENS = 2, WOKEN = 3, NOTIFYING = 4, AWAITED = 5 };
 
-HIDDEN void flatpq_lock_lists(pq_queue *queue);
-HIDDEN void flatpq_unlock_lists(pq_queue *queue); /* and wakes the members that are to be woken now */
-HIDDEN void flatpq_put(waiter *it);
-HIDDEN void flatpq_take_out(waiter *it);
-HIDDEN void flatpq_add_incoming(pq_queue *queue);
-HIDDEN void flatpq_owe(pq_queue *queue, uint64_t count);
-HIDDEN void flatpq_wake_owed(pq_member *member);
-HIDDEN void flatpq_wake_after(pq_member *member, const core_answer *answer); /* answer is NULL after a round */
-HIDDEN int flatpq_has_room(pq_member *member);
-HIDDEN void flatpq_say_room(pq_queue *queue);
-HIDDEN void flatpq_pass_on(pq_queue *queue, uint64_t priority);
-HIDDEN void flatpq_wake_all(pq_queue *queue, waiter *but);
-HIDDEN void flatpq_wait_for_waker(waiter *waits);
+HIDDEN void flatpq_deliver(pq_queue *queue, uint64_t wakes); /* these numbers are woken */
+HIDDEN void flatpq_wake_after(pq_member *member);
+HIDDEN int flatpq_claim(waiter *it); /* no thread notifies it from now on. 1: none has */
+HIDDEN void flatpq_hand_on(pq_queue *queue);
 
 /* Copies an item that a proved call has just written, by its two numbers: one load of 16 bytes would wait for both stores. */
 INLINE void flatpq_copy(pq_item *to, const volatile pq_item *from) {
@@ -342,50 +277,55 @@ INLINE void flatpq_copy(pq_item *to, const volatile pq_item *from) {
 
 /* After each proved call that may have carried requests out. */
 INLINE void flatpq_carried_out(pq_member *member, const core_answer *answer) {
-    if (!LIKELY((answer->owes_wake | __atomic_load_n(&member->queue->concerned, __ATOMIC_RELAXED)) == 0)) {
-        flatpq_wake_after(member, answer);
+    if (!LIKELY((answer->owes_wake | __atomic_load_n(&member->queue->gone, __ATOMIC_RELAXED)) == 0)) {
+        flatpq_wake_after(member);
     }
 }
 
 /*
- * waiting.c: a member waits for an item. listening.c: it listens.
+ * waiting.c: a thread waits for an item, or for room. listening.c: it listens.
  */
+enum { ROOM = 0, ANY = 1, DUE = 2, UP_TO = 3, ALARM = 4, ROOM_TO_LISTEN = 5 };
+
 typedef struct wait {
-    pq_member *member;
-    uint64_t until;
-    core_answer *answer;
-    int is_due;    /* it takes only what is due */
-    int is_listed; /* the member is in its list */
-    int is_shut;   /* the queue was shut when it was put there */
-    int was_woken; /* it was woken, and settles that after its next look */
-    int is_over;   /* the time had come after its last look */
-    int has_slept;
-    int is_notified; /* the call began to listen, and was notified meanwhile */
-    uint64_t owed; /* the wakes that were owed before it looks */
+    pq_queue *queue;
+    pq_member *member; /* by which it makes its next step; NULL: the thread has none */
     own *mine;
-    uint32_t sleeps_as; /* it is counted so in `sleepers` */
-    int stays;          /* it is counted in `staying`, and in `eager` where it takes any item */
+    int is_own;
+    uint32_t wants;    /* ANY, .. */
+    pq_item item;      /* which it pushes; or its priority is that up to which it takes */
+    core_answer *answer;
+    uint64_t until;
+    uint64_t number;       /* under which it waits; 0: it has none */
+    int is_in;             /* its entry may be in the list */
+    int watches;           /* it is to come back by itself once the first item is due */
+    uint64_t *listens;     /* where it stands that it listens, */
+    void (*notify)(void *context);
+    void *context;
 } wait;
 
-/* Puts the member into its list, before a step. */
-HIDDEN void flatpq_begin_wait(wait *it);
+INLINE waiter *flatpq_waiter_of(const wait *it) {
+    return &it->queue->waiters[__builtin_ctzll(it->number)];
+}
+INLINE int flatpq_is_over(pq_code code) { /* it waits for nothing more */
+    return code != PQ_EMPTY && code != PQ_NOT_DUE && code != PQ_FULL;
+}
+HIDDEN int flatpq_take_number(wait *it); /* 0: none is free */
+HIDDEN void flatpq_give_numbers(pq_queue *queue, uint64_t numbers);
+HIDDEN pq_code flatpq_begin_wait(wait *it, pq_member *member);
+HIDDEN pq_code flatpq_step(wait *it, uint32_t word, uint64_t until);
+HIDDEN void flatpq_end_wait(wait *it);     /* its entry leaves */
+HIDDEN void flatpq_wait_no_more(wait *it); /* it is counted as waiting no more. Without a member the queue may be gone after this. */
+HIDDEN pq_code flatpq_push_to_room(pq_member **member, own **mine, pq_item item, uint64_t until, core_answer *answer);
 HIDDEN uint64_t flatpq_due_time(const pq_queue *queue, uint64_t priority); /* at which an item of this priority is due */
 HIDDEN uint64_t flatpq_due_now(const pq_queue *queue);                     /* the greatest priority that is due */
-/* Takes the member out of its list, and ends its announcement: whether it was woken since its last look began. */
-HIDDEN int flatpq_end_wait(pq_member *member);
-HIDDEN int flatpq_unlisten(pq_member *member);
-
-/*
- * bounded.c: pushes that found the queue full wait for room.
- */
-HIDDEN pq_code flatpq_push_to_room(pq_member *member, pq_item item, uint64_t until, core_answer *answer);
+HIDDEN int flatpq_unlisten(wait *it); /* 1: it listened, and was not notified */
 
 /*
  * durable.c: threads wait until an entry is archived.
  */
 HIDDEN void flatpq_count_archived(pq_queue *queue, uint64_t archived);
 HIDDEN void flatpq_end_awaiting(pq_queue *queue); /* the queue is closed or freed */
-HIDDEN void flatpq_count_staying(pq_queue *queue, uint32_t more);
 
 /*
  * journal.c

@@ -39,6 +39,9 @@ static pq_code try_archive(void *asked) {
     for (int tried = 0; code == LOCK_HELD && tried < tries; tried++) {
         if (flatpq_before(it->member) != LOCK_HELD) {
             code = LEAVE_OUT(pq_core_archive(&it->member->proved, it->archived, &it->copied));
+            if (code != LOCK_HELD) {
+                flatpq_wake_after(it->member);
+            }
         }
     }
     return code;

@@ -4,13 +4,12 @@
  * A thread has a record of each of its own members. It alone writes `busy` there, at the begin and the end of each call, and takes no lock.
  * A thread that needs a member takes an idle one over: it writes `taken` in that record, makes a barrier in all threads, and reads `busy`. The
  * owner writes `busy` first, and then reads `taken`. So one of the two sees what the other wrote. An owner that sees it goes on under the lock.
- * `kept` stands beside `busy`: the member listens. It changes only while `busy` is set.
  *
  * While a thread waits for a member all records of the queue are marked WANTED. The mark of a record came before a look at `busy`, which found
  * it set, or the record is new and busy. So each call that ends sees the mark, and hands its member over to the first thread that waits.
  *
- * A record that is TAKEN is never used again. Its thread frees it at one of its next calls, or when it ends. A queue is freed after all of its
- * records were TAKEN. So no record is mistaken for one of a new queue at the same address.
+ * A record that is TAKEN is its thread's alone, and has no member: the thread's next call gets it one. The thread frees it when it makes another, or
+ * ends, unless it listens. A queue is freed after all of its records were TAKEN. So a new queue at the same address finds a record without a member.
  */
 #include "inside.h"
 
@@ -45,13 +44,18 @@ void flatpq_mark(pq_queue *queue, uint32_t taken) {
     }
 }
 
+/* The thread is in a call by it. */
 void flatpq_put_in(pq_queue *queue, own *record, pq_member *member) {
-    own made = { &queue->own, member, 1, 0, queue->is_marked ? WANTED : 0, member->place, queue, NULL, queue->owns, &queue->owns };
-    *record = made;
+    record->member = member;
+    record->queue = queue;
+    record->place = member->place;
+    record->next_of_queue = queue->owns;
+    record->at = &queue->owns;
     if (queue->owns != NULL) {
         queue->owns->at = &record->next_of_queue;
     }
     queue->owns = record;
+    __atomic_store_n(&record->taken, queue->is_marked ? WANTED : 0, SEQ);
 }
 
 /* The record is its thread's alone after this: the member that it had. */
@@ -67,7 +71,7 @@ static pq_member *take_out(own *record) {
 
 /* The record is marked, and a barrier was made. */
 static int is_idle(const own *record) {
-    return __atomic_load_n(&record->busy, SEQ) == 0 && __atomic_load_n(&record->kept, SEQ) == 0;
+    return __atomic_load_n(&record->busy, SEQ) == 0;
 }
 
 pq_code flatpq_take_over(pq_queue *queue, pq_member **member) {
@@ -87,55 +91,44 @@ pq_code flatpq_take_over(pq_queue *queue, pq_member **member) {
     return PQ_ALL_JOINED;
 }
 
-/* Takes all idle members over, and gives them back: whether others that listen relied on one of them. Without a barrier it is the thread's own. */
-int flatpq_take_back(pq_queue *queue) {
+/* Takes all idle members over, and gives them back. Without a barrier it is the thread's own. */
+void flatpq_take_back(pq_queue *queue) {
     const own *mine = find(&queue->own);
     own *next;
-    int has_barrier, has_left = 0;
+    int has_barrier;
     flatpq_mark(queue, WANTED);
     has_barrier = flatpq_barrier();
     for (own *it = queue->owns; it != NULL; it = next) {
         next = it->next_of_queue;
         if ((has_barrier || it == mine) && is_idle(it)) {
-            pq_member *member = take_out(it);
-            has_left |= (int)member->has_left;
-            flatpq_release(queue, member);
+            flatpq_release(queue, take_out(it));
         }
     }
-    return has_left;
 }
 
 /*
  * The records of a thread.
  */
 
-/* Frees a record that is TAKEN. */
-static void forget(own *forgotten) {
-    own **at = list_of(forgotten->shared);
-    while (*at != forgotten) {
-        at = &(*at)->next;
-    }
-    *at = forgotten->next;
-    if (flatpq_thread.last == forgotten) {
-        flatpq_thread.last = &no_own;
-    }
-    free(forgotten);
-}
-
 static int is_taken(const own *it) {
     return __atomic_load_n(&it->taken, __ATOMIC_ACQUIRE) == TAKEN;
 }
 
+/* Frees records that are TAKEN, and do not listen. */
 static void forget_taken(void) {
     for (int i = 0; i < LISTS; i++) {
-        own *next;
-        for (own *it = flatpq_thread.owns[i]; it != NULL; it = next) {
-            next = it->next;
-            if (is_taken(it)) {
-                forget(it);
+        own **at = &flatpq_thread.owns[i];
+        while (*at != NULL) {
+            own *it = *at;
+            if (is_taken(it) && !it->listens) {
+                *at = it->next;
+                free(it);
+            } else {
+                at = &it->next;
             }
         }
     }
+    flatpq_thread.last = &no_own;
 }
 
 /* Begins a call by a record that another thread wants or took over. 0: it took it over. */
@@ -144,9 +137,6 @@ static int enter_under_lock(own *it) {
     pthread_mutex_lock(&flatpq_members);
     has_it = !is_taken(it);
     pthread_mutex_unlock(&flatpq_members);
-    if (!has_it) {
-        forget(it);
-    }
     return has_it;
 }
 
@@ -154,27 +144,23 @@ static int enter(own *it) {
     return flatpq_enter(it, flatpq_special) || enter_under_lock(it);
 }
 
-/* Gives the member of a record back. A function that is called with an item that was left may make calls by other records. The record is not
-   entered, so a queue may be closed while threads end. */
+/* Gives the member of a record back. A function that is called with an item that was left may make calls by other records, and so free this one.
+   The record is not entered, so a queue may be closed while threads end. */
 static void leave(own *it) {
-    pq_queue *queue;
-    pq_member *member;
+    if (it->listens) {
+        pq_member *shared = it->shared;
+        pq_unlisten(shared);
+        it = find(shared);
+    }
     pthread_mutex_lock(&flatpq_members);
-    if (is_taken(it)) {
+    if (it == NULL || is_taken(it)) {
         pthread_mutex_unlock(&flatpq_members);
-        forget(it);
-        return;
+    } else {
+        pq_queue *queue = it->queue;
+        flatpq_release(queue, take_out(it));
+        flatpq_unlock(queue);
     }
-    queue = it->queue;
-    member = take_out(it);
-    if (member->has_left || member->listens) {
-        pthread_mutex_unlock(&flatpq_members);
-        flatpq_unlisten(member);
-        pthread_mutex_lock(&flatpq_members);
-    }
-    flatpq_release(queue, member);
-    forget(it);
-    flatpq_unlock(queue);
+    forget_taken();
 }
 
 /* Gives the members of a thread back: 0 if it has none. */
@@ -226,7 +212,8 @@ static void stay_loaded(void) {
 }
 
 /* A record for this thread, whose end gives the member back: the system makes another round of destructors where one sets the key again. */
-static own *new_record(void) {
+static own *new_record(pq_member *shared) {
+    own *made;
     pthread_once(&once, make_key);
     stay_loaded();
     if (!has_key || pthread_setspecific(at_end, &flatpq_thread) != 0) {
@@ -236,30 +223,24 @@ static own *new_record(void) {
         return NULL;
     }
     forget_taken();
-    return aligned_alloc(_Alignof(own), sizeof(own));
-}
-
-/* Gets a member for the thread. */
-static COLD pq_code get_own(pq_member *shared, uint64_t until, own **mine) {
-    own *made = new_record();
-    pq_member *member;
-    pq_code code = made != NULL ? flatpq_get_member(shared->queue, until, made, &member) : PQ_NO_MEMORY;
-    if (code != PQ_OK) {
-        free(made);
-        return code == PQ_ALL_JOINED ? PQ_TIMED_OUT : code;
+    if ((made = aligned_alloc(_Alignof(own), sizeof(own))) != NULL) {
+        const own empty = { .shared = shared, .taken = TAKEN, .next = *list_of(shared) };
+        *made = empty;
+        *list_of(shared) = made;
     }
-    made->next = *list_of(shared);
-    *list_of(shared) = made;
-    *mine = made;
-    return PQ_OK;
+    return made;
 }
 
 pq_code flatpq_begin_own(pq_member *shared, uint64_t until, own **mine) {
     own *it = find(shared);
-    if (it == NULL || !enter(it)) {
-        pq_code code = get_own(shared, until, &it);
+    if (it == NULL && (it = new_record(shared)) == NULL) {
+        return PQ_NO_MEMORY;
+    }
+    if (!enter(it)) {
+        pq_member *member;
+        pq_code code = flatpq_get_member(shared->queue, until, it, &member);
         if (code != PQ_OK) {
-            return code;
+            return code == PQ_ALL_JOINED ? PQ_TIMED_OUT : code;
         }
     }
     flatpq_thread.last = it;
@@ -272,55 +253,14 @@ COLD void flatpq_end_own(own *it) {
     pq_queue *queue;
     pthread_mutex_lock(&flatpq_members);
     if (is_taken(it)) {
-        forget(it);
         pthread_mutex_unlock(&flatpq_members);
         return;
     }
     queue = it->queue;
-    if (it->taken == WANTED && !it->kept) {
+    if (it->taken == WANTED) {
         flatpq_release(queue, take_out(it));
-        forget(it);
     }
     flatpq_unlock(queue);
-}
-
-/*
- * Members that sleep: their threads wait for an item, or they listen. One member stays awake, so that calls which end get it, and of several that
- * are not joined one of these. A thread that waits by a joined member keeps that anyway, and so sleeps as it likes.
- */
-
-static int may_sleep(const pq_queue *queue, uint32_t seen, uint32_t as, int listens) {
-    uint32_t own = seen % JOINED_SLEEPS, asleep = own + seen % IS_JOINED / JOINED_SLEEPS, kept = own + seen / IS_JOINED;
-    if (queue->members == 1 || (as == JOINED_SLEEPS && !listens)) {
-        return 1;
-    }
-    return asleep + 1 < queue->members && (as == JOINED_SLEEPS || own == 0 || kept + 1 < queue->members);
-}
-
-uint32_t flatpq_may_sleep(pq_queue *queue, uint32_t as, int listens) {
-    uint32_t seen = __atomic_load_n(&queue->sleepers, SEQ);
-    while (may_sleep(queue, seen, as, listens)) {
-        if (__atomic_compare_exchange_n(&queue->sleepers, &seen, seen + as, 0, SEQ, SEQ)) {
-            return as;
-        }
-    }
-    return 0;
-}
-
-/* One that waits without a member goes on, and passes this on where it doesn't sleep then. */
-void flatpq_count_awake(pq_queue *queue, uint32_t as) {
-    __atomic_fetch_sub(&queue->sleepers, as, SEQ);
-    if (__atomic_load_n(&queue->staying, SEQ) > 0) {
-        __atomic_fetch_add(&queue->turns, 1, SEQ);
-        flatpq_wake(&queue->turns);
-    }
-}
-
-void flatpq_call(pq_queue *queue, const uint32_t *count) {
-    if (__atomic_load_n(count, SEQ) > 0) {
-        __atomic_fetch_add(&queue->turns, 1, SEQ);
-        flatpq_wake_each(&queue->turns);
-    }
 }
 
 pq_member *pq_own(pq_queue *queue) {
@@ -334,9 +274,8 @@ void pq_leave(pq_queue *queue) {
     }
 }
 
-int flatpq_has_own(const pq_member *shared) {
-    const own *it = find(shared);
-    return it != NULL && !is_taken(it);
+own *flatpq_own_of(const pq_member *shared) {
+    return find(shared);
 }
 
 uint32_t pq_place(pq_member *member) {

@@ -61,11 +61,10 @@ pq_code pq_open(const pq_options *options, pq_queue **queue) {
     made->most_items = asked->most_items;
     made->members = members;
     made->lock = &flatpq_members;
-    made->earliest = PQ_FOREVER;
+    made->wanted_end = &made->wanted;
     made->own.queue = made;
     made->own.is_shared = 1;
     made->own.has_tickets = asked->tickets != 0;
-    pthread_mutex_init(&made->waiting, NULL);
     *queue = made;
     return PQ_OK;
 }
@@ -90,13 +89,12 @@ static void end(pq_queue *queue) {
         queue->spare = member->next;
         free(member);
     }
-    pthread_mutex_destroy(&queue->waiting);
     free(queue);
 }
 
 void flatpq_unlock(pq_queue *queue) {
-    int ends = queue->is_freed && !queue->is_ending && queue->out == 0 && queue->staying == 0;
-    int is_wanted = queue->is_freed || queue->first != NULL;
+    int ends = queue->is_freed && !queue->is_ending && queue->out == 0 && queue->staying == 0 && queue->waiting == 0;
+    int is_wanted = queue->is_freed || queue->wanted != NULL;
     queue->is_ending |= (uint32_t)ends;
     if (!ends && is_wanted != (int)queue->is_marked) {
         flatpq_mark(queue, is_wanted ? WANTED : 0);
@@ -105,6 +103,12 @@ void flatpq_unlock(pq_queue *queue) {
     if (ends) {
         end(queue);
     }
+}
+
+void flatpq_count(pq_queue *queue, uint32_t *count, uint32_t more) {
+    pthread_mutex_lock(&flatpq_members);
+    __atomic_fetch_add(count, more, SEQ);
+    flatpq_unlock(queue);
 }
 
 /*
@@ -155,20 +159,37 @@ static pq_code find_member(pq_queue *queue, pq_member **member) {
     return code == PQ_ALL_JOINED ? flatpq_take_over(queue, member) : code;
 }
 
+/* A thread that waits for a member. */
+typedef struct wanting {
+    struct wanting *next, **at; /* in the order in which they came */
+    own *record;                /* NULL where it joins */
+    pq_member *got;
+    pq_code code;
+    uint32_t is_served; /* the thread sleeps while this is 0 */
+} wanting;
+
+static void begin_wanting(pq_queue *queue, wanting *it) {
+    it->at = queue->wanted_end;
+    *queue->wanted_end = it;
+    queue->wanted_end = &it->next;
+}
+
+static void end_wanting(pq_queue *queue, const wanting *it) {
+    *it->at = it->next;
+    *(it->next != NULL ? &it->next->at : &queue->wanted_end) = it->at;
+}
+
 /* The first thread that waits for a member gets this one, or is refused by this code. It goes on without the lock. */
 static void serve(pq_queue *queue, pq_code code, pq_member *member) {
-    wanting *first = queue->first;
-    queue->first = first->next;
-    if (first->next != NULL) {
-        first->next->at = &queue->first;
-    }
+    wanting *first = queue->wanted;
+    end_wanting(queue, first);
     first->code = code;
     first->got = member;
     if (code == PQ_OK && first->record != NULL) {
         flatpq_put_in(queue, first->record, member);
     }
     __atomic_store_n(&first->is_served, 1, SEQ);
-    flatpq_wake(&first->is_served);
+    flatpq_wake(&first->is_served, 1);
 }
 
 static void give_back(pq_queue *queue, pq_member *member) {
@@ -179,9 +200,9 @@ static void give_back(pq_queue *queue, pq_member *member) {
     count_out(queue, queue->out - 1);
 }
 
-/* A member that does not listen is in no call. The first thread that waits for one gets it. */
+/* The member is in no call. The first thread that waits for one gets it. */
 void flatpq_release(pq_queue *queue, pq_member *member) {
-    if (queue->first != NULL) {
+    if (queue->wanted != NULL) {
         serve(queue, PQ_OK, member);
     } else {
         give_back(queue, member);
@@ -189,33 +210,15 @@ void flatpq_release(pq_queue *queue, pq_member *member) {
 }
 
 static void refuse_all(pq_queue *queue) {
-    while (queue->first != NULL) {
+    while (queue->wanted != NULL) {
         serve(queue, PQ_CLOSED, NULL);
-    }
-}
-
-static void begin_wait(pq_queue *queue, wanting *it) {
-    if (queue->first == NULL) {
-        queue->end = &queue->first;
-    }
-    it->at = queue->end;
-    *queue->end = it;
-    queue->end = &it->next;
-}
-
-static void end_wait(pq_queue *queue, wanting *it) {
-    *it->at = it->next;
-    if (it->next != NULL) {
-        it->next->at = it->at;
-    } else {
-        queue->end = it->at;
     }
 }
 
 /* Waits for a member until then. 1: another thread served this one, and it does not have the lock; the queue may be gone if the code is
    PQ_CLOSED. */
 static int wait_for_member(pq_queue *queue, uint64_t until, wanting *it) {
-    begin_wait(queue, it);
+    begin_wanting(queue, it);
     if (!queue->is_marked) {
         flatpq_mark(queue, WANTED);
     }
@@ -231,17 +234,8 @@ static int wait_for_member(pq_queue *queue, uint64_t until, wanting *it) {
             return 1;
         }
     } while (!flatpq_is_late(until));
-    end_wait(queue, it);
+    end_wanting(queue, it);
     return 0;
-}
-
-/* Without the lock: a joining may have made a round, and the thread that had the member may have relied on its listening. */
-static void take_on(pq_member *member) {
-    flatpq_wake_after(member, NULL);
-    if (member->has_left) {
-        member->has_left = 0;
-        flatpq_owe(member->queue, 1);
-    }
 }
 
 /* Gets a member, for the thread of this record or to be joined. A thread that comes while others wait is served after them. */
@@ -254,7 +248,7 @@ pq_code flatpq_get_member(pq_queue *queue, uint64_t until, own *record, pq_membe
     pthread_mutex_lock(&flatpq_members);
     if (queue->is_closed) {
         it.code = PQ_CLOSED;
-    } else if (queue->first == NULL) {
+    } else if (queue->wanted == NULL) {
         it.code = find_member(queue, &it.got);
     }
     if (it.code == PQ_ALL_JOINED && until != PQ_NOW) {
@@ -268,7 +262,7 @@ pq_code flatpq_get_member(pq_queue *queue, uint64_t until, own *record, pq_membe
     }
     if (it.code == PQ_OK) {
         *member = it.got;
-        take_on(it.got);
+        flatpq_wake_after(it.got); /* without the lock: a joining may have made a round */
     }
     return it.code;
 }
@@ -281,9 +275,6 @@ pq_code pq_join(pq_queue *queue, uint64_t until, pq_member **member) {
     pq_code code;
     *member = NULL;
     code = flatpq_special & FORKED ? PQ_FORKED : flatpq_get_member(queue, until, NULL, member);
-    if (code == PQ_OK) {
-        __atomic_fetch_add(&queue->sleepers, IS_JOINED, SEQ);
-    }
     return code;
 }
 
@@ -297,21 +288,20 @@ void pq_give_back(pq_member *member) {
         pq_leave(queue);
         return;
     }
-    flatpq_unlisten(member);
-    flatpq_count_awake(queue, IS_JOINED);
+    pq_unlisten(member);
     pthread_mutex_lock(&flatpq_members);
     flatpq_release(queue, member);
     flatpq_unlock(queue);
 }
 
 /* Under the lock. */
-static pq_code close_proved(pq_queue *queue, core *journal, int *has_left) {
+static pq_code close_proved(pq_queue *queue, core *journal) {
     pq_code code;
     if (queue->is_closed) {
         return PQ_CLOSED;
     }
-    *has_left = flatpq_take_back(queue);
-    if (queue->out > 0) {
+    flatpq_take_back(queue);
+    if (queue->out > 0 || __atomic_load_n(&queue->waiting, SEQ) > 0) {
         return PQ_MEMBERS_LEFT;
     }
     code = LEAVE_OUT(pq_core_close(&queue->proved, journal));
@@ -326,7 +316,6 @@ static pq_code close_proved(pq_queue *queue, core *journal, int *has_left) {
 pq_code pq_close(pq_queue *queue, pq_journal **journal) {
     pq_journal *made = NULL;
     core closed = NULL;
-    int has_left = 0;
     pq_code code;
     if (journal != NULL) {
         *journal = NULL;
@@ -339,14 +328,8 @@ pq_code pq_close(pq_queue *queue, pq_journal **journal) {
     }
     flatpq_end_shut(queue);
     pthread_mutex_lock(&flatpq_members);
-    code = close_proved(queue, &closed, &has_left);
-    has_left &= code == PQ_MEMBERS_LEFT;
-    __atomic_fetch_add(&queue->staying, (uint32_t)has_left, SEQ);
+    code = close_proved(queue, &closed);
     flatpq_unlock(queue);
-    if (has_left) {
-        flatpq_owe(queue, 1);
-        flatpq_count_staying(queue, UINT32_MAX);
-    }
     if (code != PQ_OK) {
         free(made);
     } else if (journal == NULL) {

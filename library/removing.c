@@ -38,23 +38,15 @@ static pq_code result(const core_answer *answer) {
     }
 }
 
-/* Wakes others. A move, and a removal that finds no item, are as a look: the call that took the last item wakes those who wait for the end. */
-static void carried_out(const deed *it) {
-    core_answer after = it->answer;
-    if (after.kind == KIND_EMPTY || (after.kind == KIND_POPPED && it->moves)) {
-        after.kind = KIND_FIRST;
-    } else if (after.kind == KIND_POPPED && IS_WATCHED) {
-        flatpq_tsan_pop(after.item);
-    }
-    flatpq_carried_out(it->member, &after);
-}
-
 static pq_code do_until(deed *it, uint64_t until) {
     pq_code code = flatpq_try(try_deed, it, it->member->queue, until);
     if (code != PQ_OK) {
         return code;
     }
-    carried_out(it);
+    if (!it->moves && it->answer.kind == KIND_POPPED && IS_WATCHED) {
+        flatpq_tsan_pop(it->answer.item);
+    }
+    flatpq_carried_out(it->member, &it->answer);
     return result(&it->answer);
 }
 

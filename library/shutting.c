@@ -6,8 +6,8 @@
  * that sleep, nor for the lock, nor for an archive, where a queue refuses what is not archived. That queue then refuses each request for the same
  * reason.
  *
- * Why nobody sleeps on. A member that waits puts itself into its list, and then looks, or pushes. pq_shut sets SHUT_WAITS first, and then wakes all
- * that are in the lists. So a member that was in its list before is woken, and tries again; and one that came later finds the shut before it looks.
+ * Why nobody sleeps on. One that waits sets its word, and then makes a step. pq_shut sets SHUT_WAITS first, and then wakes all whose words are set.
+ * So one that set it before tries again, and one that sets it later finds the shut before its step.
  */
 #include "inside.h"
 
@@ -20,7 +20,7 @@ COLD pq_code flatpq_shut_first(pq_member *member) {
     if (answer.kind != KIND_UNARCHIVED) {
         __atomic_store_n(&member->queue->is_shut, IS_SHUT, SEQ);
     }
-    flatpq_wake_after(member, NULL);
+    flatpq_wake_after(member);
     return answer.kind != KIND_UNARCHIVED ? PQ_OK : PQ_UNARCHIVED;
 }
 
@@ -52,8 +52,8 @@ pq_code pq_shut(pq_queue *queue) {
     if (code == PQ_OK) {
         __atomic_compare_exchange_n(&queue->is_shut, &is_open, SHUT_WAITS, 0, SEQ, SEQ);
         flatpq_end_shut(queue);
-        flatpq_wake_all(queue, NULL);
-        flatpq_count_staying(queue, UINT32_MAX);
+        flatpq_deliver(queue, __atomic_load_n(&queue->numbers, SEQ));
+        flatpq_count(queue, &queue->staying, UINT32_MAX);
     }
     return code;
 }

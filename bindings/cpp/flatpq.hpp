@@ -14,9 +14,9 @@
 // writes archives to a file survives a crash: wait_archived waits until a push is on disk, and journal<Key>::read_from reads the file back.
 //
 // Any number of threads may call a queue itself. A thread gets a member of its own at its first call. If all members are in use it takes
-// over an idle one, or waits for one. A thread that waits for an item mostly keeps its member meanwhile (pq_take), and one that waits for
-// room does. A program that moves members between threads joins them (queue::join). The last argument is the time until which a call may wait
-// (deadline); drain and clear have none.
+// over an idle one, or waits for one. A thread that waits for an item or for room holds no member meanwhile, so any number may wait. A program
+// that moves members between threads joins them (queue::join), and one that waits by such a member keeps it. The last argument is the time
+// until which a call may wait (deadline); drain and clear have none.
 //
 // Queues, members, listeners and journals are moved and never copied, and free what they hold. They may end in any order: a joined member
 // goes on after its queue has ended. If a queue, member or listener was moved from, its calls return code::no_member; batches of nothing
@@ -150,7 +150,7 @@ public:
     }
 
     /// Waits for an item, and takes the first one out. code::empty: none came until then; code::timed_out; code::shut: it is shut and empty. By the
-    /// queue itself a thread waits without a member if the others' wait too, so any number of threads may.
+    /// queue itself a thread that waits holds no member, so any number of threads may wait.
     found take(deadline until = {}) noexcept { return got<pq_take>(until); }
 
     /// The same once the first item is due: it waits for that in a shut queue too, and sleeps as a take does. Keys are times. code::not_due:
@@ -243,7 +243,8 @@ public:
 
     /// Takes the first item out, or the first one whose key is at most this one. Else the member listens: code::empty, or code::not_due with
     /// found::first(), which stays. It never waits. notify() is called at most once then, in any thread that calls the queue, or in this call. It
-    /// must not throw, wait or call the library, and has to live until it was called or the member listens no more.
+    /// must not throw, wait or call the library, and has to live until it was called or the member listens no more. code::all_joined: as many
+    /// listen as may (flatpq.h).
     template <class Notify> found take_or_listen(Notify &notify) noexcept { return listened(UINT64_MAX, notify); }
     template <class Notify> found take_or_listen(const key &bound, Notify &notify) noexcept {
         return listened(key_order<key>::number(bound), notify);
@@ -416,9 +417,9 @@ public:
     using found = typename detail::calls<Items>::found;
 
     /// Takes the first item out, or the first one whose key is at most this one. Call it when the descriptor is readable, until it returns
-    /// code::empty, or code::not_due with found::first(), which stays. The descriptor is then readable after the next push, move or shut, or at
-    /// once if another thread had the lock for long. After code::not_due call it again once first() is within the bound. It never waits. If
-    /// it returns code::shut or a refusal the descriptor stays readable.
+    /// code::empty, or code::not_due with found::first(), which stays. The descriptor is then readable once an item comes that may be for it, or
+    /// the queue is shut, or at once if other threads had the lock for long. After code::not_due call it again once first() is within the bound.
+    /// It never waits. If it returns code::shut or a refusal the descriptor stays readable.
     found take_or_listen() noexcept { return taken(UINT64_MAX); }
     found take_or_listen(const key &bound) noexcept { return taken(key_order<key>::number(bound)); }
     template <class Number, detail::if_signed_for<key, Number> = 0> void take_or_listen(Number) = delete; // write 5u for 5

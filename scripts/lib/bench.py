@@ -121,7 +121,7 @@ def words(given):
     it.add_argument("--thinks", type=int, nargs="+", default=bench_light.THINKS, metavar="NS", help="think times, in nanoseconds")
     it.add_argument("--milliseconds", type=int, default=60, metavar="MS", help="of a run of light (60), but 5 for each thread at least")
     it.add_argument("--items", type=int, nargs="+", default=bench_hold.ITEMS, metavar="N", help="how many items hold has")
-    it.add_argument("--operations", type=int, default=1000000, metavar="N", help="of a run of hold, and so of services (1000000)")
+    it.add_argument("--operations", type=int, default=1000000, metavar="N", help="of a run of hold, and in proportion of services (1000000)")
     it.add_argument("--library", metavar="FILE", help="the archive")
     it.add_argument("--program", metavar="FILE", help="queue_bench, as it was proved and built; else it is where that is not done")
     it.add_argument("--csv", metavar="FILE", help="where the line of each run is written, as its program prints it")

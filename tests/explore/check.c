@@ -5,6 +5,7 @@
 
 #include <stdlib.h>
 
+enum { MOST_NUMBERS = 64 };
 static const uint64_t us = 1000;
 
 pq_queue *queue;
@@ -29,6 +30,7 @@ void check_begin(pq_options options, int is_observed) {
     if (queue == NULL || (is_observed && pq_join(queue, PQ_NOW, &observer) != PQ_OK)) {
         fail("no queue");
     }
+    queue->numbers = numbers_at_first;
 }
 
 void check_call_begins(enum call call, uint64_t limit, uint64_t number) {
@@ -106,34 +108,19 @@ int is_journal_full(void) {
     return observe(&it) && it.first.kind == KIND_JOURNAL_FULL;
 }
 
-/* One member stays awake, if there are several. */
-static void check_listeners(void) {
-    uint32_t count = 0;
-    for (own *it = queue->owns; it != NULL; it = it->next_of_queue) {
-        count += it->member->listens != 0;
-    }
-    for (int i = 0; i < fiber_count; i++) {
-        count += used[i] != pq_own(queue) && used[i]->listens != 0;
-    }
-    if (count == queue->members && count > 1) {
-        fail("all %u members listen", count);
-    }
-}
-
 static void check_members(void) {
     if (ending == FREED) {
         return;
     }
-    check_listeners();
-    if (queue->first == NULL) {
+    if (queue->wanted == NULL) {
         return;
     }
     if (queue->is_closed) {
         fail("the queue is closed, and a thread waits for a member");
     }
-    for (own *it = queue->owns; it != NULL && !refuses_barriers; it = it->next_of_queue) {
-        if (it->busy == 0 && it->kept == 0 && it->taken != TAKEN) {
-            fail("a member is idle, and a thread waits for one");
+    for (own *it = queue->owns; it != NULL; it = it->next_of_queue) {
+        if (it->busy || !refuses_barriers) {
+            fail("a member is idle, or its thread sleeps, and a thread waits for one");
         }
     }
 }
@@ -184,6 +171,19 @@ static void check_alarm(int which, const content *it) {
     }
 }
 
+/* A thread that sleeps under its number while a shut waits was not woken for that. */
+static void check_shut_waits(void) {
+    if (ending != STANDS || queue->is_shut != SHUT_WAITS || waits_for_archive) {
+        return;
+    }
+    for (int i = 0; i < fiber_count; i++) {
+        const waiter *at = fibers[i].at;
+        if (fibers[i].state == ON_WORD && at >= queue->waiters && at < queue->waiters + MOST_NUMBERS) {
+            fail("a shut waits, and thread %d sleeps", i);
+        }
+    }
+}
+
 static void check_awaiting(int which) {
     const fiber *it = &fibers[which];
     if (it->call == AWAITS && it->state == ON_WORD && (ending == FREED || queue->is_closed || queue->archived >= it->number)) {
@@ -199,6 +199,7 @@ void check_settled(void) {
         }
         check_awaiting(i);
     }
+    check_shut_waits();
     check_members();
     if (played.wraps != NULL) {
         played.wraps->settles();
@@ -249,6 +250,14 @@ static void free_queue(void) {
     descriptors_end();
 }
 
+static uint32_t waiting_without_a_number(void) {
+    uint32_t count = 0;
+    for (int i = 0; i < KINDS; i++) {
+        count += queue->unnumbered[i];
+    }
+    return count;
+}
+
 void check_end(void) {
     const int is_full = is_journal_full();
     pq_journal *journal;
@@ -261,11 +270,11 @@ void check_end(void) {
         free_queue();
         return;
     }
-    if (queue->concerned != 0 || queue->alarm_count != 0 || queue->staying != 0 || queue->first != NULL || queue->takers.first != NULL
-        || queue->timers.first != NULL || queue->listeners.first != NULL || queue->alarms.first != NULL || queue->producers.first != NULL
-        || queue->room_listeners.first != NULL) {
-        fail("threads have ended, and something of them is left in the queue: concerned %u, alarms %u, staying %u", queue->concerned,
-             queue->alarm_count, queue->staying);
+    /* A thread that could not get a member leaves its entry to others. */
+    if ((queue->numbers & ~queue->gone) != numbers_at_first || queue->waiting != 0 || queue->staying != 0 || queue->wanted != NULL
+        || (queue->holders | queue->stranded | waiting_without_a_number()) != 0) {
+        fail("threads have ended, and something of them is left in the queue: numbers %llx, gone %llx, waiting %u, staying %u",
+             (unsigned long long)queue->numbers, (unsigned long long)queue->gone, queue->waiting, queue->staying);
     }
     code = pq_close(queue, &journal);
     if (code != PQ_OK) {

@@ -24,6 +24,7 @@ typedef struct fiber {
     uint64_t limit;  /* the deadline of its call */
     uint64_t number; /* the entry of AWAITS; the bound of LISTENS_FOR */
     uint64_t calls;  /* that it has begun */
+    uint64_t slept;  /* which of all sleeps its last one was */
     uint64_t begun;  /* when its call began, as check.c counts */
     const void *at;  /* the mutex, thread or word for which it waits */
     int priority;    /* of a random schedule */
@@ -53,6 +54,7 @@ int is_asleep(const fiber *it);
 int is_ready(const fiber *it);
 void pass_time(uint64_t to);
 void block(enum state state, const void *at, uint64_t until);
+void wake_first(const void *word, uint32_t most); /* so many of those that sleep there, who slept first */
 void execute(void);
 void print_trace(void);
 
@@ -140,6 +142,7 @@ void check_begin(pq_options options, int is_observed);
 void check_settled(void);
 void check_end(void);
 void check_shut_at_end(void);
+extern uint64_t numbers_at_first; /* that are in use */
 int is_journal_full(void);
 void end_observing(void);
 void journal_begin(void);

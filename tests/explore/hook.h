@@ -23,7 +23,7 @@
         seen_now;                                              \
     })
 /* Of the relaxed stores those of a record's owner are delayed, which a barrier is to order (own.c). */
-#define IS_OF_OWNER(text) (__builtin_strstr(text, "busy") != NULL || __builtin_strstr(text, "kept") != NULL)
+#define IS_OF_OWNER(text) (__builtin_strstr(text, "busy") != NULL)
 #define CHOICE(what, at, access) scheduler_choice(what, (const void *)(at), access, __FILE__, __LINE__)
 /* A step that leaves the word as it is reads it alone. */
 #define STEP(at, changes) (system_drain(), scheduler_step((const void *)(at), (changes) ? WRITES : READS))
@@ -48,6 +48,8 @@
     })
 #define __atomic_fetch_add(p, v, o) (POINT("add " #p, p, WRITES), system_drain(), __atomic_fetch_add(p, v, o))
 #define __atomic_fetch_sub(p, v, o) (POINT("sub " #p, p, WRITES), system_drain(), __atomic_fetch_sub(p, v, o))
+#define __atomic_fetch_or(p, v, o) (POINT("or " #p, p, WRITES), system_drain(), __atomic_fetch_or(p, v, o))
+#define __atomic_fetch_and(p, v, o) (POINT("and " #p, p, WRITES), system_drain(), __atomic_fetch_and(p, v, o))
 #define __atomic_compare_exchange_n(p, e, v, w, s, f) \
     (CHOICE("compare " #p, p, WRITES), STEP(p, *(p) == *(e)), __atomic_compare_exchange_n(p, e, v, w, s, f))
 #define __atomic_thread_fence(o) (POINT("fence", NULL, NOTHING), system_drain(), __atomic_thread_fence(o))
@@ -65,13 +67,16 @@
 
 /* A proved call is one step. Where a scenario holds the lock, others may find it held before that step and after it. */
 #define FIRST(first, ...) first
-#define TRIES(call, ...) (CHOICE(#call, &proved_core, WRITES), proved_begins(FIRST(__VA_ARGS__), 1) ? proved_ends(call) : LOCK_HELD)
+#define TRIES_TO(ends, call, ...) (CHOICE(#call, &proved_core, WRITES), proved_begins(FIRST(__VA_ARGS__), 1) ? ends(call) : LOCK_HELD)
+#define TRIES(...) TRIES_TO(proved_ends, __VA_ARGS__)
 #define pq_core_try_push(...) TRIES(pq_core_try_push(__VA_ARGS__), __VA_ARGS__)
 #define pq_core_try_pop(...) TRIES(pq_core_try_pop(__VA_ARGS__), __VA_ARGS__)
 #define pq_core_try_peek(...) TRIES(pq_core_try_peek(__VA_ARGS__), __VA_ARGS__)
 #define pq_core_post(m, r, p, v) (POINT("pq_core_post", &proved_core, WRITES), proved_post(m, r, p, v))
 #define pq_core_step_answer(m, a) (CHOICE("pq_core_step_answer", &proved_core, WRITES), proved_answer(m, a))
-#define pq_core_step_take(...) TRIES(pq_core_step_take(__VA_ARGS__), __VA_ARGS__)
+#define pq_core_take_or_wait(...) TRIES(pq_core_take_or_wait(__VA_ARGS__), __VA_ARGS__)
+#define pq_core_push_or_wait(...) TRIES(pq_core_push_or_wait(__VA_ARGS__), __VA_ARGS__)
+#define pq_core_leave(...) TRIES_TO(proved_ends_alone, pq_core_leave(__VA_ARGS__), __VA_ARGS__)
 #define pq_core_try_pop_or_look(...) TRIES(pq_core_try_pop_or_look(__VA_ARGS__), __VA_ARGS__)
 #define pq_core_try_remove(...) TRIES(pq_core_try_remove(__VA_ARGS__), __VA_ARGS__)
 #define pq_core_try_reschedule(...) TRIES(pq_core_try_reschedule(__VA_ARGS__), __VA_ARGS__)
@@ -80,7 +85,7 @@
 #define pq_core_try_push_many(...) TRIES(pq_core_try_push_many(__VA_ARGS__), __VA_ARGS__)
 #define pq_core_try_pop_many(...) TRIES(pq_core_try_pop_many(__VA_ARGS__), __VA_ARGS__)
 #define pq_core_archive(...) TRIES(pq_core_archive(__VA_ARGS__), __VA_ARGS__)
-#define pq_core_end_take(m) (POINT("pq_core_end_take", &proved_core, WRITES), proved_begins(m, 0), pq_core_end_take(m))
-#define pq_core_wakes_owed(m, c) (CHOICE("pq_core_wakes_owed", &proved_core, WRITES), proved_begins(m, 0), proved_claim(m, c))
+/* Only this thread reads and writes its member's mask. */
+#define pq_core_take_wakes(m) (proved_begins(m, 0), pq_core_take_wakes(m))
 
 #endif

@@ -124,6 +124,15 @@ static void listen_surely(int which, const uint64_t *numbers) {
     check_call_begins(NO_CALL, PQ_FOREVER, 0);
 }
 
+/* Of several members that are joined the last that does not wait. */
+static void listen_last(int which, const uint64_t *numbers) {
+    pq_item first = { 0, 0 };
+    if (begin_listening(which, numbers[0], &first) != PQ_ALL_JOINED) {
+        fail("the last member listens");
+    }
+    check_call_begins(NO_CALL, PQ_FOREVER, 0);
+}
+
 /* Listens no more, unless the call found the lock held for long, and so notified the member itself. */
 static void listen_held(int which, const uint64_t *numbers) {
     listen_once(which, numbers);
@@ -210,6 +219,7 @@ const word listener_words[] = {
     { "listen-due", listen_due },
     { "listen-once", listen_once },
     { "listen-surely", listen_surely },
+    { "listen-last", listen_last },
     { "listen-held", listen_held },
     { "listen-room", push_until },
     { "listen-room-once", push_once },

@@ -129,6 +129,9 @@ static pq_code close_once(void) {
         ending = CLOSED;
         pq_journal_free(journal);
     }
+    if (code == PQ_OK && (queue->numbers & ~queue->gone) != numbers_at_first) {
+        fail("the queue is closed, and a thread waits or listens");
+    }
     if (code == PQ_OK && me->is_after_shut && queue->is_shut != IS_SHUT) {
         fail("a shut returned, and a close that began after that did not make it");
     }

@@ -28,8 +28,8 @@ int system_set(const void *value);
 extern const char proved_core; /* stands for all that a proved call reads and writes */
 int proved_begins(const void *handle, int may_hold); /* 0: another thread holds the queue's lock */
 pq_code proved_ends(pq_code code);
+pq_code proved_ends_alone(pq_code code); /* it carries out nothing that was posted */
 pq_code proved_post(core *member, uint32_t request, uint64_t priority, uint64_t value);
 pq_code proved_answer(core *member, core_answer *answer);
-pq_code proved_claim(core *member, uint32_t *count);
 
 #endif

@@ -133,7 +133,11 @@ static pq_code ends(pq_code code, int carries_out) {
 
 /* A step that has an answer has carried out what was posted before it, and so has one that found the end. */
 pq_code proved_ends(pq_code code) {
-    return ends(code, code == PQ_OK || code == ANSWERED || code == PQ_SHUT);
+    return ends(code, code == PQ_OK || code == ANSWERED || code == PQ_SHUT || code == ENTERED || code == WATCHES);
+}
+
+pq_code proved_ends_alone(pq_code code) {
+    return ends(code, 0);
 }
 
 /* The thread has posted its request, and others go on until the time that its word says. */
@@ -176,19 +180,4 @@ pq_code proved_answer(core *member, core_answer *answer) {
         forget_post(member);
     }
     return ends(code, code == NOT_ANSWERED);
-}
-
-/* The thread that holds the lock counts the wakes of those that it has answered before it frees that. A claim of none changes nothing. */
-pq_code proved_claim(core *member, uint32_t *count) {
-    const int is_early = has_answered;
-    pq_code code = PQ_OK;
-    *count = 0;
-    if (!is_early) {
-        code = pq_core_wakes_owed(member, count);
-    }
-    scheduler_step(&proved_core, *count > 0 ? WRITES : READS);
-    if (is_early && played.answers_early) {
-        block(NAPS, NULL, now + 2);
-    }
-    return code;
 }

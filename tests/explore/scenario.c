@@ -5,7 +5,7 @@
  *
  * Of the queue: members=N (joined ones, one a thread where it is left out), own=N (threads use their own members, of so many), tickets, bound=N,
  * entries=N (of its journal, which fills, with 48 where it is left out), forgets or refuses (older entries, of 16), item=PRIORITY (it is there, and
- * `remove` and `move` mean the first), used=N (so many entries are there too), held (the lock is held around each proved call), early (and a thread
+ * `remove` and `move` mean the first), numbers=N (so many numbers of listeners, and of threads beside those of each kind), used=N (so many entries are there too), held (the lock is held around each proved call), early (and a thread
  * finds its answer before the one that answered it counts the wakes for that), unobserved (the scenario ends the queue), no-barriers, no-keys (the
  * system refuses them), fences; cpp or rust (that wrapper opens it, its words come before those here, and calls in C are by threads' own members).
  * The tables of requests.c, listeners.c and members.c have the words of threads. A time is in us or ms from the beginning. A deadline may be
@@ -19,6 +19,7 @@
 enum { MOST_TEXT = 200 };
 
 scenario played;
+uint64_t numbers_at_first;
 
 static uint64_t time_or_number(const char *text) {
     char *unit;
@@ -74,6 +75,9 @@ static void read_number(opening *it, const char *name, uint64_t number) {
         it->own = (uint32_t)number;
     } else if (strcmp(name, "entries") == 0) {
         it->options.entries = (uint32_t)number;
+    } else if (strcmp(name, "numbers") == 0) {
+        const uint64_t free = ((uint64_t)1 << number) - 1;
+        numbers_at_first = (UINT64_MAX >> KINDS) & ~(free | free << 32);
     } else if (strcmp(name, "used") == 0) {
         it->used = number;
     } else if (strcmp(name, "bound") == 0) {

@@ -30,6 +30,7 @@ static struct step {
     uint64_t now;
 } steps[MOST_STEPS];
 static int step_count;
+static uint64_t sleep_count; /* how many times threads have slept */
 
 /*
  * Failures.
@@ -216,6 +217,7 @@ void block(enum state state, const void *at, uint64_t until) {
         fail("nobody can go on, and the library waits");
     }
     mine->calls += state == ON_WORD; /* a thread that sleeps may give its member up, and go on by another */
+    mine->slept = ++sleep_count;
     if (until != PQ_FOREVER) {
         sleep_before_others(until);
     }
@@ -226,15 +228,30 @@ void block(enum state state, const void *at, uint64_t until) {
     mine->at = NULL;
 }
 
-void wake_word(const void *word) {
+/* Of those that sleep at this word the one that has slept longest; NULL: none does. */
+static fiber *first_asleep(const void *word) {
+    fiber *first = NULL;
     for (int i = 0; i < fiber_count; i++) {
-        if (fibers[i].state == ON_WORD && fibers[i].at == word) {
-            fibers[i].state = READY;
-            if (me != NULL) {
-                races_enable(i, index_of(me));
-            }
+        fiber *it = &fibers[i];
+        if (it->state == ON_WORD && it->at == word && (first == NULL || it->slept < first->slept)) {
+            first = it;
         }
     }
+    return first;
+}
+
+void wake_first(const void *word, uint32_t most) {
+    fiber *it;
+    while (most-- > 0 && (it = first_asleep(word)) != NULL) {
+        it->state = READY;
+        if (me != NULL) {
+            races_enable(index_of(it), index_of(me));
+        }
+    }
+}
+
+void wake_word(const void *word) {
+    wake_first(word, MOST_FIBERS);
 }
 
 /* Whether this time is to come. It is a step that reads the time. */

@@ -173,7 +173,7 @@ static void futex(const char *file, int line, uint32_t *word, int what, uint32_t
     if (command == FUTEX_WAKE) {
         scheduler_point("wake", word, WRITES, file, line);
         system_drain();
-        wake_word(word);
+        wake_first(word, value);
     } else if (command == FUTEX_WAIT) {
         scheduler_point("nap", &now, READS, file, line);
         system_drain();

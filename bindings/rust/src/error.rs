@@ -38,7 +38,7 @@ errors! {
     Exhausted = 11,
     /// A member was not given back, or is in a call.
     MembersLeft = 40,
-    /// As many members are in use as the queue was opened for, or a call would listen by the last one that is awake.
+    /// As many members are in use as the queue was opened for, or as many listen as may.
     AllJoined = 41,
     /// Some of these journal entries are no longer in memory.
     Forgotten = 49,

@@ -75,9 +75,9 @@ unsafe extern "C" fn notified(slot: *mut c_void) {
 impl<K: Key, T: Send> TaskMember<K, T> {
     /// Waits for a payload by a future, and takes the first one out, with its key.
     ///
-    /// A push wakes one thread in a `take`. If none sleeps there, it wakes one that waits for what is due, and one that listens, as a future
-    /// does. The future is cancel-safe: dropped when it was woken, it wakes another, and no payload is lost with it. A poll that finds none
-    /// leaves no journal entry.
+    /// A push wakes one thread in a `take`. If no thread waits there, it wakes as many futures and other listeners as there are payloads, first
+    /// come first served. The future is cancel-safe: dropped when it was woken, it wakes another, and no payload is lost with it. A poll that finds
+    /// none leaves no journal entry.
     ///
     /// Wakers run after the call of the library that wakes, in the thread that pushes. If that waits in a call, or pushes by the library for C,
     /// a thread of this crate runs them. The first poll starts it. So they may call the queue. If a waker panics, the call goes
@@ -85,8 +85,8 @@ impl<K: Key, T: Send> TaskMember<K, T> {
     ///
     /// # Errors
     ///
-    /// Those of [`TaskMember::take`], [`Error::NoMemory`] if that thread can't start, and [`Error::AllJoined`] if the members of all others
-    /// wait for payloads: calls need the last one.
+    /// Those of [`TaskMember::take`], and [`Error::NoMemory`] if that thread can't start. [`Error::AllJoined`] if as many listen as may: 32, and up
+    /// to 58 while few threads wait. So too if all other members are joined and wait, as calls need the last one.
     ///
     /// ```
     /// use std::future::Future;
@@ -176,8 +176,8 @@ impl<K: Key, T: Send> TaskMember<K, T> {
         taken.map_or(Poll::Pending, |it| Poll::Ready(Ok(it)))
     }
 
-    /// Takes the first payload out if its key is at most this one. Else the next push, or a shut, wakes the context's task. After
-    /// [`Due::Later`] the program calls it again once that key is within its bound: nothing wakes for that.
+    /// Takes the first payload out if its key is at most this one. Else the context's task is woken once a payload comes that may be for it, or
+    /// the queue is shut. After [`Due::Later`] the program calls it again once that key is within its bound: nothing wakes for that.
     ///
     /// # Errors
     ///
@@ -245,12 +245,12 @@ impl<K: Key, T: Send> TaskMember<K, T> {
 
 impl<K: Key, T: Send> TaskQueue<K, T> {
     /// Waits for a payload by a future, as [`TaskMember::take_async`] does. A future that is polled joins, and gives that member back when
-    /// it is ready or dropped. If none is left it waits without one, until another such future gives its own back: so any number may wait.
+    /// it is ready or dropped. If it gets none it waits without one, until another such future gives its own back: so any number may wait.
     /// A task that takes in a loop joins once, and awaits by that member: this takes half the time.
     ///
     /// # Errors
     ///
-    /// Those of [`TaskMember::take_async`], but [`Error::AllJoined`] only if no member is left, and no other such future has one.
+    /// Those of [`TaskMember::take_async`], but [`Error::AllJoined`] only if no other such future has a member.
     pub fn take_async(&self) -> Take<'_, K, T> {
         Take(Taker::by_queue(self, &self.shared.lines.any))
     }

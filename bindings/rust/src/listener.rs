@@ -86,8 +86,8 @@ impl<K: Key, T: Send> Listener<K, T> {
     ///
     /// # Errors
     ///
-    /// [`Error::Shut`] if the queue is shut and empty. [`Error::AllJoined`] if the members of all others wait for payloads: calls need the last
-    /// one. Those of [each call](TaskQueue#errors).
+    /// [`Error::Shut`] if the queue is shut and empty. [`Error::AllJoined`] as of [`TaskMember::take_async`]. Those of [each
+    /// call](TaskQueue#errors).
     pub fn try_take(&mut self) -> Result<Option<(K, T)>, Error> {
         let found = self.found(u64::MAX)?;
         Ok(self.member.shared.keyed(found).got())

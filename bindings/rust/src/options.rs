@@ -107,7 +107,7 @@ impl<S> Options<S> {
     }
 
     /// How many items the queue may have; 0, the default, is no bound. A push to a queue that has so many waits until a payload is taken out,
-    /// or until its deadline: [`Error::Full`]. It keeps its member meanwhile, so open the queue for more members than threads that wait.
+    /// or until its deadline: [`Error::Full`]. A thread that waits so by the queue holds no member meanwhile, so any number may wait.
     ///
     /// ```
     /// use flatpq::{Error, Options, Until};

@@ -70,8 +70,8 @@ impl<T> Drop for Shared<T> {
 /// equal keys in the order in which they were pushed or moved there.
 ///
 /// Any number of threads may call the queue itself. Each gets a member of its own at its first call. It has that until it ends, or until a call
-/// of another thread takes the idle member over. If all members are in calls, a call waits for one. A program that wants to move a member
-/// between threads joins one ([`TaskQueue::join`]).
+/// of another thread takes the idle member over. If all members are in calls, a call waits for one. A thread that waits for a payload or for
+/// room holds none meanwhile. A program that wants to move a member between threads joins one ([`TaskQueue::join`]).
 ///
 /// A payload of at most eight bytes, as a number or a `Box<u32>`, lies in its item. Any other, as a `Box<dyn FnOnce()>`, has memory of its own.
 /// Those that are left are dropped with the last of the queue and its members, or with the journal if the queue was closed. Box a payload

@@ -18,26 +18,23 @@ use Rattle.pq_types.specs.declared.answer.Answer.TheVariants.{NoMemory}
 use Rattle.pq_types.specs.declared.answer.Answer.TheVariants as answer
 use Rattle.pq_types.specs.declared.control.Notice.{Notice}
 use Rattle.pq_types.specs.declared.control.Control.TheVariants.{Answered}
-use Rattle.desk_core.specs.Words.{word_number, word_of, mixed, MixedByWord, WordsMix}
+use Rattle.desk_core.specs.Words.{word_number, word_of, mixed}
 use Rattle.pq_types.specs.Control.{kind_of, request_item, answer_item, notice_has_item, posted, answered, is_answer}
 use Rattle.pq_types.specs.Mail.{IsProperControl, control_word}
 use Rattle.pq_types.specs.declared.control.Kind.TheVariants as kind
 use Rattle.pq_types.specs.declared.journal.TheConstants.{GREATEST_NUMBER}
 use Rattle.pq_types.specs.Queue.{IsProperRequestOf}
-use Rattle.pq_types.specs.History.{journal_after, journal_by, Limits, MayDo, MayAnswer}
-use Rattle.pq_types.specs.Laws.{ControlWordsDiffer}
+use Rattle.pq_types.specs.History.{journal_after, journal_by, MayDo, MayAnswer}
 use Rattle.pq_book.specs.Book.{Volume}
-use Rattle.desk_core.specs.Archiving.{archived_of, EveryRunHasLimits, LimitsRise}
-use Rattle.desk_core.specs.Beyond.{NextIsUnknown}
-use Rattle.desk_core.specs.Dealing.{IsReached, Takes, MovesReach}
-use Rattle.desk_core.specs.Desk.{Desk, Has, time, put, locked, freed, with_control, with_cell, with_pen, dealer_opening}
-use Rattle.desk_core.specs.Steps.{Event, actor, Drafts, Posts, Tries, Reads, ReadsItem, LaysItem, Answers, Applies, Archives, Releases, ReleasesBy, Looks, SeesItem, TakesItem, Step}
-use Rattle.desk_core.specs.Keeping.{DraftKeeps, PostKeeps, LeadKeeps, MissKeeps, ReadKeeps, ReadItemKeeps, LayItemKeeps, AnswerKeeps, ApplyKeeps, ArchiveKeeps, ReleaseKeeps, ReleaseByKeeps, LookKeeps, SeeItemKeeps, TakeItemKeeps, DueIsNew, PensAreSeated}
+use Rattle.wait_list.specs.Waiters.{Change}
+use Rattle.pq_book.specs.Stock.{settled_book}
+use Rattle.desk_core.specs.Dealing.{IsReached, Takes}
+use Rattle.desk_core.specs.Desk.{Desk, Has, time, put, locked, freed, with_control, with_cell, with_pen}
+use Rattle.desk_core.specs.Steps.{Event, actor, Drafts, Posts, Tries, Reads, ReadsItem, LaysItem, Answers, Applies, Archives, Changes, HandsOut, Releases, ReleasesBy, Looks, SeesItem, TakesItem, Step}
 use Rattle.desk_core.specs.Looking as looking
-use Rattle.desk_core.specs.Knows.{Knows, LeadersKnow, HomeIsKnown}
-use Rattle.desk_core.specs.Clauses.{RuleGivesClauses}
-use Rattle.desk_core.specs.Layout.{lock_at, control_at, item_at, LockStored, ControlStored, ItemStored, Loaded, WordsAreReadBack}
-use Rattle.desk_core.specs.Pen.{IsIdle, IsKept, after_draft, after_post, after_lead, after_miss, after_read, after_read_item, after_lay, after_answer, after_apply, after_archive, after_release, after_release_by, after_look, after_see, after_take, book_with, book_in_hand, limits_in_hand}
+use Rattle.desk_core.specs.Knows.{Knows}
+use Rattle.desk_core.specs.Layout.{lock_at, control_at, item_at}
+use Rattle.desk_core.specs.Pen.{IsIdle, IsKept, after_draft, after_post, after_lead, after_miss, after_read, after_read_item, after_lay, after_answer, after_apply, after_archive, after_change, after_hand_out, after_release, after_release_by, after_look, after_see, after_take, book_with, book_in_hand, limits_in_hand}
 use Rattle.desk_core.specs.Rule.{MeetsRule}
 use Rattle.desk_core.specs.Duties.{DutiesAreKept, weight_of}
 use Rattle.desk_core.specs.declared.model.Duty.TheVariants.{Active}
@@ -50,69 +47,12 @@ use Rattle.announce_board.specs.Allowed.{AsMove, AsLook, Plainly, desk_in}
 use Rattle.announce_board.specs.Rule.{Keeps, Seated, desk_of, book_in, book_at_home}
 use Rattle.announce_board.specs.declared.terms.Terms.{Terms}
 use Rattle.announce_board.specs.Slots.{MeetsTerms, Slotted, with_book, says, first_limits}
-use Rattle.announce_board.specs.Steps.{pen_at, StandsAt, WordDrafted, Drafted, PostStored, LockRead, LockTried, ControlRead, MailRead, CellRead, ItemRead, WordLaid, ItemLaid, AnswerStored, Released, HasInSlot, BringsHome, BringsHomeBy, Applied, Archived, ReleasedWith, Looked, AnswerLooked, WordSeen, ItemSeen, Taken, ItemTaken}
+use Rattle.announce_board.specs.Steps.{pen_at, StandsAt, WordDrafted, Drafted, PostStored, LockRead, LockTried, ControlRead, MailRead, CellRead, ItemRead, WordLaid, ItemLaid, AnswerStored, Released, HasInSlot, KeepsInSlot, BringsHomeBy, Applied, Archived, Changed, HandedOut, ReleasedWith, Looked, AnswerLooked, WordSeen, ItemSeen, Taken, ItemTaken}
 use Rattle.announce_board.proofs.Duties.{acts_on}
 use Rattle.announce_board.proofs.Sums.{length_at}
 use Rattle.announce_board.proofs.Weights.{weighs_on}
-use Rattle.announce_board.proofs.Same.{same_request, same_answer, kind_posted, same_draft, same_waiting, same_due, same_notice, not_true, refused_alone, none_refused, same_applied, same_ended, same_archived, same_book}
-
--- the laws of the machine that the steps rest on
-pub record Laws : Type 0 where
-  pub draft : DraftKeeps
-  pub post : PostKeeps
-  pub lead : LeadKeeps
-  pub miss : MissKeeps
-  pub read : ReadKeeps
-  pub read_item : ReadItemKeeps
-  pub lay_item : LayItemKeeps
-  pub answer : AnswerKeeps
-  pub apply : ApplyKeeps
-  pub archive : ArchiveKeeps
-  pub release : ReleaseKeeps
-  pub release_by : ReleaseByKeeps
-  pub look : LookKeeps
-  pub see_item : SeeItemKeeps
-  pub take_item : TakeItemKeeps
-  pub due : DueIsNew
-  pub seated : PensAreSeated
-  pub clauses : RuleGivesClauses
-  pub home : HomeIsKnown
-  pub leaders : LeadersKnow
-  pub unknown : NextIsUnknown
-  pub lock_stored : LockStored
-  pub control_stored : ControlStored
-  pub item_stored : ItemStored
-  pub loaded : Loaded
-  pub read_back : WordsAreReadBack
-  pub controls_differ : ControlWordsDiffer
-  pub by_word : MixedByWord
-  pub mix : WordsMix
-  pub goes_on : MovesReach
-  pub limited : EveryRunHasLimits
-  pub rise : LimitsRise
-
--- a fact of an index and a word, where both are known by equations
-pub at_both : (F : ℕ → ℕ → Type 0) (i j n k : ℕ) → i ≡ j → n ≡ k → F j k → F i n
-at_both F i j n k e f h = subst (λ x. F x n) (sym e) (subst (F j) (sym f) h)
-
--- the Book that the machine sees at home is the one in the slot
-pub book_there : (x : home.Option (home.Option Slotted)) (b : Volume) → book_in x ≡ Some b → x ≡ some (some (with_book b))
-book_there none b e = absurd (cc e)
-book_there (some none) b e = absurd (cc e)
-book_there (some (some (says n))) b e = absurd (cc e)
-book_there (some (some (with_book c))) b e = let f : Some c ≡ Some b = e in let g : c ≡ b = cc in ap (λ v. some (some (with_book v))) g
-
--- the Book at home meets the terms of the opening
-pub book_bounded : EveryRunHasLimits → LimitsRise → (room : ℕ) (terms : Terms) (places : ℕ) (d : Desk) → room ≤ GREATEST_NUMBER → IsReached places (first_limits room terms) d
-    → (book : Volume) → d.home ≡ Some book → MeetsTerms terms book
-book_bounded limited rise room terms places d small (moves, run) book at =
-    let first = first_limits room terms in
-    let archived = archived_of (dealer_opening places first) moves d run in
-    let fits = ((limited places first moves d small run).home book at).0 in
-    let up = rise first archived in
-    let more = up.allowed in
-    let same = ap (λ (l : Limits). l.allowed) fits in
-    (ap (λ (l : Limits). l.bound) fits ∙ up.bound, omega (arith, more, same))
+use Rattle.announce_board.proofs.Same.{same_request, same_answer, kind_posted, same_draft, same_waiting, same_due, same_notice, not_true, refused_alone, none_refused, same_applied, same_ended, same_archived, same_changed, same_book}
+use Rattle.announce_board.proofs.StepLaws.{Laws, at_both, book_there, book_bounded}
 
 -- the terms that are said
 one_said : (a b : Terms) → ◌≡◌ {A = home.Option Slotted} (some (says a)) (some (says b)) → a ≡ b
@@ -327,6 +267,7 @@ module _ (laws : Laws) (wide : Bool) (roomy : ℕ → Type 0) (room : ℕ) (term
           book = book;
           room = lead.2 ∙ sym room_is;
           bounded = subst (λ u. MeetsTerms u book) (one_said terms b (sym said_is ∙ e)) (book_bounded laws.limited laws.rise room terms places (d s k at) k.meets.2.room_in_range k.reached book lead.1);
+          settled = ((laws.waited places (first_limits room terms) k.reached.0 (d s k at) k.meets.2.room_in_range k.reached.1).home book lead.1).1;
           knows = subst (λ r. Knows r p book.journal) (sym room_is) (laws.home (d s k at) id p book k.meets (has s k at) lead.1).1;
           led_not = led_not;
           next = refl;
@@ -456,7 +397,7 @@ module _ (laws : Laws) (wide : Bool) (roomy : ℕ → Type 0) (room : ℕ) (term
             ∙ (ap (λ x. (Holder (after_answer p other x answer), m.1)) q_is ∙ ap (λ x. (Holder (after_answer p other q x), m.1)) a_is),
       ))
 
-  pub apply_allowed : (others : List (ℕ × Slotted)) (request : Request) (answer : Answer) → BringsHome m request answer others
+  pub apply_allowed : (others : List (ℕ × Slotted)) (request : Request) (answer : Answer) → KeepsInSlot m request answer others
       → p.leading ≡ true → IsIdle p.standing → p.posts < GREATEST_NUMBER → IsProperRequestOf true request → MayAnswer (limits_in_hand p) p.hand request answer
       → AsMove wide roomy room terms places slots id m lock_at (λ n. n) (Applied (step slots lock_at 0 0 none) m)
   apply_allowed others request answer held leads idle few proper may s k long at small =
@@ -487,10 +428,33 @@ module _ (laws : Laws) (wide : Bool) (roomy : ℕ → Type 0) (room : ℕ) (term
         λ other home. ap (λ v. (Holder v, m.1)) (same_archived p lines other (same_book m (book_in_hand w) (book_in_hand (after_archive p other)) others (rest m.1) held home)),
       )
 
-  pub release_looks : (others : List (ℕ × Slotted)) → HasInSlot m (book_in_hand p) others → p.leading ≡ true
+  pub change_allowed : (others : List (ℕ × Slotted)) (change : Change) → HasInSlot m (book_in_hand (after_change p change)) others → p.leading ≡ true
+      → AsMove wide roomy room terms places slots id m lock_at (λ n. n) (Changed (step slots lock_at 0 0 none) m)
+  change_allowed others change held leads s k long at small =
+      let w = after_change p change in (
+        Holder w,
+        keeps,
+        tt,
+        unchanged s k at lock_at w refl (goes s k at (Changes id change) (with_pen (d s k at) id w) (p, has s k at, leads, refl)) (laws.change (d s k at) id p k.meets (has s k at) change leads),
+        inl (Changes id change, refl, (p, has s k at, leads, refl)),
+        λ other home. ap (λ v. (Holder v, m.1)) (same_changed p change other (same_book m (book_in_hand w) (book_in_hand (after_change p other)) others (rest m.1) held home)),
+      )
+
+  pub hand_out_allowed : AsMove wide roomy room terms places slots id m lock_at (λ n. n) (HandedOut (step slots lock_at 0 0 none) m)
+  hand_out_allowed s k long at small =
+      let w = after_hand_out p in (
+        Holder w,
+        keeps,
+        tt,
+        unchanged s k at lock_at w refl (goes s k at (HandsOut id) (with_pen (d s k at) id w) (p, has s k at, refl)) (laws.hand_out (d s k at) id p k.meets (has s k at)),
+        inl (HandsOut id, refl, (p, has s k at, refl)),
+        refl,
+      )
+
+  pub release_looks : (others : List (ℕ × Slotted)) → HasInSlot m (settled_book (book_in_hand p)) others → p.leading ≡ true
       → AsLook wide roomy room terms places slots id m lock_at (λ _. 0) (λ _. Released (step slots lock_at 0 0 none) m 0)
   release_looks others held leads s k long at small =
-      let book = book_in_hand p in
+      let book = settled_book (book_in_hand p) in
       let homes_are : put_back s.homes m.1 ≡ set s.homes 0 (some (with_book book)) = ap (put_back s.homes) held in
       let slot_is : get_elem? (put_back s.homes m.1) 0 ≡ some (some (with_book book)) =
       ap (λ hs. get_elem? hs 0) homes_are ∙ set_here s.homes 0 (some (with_book book)) (let e = k.slots in omega arith) in
@@ -505,7 +469,7 @@ module _ (laws : Laws) (wide : Bool) (roomy : ℕ → Type 0) (room : ℕ) (term
           words = laws.lock_stored wide places s.words k.held false k.control k.cells k.words;
           slots = ap length homes_are ∙ (length-set s.homes 0 (some (with_book book)) ∙ k.slots);
           reached = home_is s k at (IsReached places (first_limits room terms)) false (put_back s.homes m.1) (slice_set s.views id (Holder (after_release p))) (Some book) back
-              (goes s k at (Releases id) (with_pen (freed (d s k at) book) id (after_release p)) (p, has s k at, leads, refl));
+              (goes s k at (Releases id) (with_pen (freed (d s k at) (book_in_hand p)) id (after_release p)) (p, has s k at, leads, refl));
           meets = home_is s k at MeetsRule false (put_back s.homes m.1) (slice_set s.views id (Holder (after_release p))) (Some book) back
               (laws.release (d s k at) id p k.meets (has s k at) leads);
           duties = stays s k at (after_release p) refl;
@@ -517,7 +481,7 @@ module _ (laws : Laws) (wide : Bool) (roomy : ℕ → Type 0) (room : ℕ) (term
         refl,
       )
 
-  pub release_allowed : (others : List (ℕ × Slotted)) → HasInSlot m (book_in_hand p) others → p.leading ≡ true
+  pub release_allowed : (others : List (ℕ × Slotted)) → HasInSlot m (settled_book (book_in_hand p)) others → p.leading ≡ true
       → AsMove wide roomy room terms places slots id m lock_at (λ _. 0) (λ _. Released (step slots lock_at 0 0 none) m 0)
   release_allowed others held leads s k long at small =
       let t = release_looks others held leads s k long at small in
@@ -527,7 +491,8 @@ module _ (laws : Laws) (wide : Bool) (roomy : ℕ → Type 0) (room : ℕ) (term
       → p.leading ≡ true → p.due ≡ None → IsIdle p.standing → p.posts < GREATEST_NUMBER → IsProperOperationOf true operation → MayDo (limits_in_hand p) p.hand operation answer
       → AsMove wide roomy room terms places slots id m lock_at (λ _. 0) (λ _. ReleasedWith (step slots lock_at 0 0 none) m 0)
   release_with_allowed others operation answer held leads none_due idle few proper may s k long at small =
-      let book = book_with p (journal_by p.hand p.place (p.posts + 1) operation answer) in
+      let raw = book_with p (journal_by p.hand p.place (p.posts + 1) operation answer) in
+      let book = settled_book raw in
       let w = after_release_by p operation answer (time (d s k at)) in
       let room_is = (laws.seated (d s k at) id p k.meets (has s k at)).room in
       let homes_are : put_back s.homes m.1 ≡ set s.homes 0 (some (with_book book)) = ap (put_back s.homes) held in
@@ -544,7 +509,7 @@ module _ (laws : Laws) (wide : Bool) (roomy : ℕ → Type 0) (room : ℕ) (term
           words = laws.lock_stored wide places s.words k.held false k.control k.cells k.words;
           slots = ap length homes_are ∙ (length-set s.homes 0 (some (with_book book)) ∙ k.slots);
           reached = home_is s k at (IsReached places (first_limits room terms)) false (put_back s.homes m.1) (slice_set s.views id (Holder w)) (Some book) back
-              (goes s k at (ReleasesBy id operation answer) (with_pen (freed (d s k at) book) id w) (p, has s k at, leads, none_due, idle, few, proper, may, refl));
+              (goes s k at (ReleasesBy id operation answer) (with_pen (freed (d s k at) raw) id w) (p, has s k at, leads, none_due, idle, few, proper, may, refl));
           meets = home_is s k at MeetsRule false (put_back s.homes m.1) (slice_set s.views id (Holder w)) (Some book) back
               (laws.release_by (d s k at) id p k.meets (has s k at) operation answer (time (d s k at)) leads none_due idle few proper may);
           duties = stays s k at w refl;
@@ -558,7 +523,7 @@ module _ (laws : Laws) (wide : Bool) (roomy : ℕ → Type 0) (room : ℕ) (term
               (p, has s k at, leads, none_due, idle, few, proper, may, refl),
         ),
         λ q a other home. (
-          (time (d s k at), ap (λ v. (Holder v, rest m.1)) (same_ended (time (d s k at)) p operation q answer a may other (ap (λ (b : Volume). b.journal) (same_book m book (book_with p (journal_by p.hand p.place (p.posts + 1) q a)) others (rest m.1) held home)))),
+          (time (d s k at), ap (λ v. (Holder v, rest m.1)) (same_ended (time (d s k at)) p operation q answer a may other (ap (λ (b : Volume). b.journal) (same_book m book (settled_book (book_with p (journal_by p.hand p.place (p.posts + 1) q a))) others (rest m.1) held home)))),
           subst (λ r. Knows r p p.hand) (sym room_is) (laws.leaders (d s k at) id p k.meets (has s k at) leads),
         ),
       )

@@ -24,7 +24,7 @@ use Rattle.announce_board.specs.declared.terms.Terms.{Terms}
 use Rattle.announce_board.specs.Slots.{MeetsTerms, Slotted, with_book, book_of, first_limits}
 use Rattle.announce_board.specs.Steps.{pen_at}
 use Rattle.announce_board.specs.Opening.{OpeningKept, DealingAllowed, EndsAreTold, IsHomeBook, IsHomeWith, IsHeldWith, HasAll, ClosedByAll}
-use Rattle.announce_board.proofs.Allows.{book_there, book_bounded}
+use Rattle.announce_board.proofs.StepLaws.{book_there, book_bounded}
 use Rattle.announce_board.proofs.Homes.{same_volume}
 use Rattle.announce_board.proofs.Lines.{lines_are_of}
 use Rattle.announce_board.proofs.Gathered.{nobody_leads, keepers_testify, pens_apart}
@@ -33,9 +33,9 @@ use Rattle.announce_board.proofs.Weights.{weighs_more, weighs_dealt}
 use Rattle.announce_board.proofs.Same.{not_true}
 
 pub opening_kept : (wide : Bool) (roomy : ℕ → Type 0) → OpeningsMeetRule → ZerosAreFresh → OpeningKept wide roomy
-opening_kept wide roomy opens zeros room terms places book small sized empty is =
+opening_kept wide roomy opens zeros room terms places book small sized empty none is =
     let first : Some (volume (first_limits room terms) []) ≡ Some book =
-    ap Some (same_volume (volume (first_limits room terms) []) book (sym sized) (ap (λ (t : Terms). t.bound) is) (ap (λ (t : Terms). t.allowed) is) (sym empty)) in
+    ap Some (same_volume (volume (first_limits room terms) []) book (sym sized) (ap (λ (t : Terms). t.bound) is) (ap (λ (t : Terms). t.allowed) is) (sym empty) (sym none)) in
     let d : Desk = dealer_opening places (first_limits room terms) in
     record {
       held = false;

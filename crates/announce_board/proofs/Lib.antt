@@ -1,5 +1,7 @@
 mod Slots
 mod Same
+mod Waking
+mod StepLaws
 mod Allows
 mod ToldLemmas
 mod Looks

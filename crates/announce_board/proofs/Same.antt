@@ -17,11 +17,12 @@ use Rattle.pq_types.specs.declared.control.Control.TheVariants.{Answered}
 use Rattle.pq_types.specs.Control.{kind_of, request_item, answer_item, reply_item, outcome_of, posted, answered}
 use Rattle.pq_types.specs.Asked.{Line}
 use Rattle.pq_types.specs.History.{line_of, journal_after, journal_by, Limits, MayDo, MayAnswer}
+use Rattle.wait_list.specs.Waiters.{Change}
 use Rattle.pq_book.specs.Book.{Volume}
 use Rattle.desk_core.specs.Calls.{call_of, gained, gained_by}
 use Rattle.desk_core.specs.declared.model.Call.{Call}
 use Rattle.desk_core.specs.Desk.{put}
-use Rattle.desk_core.specs.Pen.{IsKept, told_full_by, after_apply, after_archive, after_release_by, book_in_hand, limits_in_hand}
+use Rattle.desk_core.specs.Pen.{IsKept, told_full_by, after_apply, after_archive, after_change, after_release_by, newly_woken, book_with, book_in_hand, limits_in_hand}
 use Rattle.desk_core.specs.declared.model.Standing.{Standing}
 use Rattle.desk_core.specs.declared.model.Standing.TheVariants.{Idle, Waiting}
 use Rattle.desk_core.specs.declared.model.Due.{Due}
@@ -177,7 +178,7 @@ same_full limits hand place serial q r (answer.Refused why) (answer.Refused othe
 
 abbrev ended : PenState → List Call → Bool → List Line → ℕ → PenState
 ended p calls full journal now =
-    record p { posts = p.posts + 1; standing = Idle None; mine = p.mine ++ calls; told_full = full; leading = false; known = journal; begins = p.begins ++ (p.posts + 1, now) ∷ []; ends = p.ends ++ (p.posts + 1, now + 1) ∷ []; steps = p.steps + 1 }
+    record p { posts = p.posts + 1; standing = Idle None; mine = p.mine ++ calls; told_full = full; leading = false; owed = p.owed ++ newly_woken (book_with p journal); known = journal; begins = p.begins ++ (p.posts + 1, now) ∷ []; ends = p.ends ++ (p.posts + 1, now + 1) ∷ []; steps = p.steps + 1 }
 
 -- and so does what the pen is afterwards
 pub same_ended : (now : ℕ) (p : PenState) (q r : Operation) (a b : Answer) → MayDo (limits_in_hand p) p.hand q a → MayDo (limits_in_hand p) p.hand r b
@@ -210,3 +211,7 @@ same_book m b c others more held there = let e : Some b ≡ Some c = sym (ap fir
 -- the pen that has heard that lines are archived is known by how many its Book allows then
 pub same_archived : (p : PenState) (lines other : ℕ) → book_in_hand (after_archive p lines) ≡ book_in_hand (after_archive p other) → after_archive p lines ≡ after_archive p other
 same_archived p lines other e = ap (λ (b : Volume). record p { allowed = b.allowed; steps = p.steps + 1 }) e
+
+-- the pen that has changed who waits is known by who waits at its Book then
+pub same_changed : (p : PenState) (change other : Change) → book_in_hand (after_change p change) ≡ book_in_hand (after_change p other) → after_change p change ≡ after_change p other
+same_changed p change other e = ap (λ (b : Volume). record p { waiters = b.waiters; steps = p.steps + 1 }) e

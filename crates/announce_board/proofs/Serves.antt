@@ -50,6 +50,16 @@ answered_same : (words : ℕ) (o : Option Item) (p : PenState) (due : Due) (q : 
 answered_same words None p due q a = ((refl, refl, refl), refl)
 answered_same words (Some x) p due q a = ((refl, refl, refl), refl)
 
+-- and whom it owes a wake
+found_owed : (words : ℕ) (p : PenState) (place serial : ℕ) (q : Request) → (found_posted_by words p place serial q).owed ≡ p.owed
+found_owed words p place serial (Push x) = refl
+found_owed words p place serial Pop = refl
+found_owed words p place serial Least = refl
+
+answered_owed : (words : ℕ) (o : Option Item) (p : PenState) (due : Due) (q : Request) (a : Answer) → (laid_and_answered_by words o p due q a).owed ≡ p.owed
+answered_owed words None p due q a = refl
+answered_owed words (Some x) p due q a = refl
+
 -- the Book in its hand, once it has read a record, and once it has answered there
 found_book : (words : ℕ) (p : PenState) (place serial : ℕ) (q : Request) → book_in_hand (found_posted_by words p place serial q) ≡ book_in_hand p
 found_book words p place serial (Push x) = refl
@@ -150,6 +160,8 @@ module _ (words place : ℕ) (before between after : Seated) (serial : ℕ) (q :
     slots = ap (λ (m : Seated). m.1) next ∙ s.slots;
     place = ap (λ (r : PenState). r.place) pen_next ∙ served_same.0.0;
     leading = ap (λ (r : PenState). r.leading) pen_next ∙ served_same.0.1;
+    owed = ap (λ (r : PenState). r.owed) pen_next
+        ∙ (answered_owed words (answer_item a) (found_posted_by words p place serial q) (due_of place serial q) q a ∙ found_owed words p place serial q);
   }
 
   book_now : (old new : Volume) → old ≡ book_in_hand p → KeepsTerms old new → new.allowed ≡ old.allowed → new.journal ≡ journal_after old.journal place serial q a
@@ -160,6 +172,7 @@ module _ (words place : ℕ) (before between after : Seated) (serial : ℕ) (q :
       (terms.1 ∙ ap (λ (b : Volume). b.bound) e)
       (allowed ∙ ap (λ (b : Volume). b.allowed) e)
       (journal ∙ ap (λ (b : Volume). journal_after b.journal place serial q a) e)
+      (terms.2 ∙ ap (λ (b : Volume). b.waiters) e)
 
   pub serves : (old new : Volume) → old ≡ book_in_hand p → KeepsTerms old new → new.allowed ≡ old.allowed → new.journal ≡ journal_after old.journal place serial q a
       → MayAnswer (limits_of old) old.journal q a → ServesBy words place p (pen_at after) new

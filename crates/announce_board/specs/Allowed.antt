@@ -19,13 +19,15 @@ use Rattle.pq_types.specs.Queue.{IsProperRequestOf}
 use Rattle.pq_types.specs.Control.{kind_of, request_item, answer_item, notice_has_item, posted, answered}
 use Rattle.pq_types.specs.History.{MayDo, MayAnswer}
 use Rattle.pq_types.specs.Mail.{control_word}
+use Rattle.wait_list.specs.Waiters.{Change}
+use Rattle.pq_book.specs.Stock.{settled_book}
 use Rattle.desk_core.specs.Desk.{Desk}
 use Rattle.desk_core.specs.Looking.{Looked, sights_of}
 use Rattle.desk_core.specs.Steps.{Event, Releases, actor, Step}
 use Rattle.desk_core.specs.declared.model.View.{View}
 use Rattle.desk_core.specs.Words.{word_number, word_of}
 use Rattle.desk_core.specs.Layout.{lock_at, control_at, item_at}
-use Rattle.desk_core.specs.Pen.{IsIdle, IsKept, after_archive, book_in_hand, limits_in_hand}
+use Rattle.desk_core.specs.Pen.{IsIdle, IsKept, after_archive, after_change, book_in_hand, limits_in_hand}
 use Rattle.desk_core.specs.declared.model.Standing.TheVariants.{Idle, Waiting}
 use Rattle.desk_core.specs.declared.model.Due.{Due}
 use Rattle.desk_core.specs.declared.model.View.TheVariants.{Holder}
@@ -34,7 +36,7 @@ use Rattle.announce_board.specs.declared.terms.Terms.{Terms}
 use Rattle.announce_board.specs.Slots.{Slotted, says}
 use Rattle.announce_board.specs.Steps.{pen_at, Drafted, PostStored, LockRead, LockTried}
 use Rattle.announce_board.specs.Steps.{MailRead, ItemRead, ItemLaid, AnswerStored, Released}
-use Rattle.announce_board.specs.Steps.{HasInSlot, BringsHome, BringsHomeBy, Applied, Archived, ReleasedWith, AnswerLooked, ItemSeen, ItemTaken}
+use Rattle.announce_board.specs.Steps.{HasInSlot, KeepsInSlot, BringsHomeBy, Applied, Archived, Changed, HandedOut, ReleasedWith, AnswerLooked, ItemSeen, ItemTaken}
 
 -- how it is said that a step of the seat m is allowed, and tells this: a step on the word at an index, of which it makes f
 -- of what the word was
@@ -132,7 +134,7 @@ AnswerAllowedBy A wide roomy = AtEachPen (λ room terms places slots id m.
 abbrev pub ApplyAllowedBy : Form → Bool → (ℕ → Type 0) → Type 0
 ApplyAllowedBy A wide roomy = AtEachPen (λ room terms places slots id m.
     (others : List (ℕ × Slotted)) (request : Request) (answer : Answer)
-    → BringsHome m request answer others → (pen_at m).leading ≡ true → IsIdle (pen_at m).standing
+    → KeepsInSlot m request answer others → (pen_at m).leading ≡ true → IsIdle (pen_at m).standing
     → (pen_at m).posts < GREATEST_NUMBER
     → IsProperRequestOf true request → MayAnswer (limits_in_hand (pen_at m)) (pen_at m).hand request answer
     → A wide roomy room terms places slots id m lock_at (λ n. n) (Applied (step slots lock_at 0 0 none) m))
@@ -143,13 +145,24 @@ ArchiveAllowedBy A wide roomy = AtEachPen (λ room terms places slots id m. (oth
     → HasInSlot m (book_in_hand (after_archive (pen_at m) lines)) others → (pen_at m).leading ≡ true
     → A wide roomy room terms places slots id m lock_at (λ n. n) (Archived (step slots lock_at 0 0 none) m))
 
--- the slot that is given back has the Book in the pen's hand
+-- the slot that is held has the Book in the pen's hand, at which other waiters are then
+abbrev pub ChangeAllowedBy : Form → Bool → (ℕ → Type 0) → Type 0
+ChangeAllowedBy A wide roomy = AtEachPen (λ room terms places slots id m. (others : List (ℕ × Slotted)) (change : Change)
+    → HasInSlot m (book_in_hand (after_change (pen_at m) change)) others → (pen_at m).leading ≡ true
+    → A wide roomy room terms places slots id m lock_at (λ n. n) (Changed (step slots lock_at 0 0 none) m))
+
+abbrev pub HandOutAllowedBy : Form → Bool → (ℕ → Type 0) → Type 0
+HandOutAllowedBy A wide roomy = AtEachPen (λ room terms places slots id m.
+    A wide roomy room terms places slots id m lock_at (λ n. n) (HandedOut (step slots lock_at 0 0 none) m))
+
+-- the slot that is given back has the Book in the pen's hand, once that has woken whom it is to wake
 abbrev pub ReleaseAllowedBy : Form → Bool → (ℕ → Type 0) → Type 0
 ReleaseAllowedBy A wide roomy = AtEachPen (λ room terms places slots id m. (others : List (ℕ × Slotted))
-    → HasInSlot m (book_in_hand (pen_at m)) others → (pen_at m).leading ≡ true
+    → HasInSlot m (settled_book (book_in_hand (pen_at m))) others → (pen_at m).leading ≡ true
     → A wide roomy room terms places slots id m lock_at (λ _. 0) (λ _. Released (step slots lock_at 0 0 none) m 0))
 
--- the slot that is given back has the Book with the line of the operation of its own, if it is entered
+-- the slot that is given back has the Book with the line of the operation of its own, if it is entered, once it has woken whom it is
+-- to wake
 abbrev pub ReleaseWithAllowedBy : Form → Bool → (ℕ → Type 0) → Type 0
 ReleaseWithAllowedBy A wide roomy = AtEachPen (λ room terms places slots id m.
     (others : List (ℕ × Slotted)) (operation : Operation) (answer : Answer) → BringsHomeBy m operation answer others
@@ -206,6 +219,12 @@ ApplyAllowed = ApplyAllowedBy Plainly
 
 abbrev pub ArchiveAllowed : Bool → (ℕ → Type 0) → Type 0
 ArchiveAllowed = ArchiveAllowedBy Plainly
+
+abbrev pub ChangeAllowed : Bool → (ℕ → Type 0) → Type 0
+ChangeAllowed = ChangeAllowedBy Plainly
+
+abbrev pub HandOutAllowed : Bool → (ℕ → Type 0) → Type 0
+HandOutAllowed = HandOutAllowedBy Plainly
 
 abbrev pub ReleaseAllowed : Bool → (ℕ → Type 0) → Type 0
 ReleaseAllowed = ReleaseAllowedBy Plainly

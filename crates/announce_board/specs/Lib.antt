@@ -1,6 +1,7 @@
 pub mod Slots
 pub mod Rule
 pub mod Steps
+pub mod Waking
 pub mod Allowed
 pub mod Tokens
 pub mod ItemWords

@@ -5,6 +5,7 @@ use Rattle.pq_types.specs.Asked.{Request}
 use Rattle.pq_types.specs.declared.control.Notice.{Notice}
 use Rattle.pq_types.specs.declared.control.Kind.{Kind}
 use Rattle.pq_book.specs.Book.{Volume}
+use Rattle.pq_book.specs.Stock.{IsSettledBook}
 use Rattle.desk_core.specs.Knows.{Knows}
 use Rattle.desk_core.specs.Desk.{Desk}
 use Rattle.desk_core.specs.Pen.{after_lead, after_miss}
@@ -42,9 +43,10 @@ abbrev pub TriesLock : Terms → Bool → Seated → Seated → Type 0
 TriesLock terms true before after = LockWon terms before after
 TriesLock terms false before after = Becomes before (after_miss (pen_at before)) after
 
--- the pen has won the lock, and the Book, of these terms, has left its slot
+-- the pen has won the lock, and the Book, of these terms, has left its slot; it had woken whom it was to wake
 pub record WinsBook (terms : Terms) (before : Seated) (book : Volume) (after : Seated) : Type 0 where
   pub bounded : MeetsTerms terms book
+  pub settled : IsSettledBook book
   pub room : book.room ≡ (pen_at before).room
   pub led_not : (pen_at before).leading ≡ false
   pub knows : Knows (pen_at before).room (pen_at before) book.journal

@@ -129,10 +129,11 @@ pub record ClosedByAll (room : ℕ) (terms : Terms) (places : ℕ) (pens : List 
   pub placed : HavePlaces places pens
   pub bounded : MeetsTerms terms book
 
--- the table of a desk before all steps, with a Book of its terms that has no lines, keeps the rule
+-- the table of a desk before all steps, with a Book of its terms that has no lines, and at which nobody waits, keeps the rule
 abbrev pub OpeningKept : Bool → (ℕ → Type 0) → Type 0
 OpeningKept wide roomy =
     (room : ℕ) (terms : Terms) (places : ℕ) (book : Volume) → room ≤ GREATEST_NUMBER → book.room ≡ room → book.journal ≡ []
+    → book.waiters ≡ []
     → terms ≡ terms_of book
     → Keeps wide roomy room terms places (opening (replicate (word_count places) 0) (with_book book ∷ []) (Dealer 0 room))
 

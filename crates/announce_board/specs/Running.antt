@@ -1,10 +1,11 @@
 -- What holds of a running desk between any two atomic steps, of whatever threads.
-use Rattle.std.specs.Prelude.{◌≡◌, ℕ, ◌≤◌, Bool, List, slice_set}
+use Rattle.std.specs.Prelude.{◌≡◌, ℕ, ◌≤◌, Bool, List, [], slice_set}
 use Rattle.atomic_table.specs.Table.{State}
 use Rattle.pq_types.specs.Asked.{Line}
 use Rattle.announce_board.specs.declared.terms.Terms.{Terms}
 use Rattle.announce_board.specs.Slots.{Slotted, first_limits}
 use Rattle.desk_core.specs.Archiving.{HasLimits, archived_of, limits_after}
+use Rattle.desk_core.specs.Waiters.{HasWaiters, changes_of, changed_by}
 use Rattle.desk_core.specs.Clauses.{LockClause}
 use Rattle.desk_core.specs.Dealing.{Move, DealtRun, dealt_history}
 use Rattle.desk_core.specs.Desk.{Desk, Has, acts_number, dealer_opening}
@@ -25,7 +26,8 @@ use Rattle.announce_board.specs.Rule.{Keeps, book_at_home}
 -- no other act of a pen than those. So of the calls that any two pens have read, of which one ended before the other began, it
 -- has the earlier line. The looks of that run have their places in the same order. The Book, at home or in the leader's hand,
 -- has the desk's bound, and allows as many lines as the terms do, or a page more than the most that were said in that run to be
--- archived, where that is more.
+-- archived, where that is more. It has exactly the waiters that were put in in that run and not taken out; where it is at home,
+-- nobody sleeps beside what it could take, unless one that could was woken and has not come back.
 pub record IsLinearized (wide : Bool) (room : ℕ) (terms : Terms) (places : ℕ) (s : State Slotted View) : Type 0 where
   pub desk : Desk
   pub words : AreWords wide places s.words desk.held desk.control desk.item
@@ -43,6 +45,7 @@ pub record IsLinearized (wide : Bool) (room : ℕ) (terms : Terms) (places : ℕ
   pub follow : CallsFollowTime desk
   pub limited : HasLimits desk
       (limits_after (first_limits room terms) (archived_of (dealer_opening places (first_limits room terms)) moves desk run))
+  pub waited : HasWaiters desk (changed_by [] (changes_of (dealer_opening places (first_limits room terms)) moves desk run))
 
 -- so it is of every table that keeps the rule of desks
 abbrev pub TablesAreLinearized : Bool → (ℕ → Type 0) → Type 0

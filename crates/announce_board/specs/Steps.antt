@@ -12,10 +12,12 @@ use Rattle.pq_types.specs.declared.control.Control.TheVariants.{Answered}
 use Rattle.pq_types.specs.Control.{kind_of, request_item, answer_item, posted, answered}
 use Rattle.pq_types.specs.History.{journal_by, Limits, MayDo, MayAnswer}
 use Rattle.pq_types.specs.Mail.{IsProperControl, control_word}
+use Rattle.wait_list.specs.Waiters.{Change}
 use Rattle.pq_book.specs.Book.{Volume}
+use Rattle.pq_book.specs.Stock.{settled_book, IsSettledBook}
 use Rattle.desk_core.specs.Pen.{IsKept, after_draft, after_post, after_lead, after_miss, after_read}
 use Rattle.desk_core.specs.Pen.{after_read_item, after_lay, after_answer, after_release}
-use Rattle.desk_core.specs.Pen.{after_apply, after_archive, after_release_by, after_look, after_see, after_take}
+use Rattle.desk_core.specs.Pen.{after_apply, after_archive, after_change, after_hand_out, after_release_by, after_look, after_see, after_take}
 use Rattle.desk_core.specs.Pen.{book_with, book_in_hand, limits_in_hand}
 use Rattle.desk_core.specs.Dealing.{IsReached}
 use Rattle.desk_core.specs.Desk.{Desk, Has}
@@ -79,11 +81,12 @@ LockRead st before word after =
 
 -- The lock was tried. Where its word was 0 the pen, which did not lead, has the slot with the Book,
 -- and knows of its journal what a pen knows of the one at home; and the Book meets the terms that the step
--- names. Else its word was 1.
+-- names, and had woken whom it was to wake. Else its word was 1.
 pub record LockWon (terms : Terms) (before after : Seated) : Type 0 where
   pub book : Volume
   pub room : book.room ≡ (pen_at before).room
   pub bounded : MeetsTerms terms book
+  pub settled : IsSettledBook book
   pub knows : Knows (pen_at before).room (pen_at before) book.journal
   pub led_not : (pen_at before).leading ≡ false
   pub next : ◌≡◌ {A = Seated} after (Holder (after_lead (pen_at before) book), (0, with_book book) ∷ before.1)
@@ -145,21 +148,24 @@ Released st before word after = ◌≡◌ {A = Seated} after (Holder (after_rele
 abbrev pub HasInSlot : Seated → Volume → List (ℕ × Slotted) → Type 0
 HasInSlot m book others = ◌≡◌ {A = List (ℕ × Slotted)} m.1 ((0, with_book book) ∷ others)
 
--- it has the Book that was in its hand, with the line of its own operation, under its next serial, if this answer entered it
-abbrev pub BringsHomeBy : Seated → Operation → Answer → List (ℕ × Slotted) → Type 0
-BringsHomeBy m operation answer others =
-    HasInSlot m (book_with (pen_at m) (journal_by (pen_at m).hand (pen_at m).place ((pen_at m).posts + 1) operation answer)) others
+-- the Book that was in its hand, with the line of its own operation, under its next serial, if this answer entered it
+abbrev pub book_by : PenState → Operation → Answer → Volume
+book_by p operation answer = book_with p (journal_by p.hand p.place (p.posts + 1) operation answer)
 
--- the same with the line of its own request
-abbrev pub BringsHome : Seated → Request → Answer → List (ℕ × Slotted) → Type 0
-BringsHome m request answer others = BringsHomeBy m (Asked request) answer others
+-- the slot that the pen gives back has that Book, once it has woken whom it is to wake
+abbrev pub BringsHomeBy : Seated → Operation → Answer → List (ℕ × Slotted) → Type 0
+BringsHomeBy m operation answer others = HasInSlot m (settled_book (book_by (pen_at m) operation answer)) others
+
+-- the slot that it keeps has that Book, with the line of its own request
+abbrev pub KeepsInSlot : Seated → Request → Answer → List (ℕ × Slotted) → Type 0
+KeepsInSlot m request answer others = HasInSlot m (book_by (pen_at m) (Asked request) answer) others
 
 -- The leader applied a request of its own that was so answered, and loaded the lock: what stands in the
 -- slot, which it keeps, tells which line, if any, is the last. It knew the journal in its hand.
 abbrev pub Applied : Step Slotted → Seated → ℕ → Seated → Type 0
 Applied st before word after =
     (request : Request) (answer : Answer) → MayAnswer (limits_in_hand (pen_at before)) (pen_at before).hand request answer
-    → BringsHome before request answer (rest before.1)
+    → KeepsInSlot before request answer (rest before.1)
     → ((now : ℕ) × Becomes before (after_apply (pen_at before) request answer now) after)
     × Knows (pen_at before).room (pen_at before) (pen_at before).hand
 
@@ -169,6 +175,16 @@ abbrev pub Archived : Step Slotted → Seated → ℕ → Seated → Type 0
 Archived st before word after =
     (lines : ℕ) → HasInSlot before (book_in_hand (after_archive (pen_at before) lines)) (rest before.1)
     → Becomes before (after_archive (pen_at before) lines) after
+
+-- The leader changed who waits at its Book, and loaded the lock: what stands in the slot, which it keeps, tells who waits then.
+abbrev pub Changed : Step Slotted → Seated → ℕ → Seated → Type 0
+Changed st before word after =
+    (change : Change) → HasInSlot before (book_in_hand (after_change (pen_at before) change)) (rest before.1)
+    → Becomes before (after_change (pen_at before) change) after
+
+-- the pen handed out the numbers of those whom it has woken, and loaded the lock
+abbrev pub HandedOut : Step Slotted → Seated → ℕ → Seated → Type 0
+HandedOut st before word after = Becomes before (after_hand_out (pen_at before)) after
 
 -- The leader gave the slot back and freed the lock, with an operation of its own that was so answered:
 -- what stood in the slot tells which line, if any, is the last. The leader knew the journal in its hand.

@@ -13,6 +13,7 @@ use Rattle.desk_core.specs.declared.model.View.TheVariants.{Holder}
 use Rattle.announce_board.specs.Rule.{Seated, held_slots, pen_of}
 use Rattle.announce_board.specs.declared.terms.Terms.{Terms}
 use Rattle.announce_board.specs.Steps.{pen_at}
+use Rattle.announce_board.specs.Waking.{IsMaskOf}
 
 -- a desk: its table, the number of its places, for how many lines its journal has room, and its terms
 pub record Running : Type 0 where
@@ -66,13 +67,15 @@ pub record StaysSeated (before after : Seated) : Type 0 where
   pub slots : after.1 ≡ before.1
   pub place : (pen_at after).place ≡ (pen_at before).place
   pub leading : (pen_at after).leading ≡ (pen_at before).leading
+  pub owed : (pen_at after).owed ≡ (pen_at before).owed
 
--- so is that of a pen, which holds the slot exactly where it leads
-pub record IsPen (table : TableId) (m : Seated) (place posts : ℕ) (idle : Bool) : Type 0 where
+-- so is that of a pen, which holds the slot exactly where it leads, and keeps the mask of those whom it is to hand out
+pub record IsPen (table : TableId) (m : Seated) (place posts : ℕ) (idle : Bool) (wakes : ℕ) : Type 0 where
   pub at : IsAt table m place
   pub slots : m.1 ≡ held_slots (pen_at m).leading
   pub counted : posts ≡ (pen_at m).posts
   pub waits_not : idle ≡ is_idle (pen_at m).standing
+  pub owes : IsMaskOf wakes (pen_at m).owed
 
 -- the pen of a badge that has one view
 abbrev pub pen_in : List View → PenState

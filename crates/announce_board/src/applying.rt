@@ -15,6 +15,7 @@ ghost use Rattle.announce_board.specs.Steps.{pen_at};
 
 use crate::boxed_book::BoxedBook;
 use crate::laws::law_steps_are_allowed;
+use crate::locking::drop_slot;
 use crate::rule::{Apply, Board, BoardSeat, Slot};
 use crate::words::LOCK;
 use desk_core::laws::law_calls_are_lines;
@@ -35,7 +36,7 @@ pub fn lend<S: Store<Entry<P>>, P: Part>(
     ensures table { seat.new.table_id ≡ seat.old.table_id }
     ensures after { seat.new.me ≡ (seat.old.me.0, (0, with_book book) ∷ []) }
 {
-    drop(board.exchange(seat, 0, Slot::with(book)));
+    drop_slot(board.exchange(seat, 0, Slot::with(book)));
 }
 
 /// Takes the Book, which lies in the slot that the pen holds, out of it.

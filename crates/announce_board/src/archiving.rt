@@ -11,6 +11,7 @@ use crate::applying::take_back;
 use crate::boxed_book::BoxedBook;
 use crate::desk::Desk;
 use crate::laws::law_steps_are_allowed;
+use crate::locking::drop_slot;
 use crate::rule::{Archive, Board, BoardSeat, Slot};
 use crate::tokens::{Lead, Pen};
 use crate::words::LOCK;
@@ -38,7 +39,7 @@ fn allow_more<S: Store<Entry<P>>, P: Part>(
     law_steps_are_allowed::<S, P>();
     let mut book = book;
     book.boxed.archived(lines);
-    drop(board.exchange(seat, 0, Slot::with(book)));
+    drop_slot(board.exchange(seat, 0, Slot::with(book)));
     board.load::<Archive>(seat, LOCK);
     take_back(board, seat)
 }

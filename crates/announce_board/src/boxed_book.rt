@@ -1,6 +1,9 @@
 // A Book on the heap.
 ghost use Rattle.std.specs.Prelude.{◌≡◌};
 ghost use Rattle.announce_board.specs.Slots.{terms_of};
+ghost use Rattle.announce_board.specs.Waking.{IsMaskOf};
+ghost use Rattle.desk_core.specs.Pen.{newly_woken};
+ghost use Rattle.pq_book.specs.Stock.{settled_book};
 
 use crate::terms::Terms;
 use leftist_heap::Store;
@@ -33,6 +36,17 @@ impl<S: Store<Entry<P>>, P: Part> BoxedBook<S, P> {
             bound: self.boxed.bound(),
             allowed: self.boxed.allowed(),
         }
+    }
+
+    /// The Book once it has woken whom it is to wake, and the mask of their numbers.
+    #[inline(always)]
+    pub(crate) fn settled(self) -> (Self, u64)
+        ensures book { result.0 ≡ settled_book self }
+        ensures wakes { IsMaskOf result.1 (newly_woken self) }
+    {
+        let mut book = self;
+        let wakes = book.boxed.settle();
+        (book, wakes)
     }
 
     /// The Book, whose memory on the heap is freed.

@@ -3,6 +3,7 @@ ghost use Rattle.std.specs.Prelude.{◌≡◌, ◌≢◌, ℕ, ◌+◌, ◌<◌,
 ghost use Rattle.pq_types.specs.declared.journal.TheConstants.{GREATEST_NUMBER};
 ghost use Rattle.pq_types.specs.History.{left};
 ghost use Rattle.pq_book.specs.Book.{AllHaveRoom, limits_of};
+ghost use Rattle.pq_book.specs.Stock.{IsSettledBook};
 ghost use Rattle.desk_core.specs.Knows.{NoneAbove};
 ghost use Rattle.desk_core.specs.Pen.{after_miss, after_release};
 ghost use Rattle.desk_core.specs.Words.{word_number};
@@ -117,13 +118,15 @@ impl<S: Store<Entry<P>>, P: Part> Desk<S, P> {
     }
 
     /// The pen tries the lock, in one step of the machine: a load that reads it held, or else a compare_exchange behind the load.
-    /// `None` where another pen leads. The Book of the lead meets the desk's terms.
+    /// `None` where another pen leads. The Book of the lead meets the desk's terms. Nobody who waits at it sleeps beside what it
+    /// could take, unless one that could was woken and has not come back.
     pub fn try_lead(&self, pen: &mut Pen<S, P>) -> Option<Lead<S, P>>
         requires table { pen.old.table ≡ self.now.table }
         ensures table { pen.new.table ≡ pen.old.table }
         ensures lead { IfSome result (λ lead. IsLeadOf pen.new lead) }
         ensures wins { IfSome result (λ lead. Wins pen.old.state lead.book pen.new.state) }
         ensures terms { IfSome result (λ lead. MeetsTerms self.now.terms lead.book) }
+        ensures settled { IfSome result (λ lead. IsSettledBook lead.book) }
         ensures misses { IfNone result (pen.new.state ≡ after_miss pen.old.state) }
     {
         let book = win_book(&self.table.shared, &mut pen.seat, self.terms)?;
@@ -156,12 +159,14 @@ impl<S: Store<Entry<P>>, P: Part> Desk<S, P> {
         )
     }
 
-    /// The leader puts the Book home and then frees the lock, in one step.
+    /// The leader has the Book wake whom it is to wake, puts it home and then frees the lock, in one step. The pen owes the wakes
+    /// from then on: `take_wakes` hands them out.
     pub fn release(&self, pen: &mut Pen<S, P>, lead: Lead<S, P>)
         requires table { pen.old.table ≡ self.now.table }
         requires lead { IsLeadOf pen.old lead }
         ensures { pen.new ≡ record pen.old { state = after_release pen.old.state } }
     {
-        put_home(&self.table.shared, &mut pen.seat, lead.into_boxed());
+        let wakes = put_home(&self.table.shared, &mut pen.seat, lead.into_boxed());
+        pen.wakes |= wakes;
     }
 }

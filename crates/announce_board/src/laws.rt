@@ -3,7 +3,7 @@
 ghost use Rattle.pq_book.specs.Book.{AllHaveRoom};
 ghost use Rattle.announce_board.specs.Allowed.{DraftAllowed, PostAllowed, LockReadAllowed, TryAllowed, MailReadAllowed};
 ghost use Rattle.announce_board.specs.Allowed.{ItemReadAllowed, ItemLaidAllowed, AnswerAllowed, ApplyAllowed, ReleaseAllowed};
-ghost use Rattle.announce_board.specs.Allowed.{ArchiveAllowed, ReleaseWithAllowed, LookAllowed, SeeAllowed, TakeAllowed};
+ghost use Rattle.announce_board.specs.Allowed.{ArchiveAllowed, ChangeAllowed, HandOutAllowed, ReleaseWithAllowed, LookAllowed, SeeAllowed, TakeAllowed};
 ghost use Rattle.announce_board.specs.Opening.{OpeningKept, DealingAllowed, EndsAreTold};
 ghost use Rattle.announce_board.specs.Told.{WaitersAreTold, PostsAreNew, DuesStand, AboveTheLast, CellsStand};
 
@@ -29,6 +29,8 @@ pub fn law_steps_are_allowed<S: Store<Entry<P>>, P: Part>()
     ensures answer { AnswerAllowed P.wide (AllHaveRoom S.room) }
     ensures apply { ApplyAllowed P.wide (AllHaveRoom S.room) }
     ensures archive { ArchiveAllowed P.wide (AllHaveRoom S.room) }
+    ensures change { ChangeAllowed P.wide (AllHaveRoom S.room) }
+    ensures hand_out { HandOutAllowed P.wide (AllHaveRoom S.room) }
     ensures release { ReleaseAllowed P.wide (AllHaveRoom S.room) }
     ensures release_with { ReleaseWithAllowed P.wide (AllHaveRoom S.room) }
     ensures look { LookAllowed P.wide (AllHaveRoom S.room) }

@@ -25,6 +25,10 @@
 //!   that it is told are archived. So the Book of each lead meets the desk's terms: it has their bound, and allows as
 //!   many lines as they do, or a page more than the most that were archived
 //!   (`running::law_running_desks_are_linearizable`).
+//! - Who waits stands beside the Book. `Desk::wait`, `Desk::leave` and `Desk::leave_all` change that list, a step each, while the pen
+//!   leads. Each release has the Book wake whom it is to wake, as few as it may, and the pen keeps exactly their numbers until
+//!   `Desk::take_wakes` hands them out. So no thread sleeps beside an item that it could take while the lock is free, unless one
+//!   that could was woken and has not come back (`running::law_running_desks_are_linearizable`).
 //! - `Desk::note` writes a note of the journal, which another pen of the desk may `Desk::hear`, in any thread: then each
 //!   later line of that pen is behind the journal that the note tells, which has all calls of the writer.
 //! - A pen that leads may draft, post and look meanwhile: its lead stays its own (`leading::law_leads_stay`).
@@ -68,6 +72,7 @@ pub mod sleeping;
 pub mod terms;
 pub mod testimony;
 pub mod tokens;
+mod waiting;
 mod words;
 
 pub use desk::Desk;

@@ -2,10 +2,11 @@
 ghost use Rattle.std.specs.Prelude.{◌≡◌, ◌<◌, true, [], ◌∷◌, MatchOption};
 ghost use Rattle.desk_core.specs.declared.model.View.TheVariants.{Holder};
 ghost use Rattle.desk_core.specs.Layout.{lock_at};
-ghost use Rattle.desk_core.specs.Pen.{after_miss, after_release, book_in_hand};
+ghost use Rattle.desk_core.specs.Pen.{after_miss, after_release, book_in_hand, newly_woken};
 ghost use Rattle.announce_board.specs.Steps.{pen_at, Becomes};
 ghost use Rattle.announce_board.specs.Loads.{TriesLock, WinsBook};
 ghost use Rattle.announce_board.specs.Slots.{out};
+ghost use Rattle.announce_board.specs.Waking.{IsMaskOf};
 
 use crate::boxed_book::BoxedBook;
 use crate::laws::law_steps_are_allowed;
@@ -38,6 +39,21 @@ fn try_lock<S: Store<Entry<P>>, P: Part>(
     board.compare_exchange_with::<TryLock>(seat, LOCK, 0, 1, &said) == 0
 }
 
+/// Drops what came out of a slot. Where a Book goes home none came out, so it is freed out of line.
+#[inline(always)]
+pub fn drop_slot<S: Store<Entry<P>>, P: Part>(slot: Slot<S, P>) {
+    if let Some(book) = slot.into_inner() {
+        free(book);
+    }
+}
+
+// Frees a Book.
+#[cold]
+#[inline(never)]
+fn free<S: Store<Entry<P>>, P: Part>(book: BoxedBook<S, P>) {
+    drop(book);
+}
+
 /// Tries the lock of a desk of these terms, and takes the Book out of its slot where the pen has won.
 pub fn win_book<S: Store<Entry<P>>, P: Part>(
     board: &Board<S, P>,
@@ -58,12 +74,12 @@ pub fn win_book<S: Store<Entry<P>>, P: Part>(
     board.exchange(seat, 0, Slot::out()).into_inner()
 }
 
-/// Puts the Book into its slot, and frees the lock then.
+/// Has the Book wake whom it is to wake, puts it into its slot, and frees the lock then. The mask of those who were woken.
 pub fn put_home<S: Store<Entry<P>>, P: Part>(
     board: &Board<S, P>,
     seat: &mut BoardSeat<S, P>,
     book: BoxedBook<S, P>,
-)
+) -> u64
     requires here { seat.old.table_id ≡ board.now.table_id }
     requires is { seat.old.me.0 ≡ Holder (pen_at seat.old.me) }
     requires lock { lock_at < board.now.table_id.words }
@@ -71,9 +87,12 @@ pub fn put_home<S: Store<Entry<P>>, P: Part>(
     requires leads { (pen_at seat.old.me).leading ≡ true }
     requires book { book ≡ book_in_hand (pen_at seat.old.me) }
     ensures table { seat.new.table_id ≡ seat.old.table_id }
+    ensures wakes { IsMaskOf result (newly_woken (book_in_hand (pen_at seat.old.me))) }
     ensures after { seat.new.me ≡ (Holder (after_release (pen_at seat.old.me)), []) }
 {
     law_steps_are_allowed::<S, P>();
-    drop(board.exchange(seat, 0, Slot::with(book)));
+    let (book, wakes) = book.settled();
+    drop_slot(board.exchange(seat, 0, Slot::with(book)));
     board.store::<Release>(seat, LOCK, 0);
+    wakes
 }

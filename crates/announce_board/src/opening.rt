@@ -115,6 +115,7 @@ fn opened<S: Store<Entry<P>>, P: Part>(
 ) -> Result<(Desk<S, P>, Vec<Pen<S, P>>), AllocError>
     requires room { book.room ≡ lines }
     requires empty { book.journal ≡ [] }
+    requires waiters { book.waiters ≡ [] }
     requires lines { lines ≤ GREATEST_NUMBER }
     ensures ok { IfOk result (λ r. Opens places lines r.0 r.1.items) }
     ensures terms { IfOk result (λ r. r.0.terms ≡ terms_of book) }
@@ -140,6 +141,7 @@ pub fn laid_out<S: Store<Entry<P>>, A: Allocator + Copy, P: Part>(
 ) -> Result<(DeskTable<S, A, P>, Vec<Pen<S, P>, A>), AllocError>
     requires room { book.room ≡ lines }
     requires empty { book.journal ≡ [] }
+    requires waiters { book.waiters ≡ [] }
     requires lines { lines ≤ GREATEST_NUMBER }
     ensures desk { IfOk result (λ r. IsDesk r.0.shared.table_id r.0.shared.key.places r.0.shared.key.room r.0.shared.key.terms
         places lines (terms_of book)) }
@@ -204,5 +206,6 @@ fn next_pen<S: Store<Entry<P>>, P: Part>(
         place,
         posts: 0,
         idle: true,
+        wakes: 0,
     }
 }

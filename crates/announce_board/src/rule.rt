@@ -6,7 +6,7 @@ ghost use Rattle.std.specs.Prelude.{◌≡◌, ◌≢◌, ◌+◌, ◌<◌, leng
 ghost use Rattle.announce_board.specs.Rule.{Keeps, dealt_one, pen_dealt};
 ghost use Rattle.announce_board.specs.Slots.{with_book, says, out, book_of, CarriesOut};
 ghost use Rattle.announce_board.specs.Steps.{Drafted, PostStored, LockRead, LockTried, MailRead, ItemRead, ItemLaid};
-ghost use Rattle.announce_board.specs.Steps.{AnswerStored, Applied, Archived, Released, ReleasedWith, AnswerLooked, ItemSeen, ItemTaken};
+ghost use Rattle.announce_board.specs.Steps.{AnswerStored, Applied, Archived, Changed, HandedOut, Released, ReleasedWith, AnswerLooked, ItemSeen, ItemTaken};
 ghost use Rattle.desk_core.specs.declared.model.View.TheVariants.{Dealer};
 
 use crate::boxed_book::BoxedBook;
@@ -226,6 +226,20 @@ pub struct Archive;
 
 impl<S: Store<Entry<P>>, P: Part> Play<Slot<S, P>, View> for Archive {
     ghost then = { Archived };
+}
+
+/// The leader changes who waits at its Book.
+pub struct ChangeList;
+
+impl<S: Store<Entry<P>>, P: Part> Play<Slot<S, P>, View> for ChangeList {
+    ghost then = { Changed };
+}
+
+/// The pen hands out whom it has woken.
+pub struct HandOut;
+
+impl<S: Store<Entry<P>>, P: Part> Play<Slot<S, P>, View> for HandOut {
+    ghost then = { HandedOut };
 }
 
 /// The leader frees the lock.

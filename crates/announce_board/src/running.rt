@@ -4,13 +4,13 @@ ghost use Rattle.pq_book.specs.Book.{AllHaveRoom};
 ghost use Rattle.announce_board.specs.Allowed.{AsMove, AsLook, DraftAllowedBy, PostAllowedBy, LockReadAllowedBy, TryAllowedBy};
 ghost use Rattle.announce_board.specs.Allowed.{MailReadAllowedBy, ItemReadAllowedBy, ItemLaidAllowedBy, AnswerAllowedBy};
 ghost use Rattle.announce_board.specs.Allowed.{ReleaseAllowedBy, ReleaseWithAllowedBy, LookAllowedBy, SeeAllowedBy, TakeAllowedBy, ApplyAllowedBy};
-ghost use Rattle.announce_board.specs.Allowed.{ArchiveAllowedBy};
+ghost use Rattle.announce_board.specs.Allowed.{ArchiveAllowedBy, ChangeAllowedBy, HandOutAllowedBy};
 ghost use Rattle.announce_board.specs.Running.{TablesAreLinearized, TablesForcePositions};
 
 use desk_core::laws::{
     law_archiving, law_desk_runs, law_each_step_keeps_the_rule, law_lines_are_beyond,
-    law_looks_are_within, law_pens_know, law_positions_are_forced, law_reached_desks, law_times,
-    law_words_show_the_desk,
+    law_looks_are_within, law_nobody_sleeps_beside_an_item, law_pens_know,
+    law_positions_are_forced, law_reached_desks, law_times, law_words_show_the_desk,
 };
 use leftist_heap::Store;
 use pq_book::Entry;
@@ -19,7 +19,8 @@ use pq_types::laws::law_words_differ;
 
 /// Whatever threads have done with a desk over such a store: it is at the end of a run of the desk's machine, and
 /// linearizable (Herlihy and Wing 1990) as that is, in the order of its journal, in which looks have their places too. Its limits
-/// are those of the opening, but for the lines that were said in that run to be archived. A step
+/// are those of the opening, but for the lines that were said in that run to be archived. Whenever the Book is at home, no
+/// thread sleeps beside an item that it could take, unless one that could was woken and has not come back. A step
 /// of a pen can give it no other positions in the history than the next ones.
 pub fn law_running_desks_are_linearizable<S: Store<Entry<P>>, P: Part>()
     ensures linearized { TablesAreLinearized P.wide (AllHaveRoom S.room) }
@@ -29,6 +30,7 @@ pub fn law_running_desks_are_linearizable<S: Store<Entry<P>>, P: Part>()
     law_times();
     law_positions_are_forced();
     law_archiving();
+    law_nobody_sleeps_beside_an_item();
 }
 
 /// Each step that a call takes at the table of a desk, whatever state of the table it finds, is the step of the desk's
@@ -45,6 +47,8 @@ pub fn law_steps_are_moves<S: Store<Entry<P>>, P: Part>()
     ensures answer { AnswerAllowedBy AsMove P.wide (AllHaveRoom S.room) }
     ensures apply { ApplyAllowedBy AsMove P.wide (AllHaveRoom S.room) }
     ensures archive { ArchiveAllowedBy AsMove P.wide (AllHaveRoom S.room) }
+    ensures change { ChangeAllowedBy AsMove P.wide (AllHaveRoom S.room) }
+    ensures hand_out { HandOutAllowedBy AsMove P.wide (AllHaveRoom S.room) }
     ensures release { ReleaseAllowedBy AsMove P.wide (AllHaveRoom S.room) }
     ensures release_looks { ReleaseAllowedBy AsLook P.wide (AllHaveRoom S.room) }
     ensures release_with { ReleaseWithAllowedBy AsMove P.wide (AllHaveRoom S.room) }
@@ -60,4 +64,5 @@ pub fn law_steps_are_moves<S: Store<Entry<P>>, P: Part>()
     law_desk_runs();
     law_reached_desks();
     law_archiving();
+    law_nobody_sleeps_beside_an_item();
 }

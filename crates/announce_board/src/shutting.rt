@@ -8,15 +8,17 @@ ghost use Rattle.pq_types.specs.Operation.{Shuts};
 ghost use Rattle.desk_core.specs.declared.model.View.TheVariants.{Holder};
 ghost use Rattle.desk_core.specs.Knows.{NoneAbove};
 ghost use Rattle.desk_core.specs.Layout.{lock_at};
-ghost use Rattle.desk_core.specs.Pen.{IsIdle, after_release_by, book_in_hand, limits_in_hand};
+ghost use Rattle.desk_core.specs.Pen.{IsIdle, after_release_by, book_in_hand, limits_in_hand, newly_woken};
 ghost use Rattle.announce_board.specs.Asking.{IsAnswerBy, IsAboveAll, IsFullFor};
 ghost use Rattle.announce_board.specs.Slots.{out};
-ghost use Rattle.announce_board.specs.Steps.{pen_at};
+ghost use Rattle.announce_board.specs.Waking.{IsMaskOf};
+ghost use Rattle.announce_board.specs.Steps.{pen_at, book_by};
 ghost use Rattle.announce_board.specs.Tokens.{IsLeadOf, is_idle};
 
 use crate::boxed_book::BoxedBook;
 use crate::desk::Desk;
 use crate::laws::law_steps_are_allowed;
+use crate::locking::drop_slot;
 use crate::rule::{Board, BoardSeat, ReleaseWith, Slot};
 use crate::tokens::{Lead, Pen};
 use crate::words::LOCK;
@@ -32,7 +34,7 @@ fn put_home_shut<S: Store<Entry<P>>, P: Part>(
     place: u16,
     serial: u64,
     book: BoxedBook<S, P>,
-) -> Answer<Item<P>>
+) -> (Answer<Item<P>>, u64)
     requires here { seat.old.table_id ≡ board.now.table_id }
     requires is { seat.old.me.0 ≡ Holder (pen_at seat.old.me) }
     requires lock { lock_at < board.now.table_id.words }
@@ -46,21 +48,23 @@ fn put_home_shut<S: Store<Entry<P>>, P: Part>(
     requires used { NoneAbove (pen_at seat.old.me).place (pen_at seat.old.me).posts (pen_at seat.old.me).hand }
     requires book { book ≡ book_in_hand (pen_at seat.old.me) }
     ensures table { seat.new.table_id ≡ seat.old.table_id }
-    ensures may { MayDo (limits_in_hand (pen_at seat.old.me)) (pen_at seat.old.me).hand Shuts result }
-    ensures answers { IsAnswerBy (pen_at seat.old.me).room Shuts result }
-    ensures behind { (number : ℕ) (reply : Reply) → result ≡ Entered number reply → IsAboveAll number (pen_at seat.old.me).mine }
-    ensures full { result ≡ Answer.BookFull → IsFullFor (pen_at seat.new.me) }
-    ensures barred { IsFullFor (pen_at seat.old.me) → (number : ℕ) (reply : Reply) → result ≢ Entered number reply }
-    ensures memory { result ≢ Answer.NoMemory }
-    ensures after { (now : ℕ) × (seat.new.me ≡ (Holder (after_release_by (pen_at seat.old.me) Shuts result now), [])) }
+    ensures may { MayDo (limits_in_hand (pen_at seat.old.me)) (pen_at seat.old.me).hand Shuts result.0 }
+    ensures answers { IsAnswerBy (pen_at seat.old.me).room Shuts result.0 }
+    ensures behind { (number : ℕ) (reply : Reply) → result.0 ≡ Entered number reply → IsAboveAll number (pen_at seat.old.me).mine }
+    ensures full { result.0 ≡ Answer.BookFull → IsFullFor (pen_at seat.new.me) }
+    ensures barred { IsFullFor (pen_at seat.old.me) → (number : ℕ) (reply : Reply) → result.0 ≢ Entered number reply }
+    ensures memory { result.0 ≢ Answer.NoMemory }
+    ensures wakes { IsMaskOf result.1 (newly_woken (book_by (pen_at seat.old.me) Shuts result.0)) }
+    ensures after { (now : ℕ) × (seat.new.me ≡ (Holder (after_release_by (pen_at seat.old.me) Shuts result.0 now), [])) }
 {
     law_steps_are_allowed::<S, P>();
     law_calls_are_lines();
     let mut book = book;
     let answer = book.boxed.apply_shut(place, serial);
-    drop(board.exchange(seat, 0, Slot::with(book)));
+    let (book, wakes) = book.settled();
+    drop_slot(board.exchange(seat, 0, Slot::with(book)));
     board.store::<ReleaseWith>(seat, LOCK, 0);
-    answer
+    (answer, wakes)
 }
 
 impl<S: Store<Entry<P>>, P: Part> Desk<S, P> {
@@ -85,8 +89,15 @@ impl<S: Store<Entry<P>>, P: Part> Desk<S, P> {
     {
         let serial = pen.posts + 1;
         let book = lead.into_boxed();
-        let answer = put_home_shut(&self.table.shared, &mut pen.seat, pen.place, serial, book);
+        let (answer, wakes) = put_home_shut(
+            &self.table.shared,
+            &mut pen.seat,
+            pen.place,
+            serial,
+            book,
+        );
         pen.posts = serial;
+        pen.wakes |= wakes;
         answer
     }
 }

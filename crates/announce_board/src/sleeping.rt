@@ -114,6 +114,7 @@ fn wake_up<S: Store<Entry<P>>, P: Part>(
         place,
         posts: 0,
         idle: true,
+        wakes: 0,
     }
 }
 

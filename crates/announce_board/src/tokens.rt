@@ -4,10 +4,14 @@ ghost use Rattle.pq_book.specs.Pages.{page_of};
 ghost use Rattle.pq_book.specs.Peak.{IsPeak};
 ghost use Rattle.pq_types.specs.History.{left, is_shut};
 ghost use Rattle.leftist_heap.specs.Store.{first_of};
+ghost use Rattle.wait_list.specs.Settled.{is_watched};
+ghost use Rattle.announce_board.specs.Slots.{terms_of};
 ghost use Rattle.announce_board.specs.Tokens.{is_idle};
+ghost use Rattle.announce_board.specs.Waking.{owes_any};
 
 use crate::boxed_book::BoxedBook;
 use crate::rule::BoardSeat;
+use crate::terms::Terms;
 use leftist_heap::Store;
 use pq_book::{Book, Entry, LinesError};
 use pq_types::{Item, Line, Part};
@@ -15,14 +19,15 @@ use std::alloc::{Allocator, Global};
 use std::marker::Model;
 use std::snapshot::Snapshot;
 
-/// The right to post at one place of a desk. It goes from thread to thread. A contract sees of it
-/// its desk's table, and what it has done and seen.
+/// The right to post at one place of a desk. It goes from thread to thread. It keeps the numbers of those whom its releases have
+/// woken, as a mask, until it hands them out. A contract sees of it its desk's table, and what it has done and seen.
 #[derive(Drop)]
 pub struct Pen<S: Store<Entry<P>>, P: Part = u32> {
     pub(crate) seat: BoardSeat<S, P>,
     pub(crate) place: u16,
     pub(crate) posts: u64,
     pub(crate) idle: bool,
+    pub(crate) wakes: u64,
 }
 
 impl<S: Store<Entry<P>>, P: Part> Model for Pen<S, P> {
@@ -33,7 +38,7 @@ impl<S: Store<Entry<P>>, P: Part> Model for Pen<S, P> {
 
     ghost view = { λ p. record { table = p.seat.table_id; state = pen_at p.seat.me } };
 
-    ghost invariant = { λ p. IsPen p.seat.table_id p.seat.me p.place p.posts p.idle };
+    ghost invariant = { λ p. IsPen p.seat.table_id p.seat.me p.place p.posts p.idle p.wakes };
 }
 
 /// The Book of a desk, in the hand of the pen that leads. It has no `Drop`: whoever has won the
@@ -90,6 +95,21 @@ impl<S: Store<Entry<P>>, P: Part> Lead<S, P> {
         self.book.boxed.is_shut()
     }
 
+    /// The terms of the Book, as they are now.
+    pub fn terms(&self) -> Terms
+        ensures { result ≡ terms_of self.now.book }
+    {
+        self.book.terms()
+    }
+
+    /// Whether an item of this priority is taken when it is due: by a thread that was woken, or by one that takes what is due and
+    /// sleeps until then at most.
+    pub fn is_watched(&self, priority: u64) -> bool
+        ensures { result ≡ is_watched priority self.now.book.waiters }
+    {
+        self.book.boxed.is_watched(priority)
+    }
+
     /// Copies the lines of the journal behind the first so many, which the archive has already, to its
     /// end, as `Book::lines_from`: `Forgotten` where the first of them is, else `NoMemory` where memory
     /// for them was refused. The archive is as it was then.
@@ -144,5 +164,13 @@ impl<S: Store<Entry<P>>, P: Part> Pen<S, P> {
         ensures { result ≡ is_idle self.now.state.standing }
     {
         self.idle
+    }
+
+    /// Whether its releases have woken somebody whose number it has not handed out.
+    #[inline(always)]
+    pub fn owes_wakes(&self) -> bool
+        ensures { result ≡ owes_any self.now.state.owed }
+    {
+        self.wakes != 0
     }
 }

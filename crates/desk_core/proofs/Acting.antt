@@ -5,7 +5,7 @@ use Rattle.pq_types.specs.Item.{Item}
 use Rattle.pq_types.specs.declared.control.Control.{Control}
 use Rattle.pq_types.specs.Control.{posted, answered}
 use Rattle.desk_core.specs.Desk.{Desk, Has}
-use Rattle.desk_core.specs.Steps.{Drafts, Posts, Tries, Reads, ReadsItem, LaysItem, Answers, Applies, Archives, Releases, ReleasesBy, Looks, SeesItem, TakesItem}
+use Rattle.desk_core.specs.Steps.{Drafts, Posts, Tries, Reads, ReadsItem, LaysItem, Answers, Applies, Archives, Changes, HandsOut, Releases, ReleasesBy, Looks, SeesItem, TakesItem}
 use Rattle.desk_core.specs.Acting.{OneStore, in_lock, in_control, in_item, OneActs, EachStepIsOnePens}
 use Rattle.desk_core.specs.declared.model.PenState.{PenState}
 use Rattle.desk_core.specs.declared.model.View.{View}
@@ -55,6 +55,8 @@ each_step_is_one_pens d d' (Answers i x) (p, due, q, a, leads, is_due, is_kind, 
     acts d d' _ i p _ a same refl refl refl (in_control due.place (refl, refl) (λ k ne. put_else d.control due.place (answered x) k ne) (λ k. refl)) refl (omega arith) refl
 each_step_is_one_pens d d' (Applies i q x) (p, a, leads, free, few, proper, may, same) = acts d d' _ i p _ a same refl refl refl (no_cell d _ refl refl) refl (omega arith) refl
 each_step_is_one_pens d d' (Archives i n) (p, a, leads, same) = acts d d' _ i p _ a same refl refl refl (no_cell d _ refl refl) refl (omega arith) refl
+each_step_is_one_pens d d' (Changes i c) (p, a, leads, same) = acts d d' _ i p _ a same refl refl refl (no_cell d _ refl refl) refl (omega arith) refl
+each_step_is_one_pens d d' (HandsOut i) (p, a, same) = acts d d' _ i p _ a same refl refl refl (no_cell d _ refl refl) refl (omega arith) refl
 each_step_is_one_pens d d' (Releases i) (p, a, leads, same) = acts d d' _ i p _ a same refl refl refl (no_cell d _ refl refl) refl (omega arith) refl
 each_step_is_one_pens d d' (ReleasesBy i q x) (p, a, leads, none, free, few, proper, may, same) = acts d d' _ i p _ a same refl refl refl (no_cell d _ refl refl) refl (omega arith) refl
 each_step_is_one_pens d d' (Looks i) (p, q, a, waits, same) = acts d d' _ i p _ a same refl refl refl (no_cell d _ refl refl) refl (omega arith) refl

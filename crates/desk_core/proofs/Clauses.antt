@@ -27,7 +27,7 @@ use Rattle.desk_core.specs.declared.model.PenState.{PenState}
 use Rattle.desk_core.specs.Calls.{call, calls_of}
 use Rattle.desk_core.specs.Pen.{IsIdle}
 use Rattle.desk_core.specs.Desk.{Desk, Has, put}
-use Rattle.desk_core.specs.Steps.{Drafts, Posts, Tries, Reads, ReadsItem, LaysItem, Answers, Applies, Archives, Releases, ReleasesBy, Looks, SeesItem, TakesItem}
+use Rattle.desk_core.specs.Steps.{Drafts, Posts, Tries, Reads, ReadsItem, LaysItem, Answers, Applies, Archives, Changes, HandsOut, Releases, ReleasesBy, Looks, SeesItem, TakesItem}
 use Rattle.desk_core.specs.Rule.{PenRule, RuleAt, Stands, fresh, idle, unanswered, entered, full, refused, barred, above_mine}
 use Rattle.desk_core.specs.Clauses.{HasNo, AnswerClause, ItemsClause, Clauses, RuleGivesClauses, EveryRunMeetsClauses, ItemsAreStored}
 use Rattle.desk_core.specs.Knows.{Knows, NoneAbove, LeadersKnow, HomeIsKnown}
@@ -257,6 +257,8 @@ items_are_stored d e (ReadsItem i) place m (p, due, a, leads, is_due, push, same
 items_are_stored d e (Answers i x) place m (p, due, q, a, leads, is_due, is_kind, known, laid, may, same) = inl (ap (λ (y : Desk). y.item place) same)
 items_are_stored d e (Applies i q x) place m (p, a, leads, free, few, proper, may, same) = inl (ap (λ (y : Desk). y.item place) same)
 items_are_stored d e (Archives i n) place m (p, a, leads, same) = inl (ap (λ (y : Desk). y.item place) same)
+items_are_stored d e (Changes i c) place m (p, a, leads, same) = inl (ap (λ (y : Desk). y.item place) same)
+items_are_stored d e (HandsOut i) place m (p, a, same) = inl (ap (λ (y : Desk). y.item place) same)
 items_are_stored d e (Releases i) place m (p, a, leads, same) = inl (ap (λ (y : Desk). y.item place) same)
 items_are_stored d e (ReleasesBy i q x) place m (p, a, leads, none, free, few, proper, may, same) = inl (ap (λ (y : Desk). y.item place) same)
 items_are_stored d e (Looks i) place m (p, q, a, waits, same) = inl (ap (λ (y : Desk). y.item place) same)

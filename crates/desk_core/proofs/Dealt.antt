@@ -4,9 +4,9 @@ use Rattle.std.specs.Prelude.{if◌then◌else◌, ◌==◌}
 use mathlib.Core.Logic.{dite}
 use native.Mathlib.Decide.{ℕ_discrete}
 use Rattle.desk_core.specs.declared.model.PenState.{PenState}
-use Rattle.desk_core.specs.Pen.{after_draft, after_post, after_lead, after_miss, after_read, after_read_item, after_lay, after_answer, after_apply, after_archive, after_look, after_see, after_take}
+use Rattle.desk_core.specs.Pen.{after_draft, after_post, after_lead, after_miss, after_read, after_read_item, after_lay, after_answer, after_apply, after_archive, after_change, after_hand_out, after_look, after_see, after_take}
 use Rattle.desk_core.specs.Desk.{Desk, time, Has, with_pen}
-use Rattle.desk_core.specs.Steps.{Event, Drafts, Posts, Tries, Reads, ReadsItem, LaysItem, Answers, Applies, Archives, Releases, ReleasesBy, Looks, SeesItem, TakesItem, actor, Step}
+use Rattle.desk_core.specs.Steps.{Event, Drafts, Posts, Tries, Reads, ReadsItem, LaysItem, Answers, Applies, Archives, Changes, HandsOut, Releases, ReleasesBy, Looks, SeesItem, TakesItem, actor, Step}
 use Rattle.desk_core.specs.Rule.{MeetsRule}
 use Rattle.desk_core.specs.Leads.{InTurn, Serving, places_read, LeadersNoteWhatTheyRead}
 use Rattle.desk_core.proofs.Views.{has_here, same_pen}
@@ -44,6 +44,8 @@ notes_self d (LaysItem i x) e m (v, due, a, leading, is_due, plain, item, same) 
 notes_self d (Answers i x) e m (v, due, q, a, leading, is_due, is_kind, known, laid, may, same) turn p b leads = becomes_noted d e _ i v (after_answer v due q x) p [] a b same refl leads (λ l. l) (sym (append-nil v.dealt))
 notes_self d (Applies i q x) e m (v, a, leading, free, few, proper, may, same) turn p b leads = becomes_noted d e d i v (after_apply v q x (time d)) p [] a b same refl leads (λ l. l) (sym (append-nil v.dealt))
 notes_self d (Archives i n) e m (v, a, leading, same) turn p b leads = becomes_noted d e d i v (after_archive v n) p [] a b same refl leads (λ l. l) (sym (append-nil v.dealt))
+notes_self d (Changes i c) e m (v, a, leading, same) turn p b leads = becomes_noted d e d i v (after_change v c) p [] a b same refl leads (λ l. l) (sym (append-nil v.dealt))
+notes_self d (HandsOut i) e m (v, a, same) turn p b leads = becomes_noted d e d i v (after_hand_out v) p [] a b same refl leads (λ l. l) (sym (append-nil v.dealt))
 notes_self d (Releases i) e m step turn p b leads = absurd (turn refl)
 notes_self d (ReleasesBy i q x) e m step turn p b leads = absurd (turn refl)
 notes_self d (Looks i) e m (v, q, a, waits, same) turn p b leads = becomes_noted d e d i v (after_look v q (d.control v.place) (time d)) p [] a b same refl leads (λ l. l) (sym (append-nil v.dealt))
@@ -61,6 +63,8 @@ none_read seat (LaysItem i x) ne = refl
 none_read seat (Answers i a) ne = refl
 none_read seat (Applies i q a) ne = refl
 none_read seat (Archives i n) ne = refl
+none_read seat (Changes i c) ne = refl
+none_read seat (HandsOut i) ne = refl
 none_read seat (Releases i) ne = refl
 none_read seat (ReleasesBy i q a) ne = refl
 none_read seat (Looks i) ne = refl
@@ -90,6 +94,8 @@ read_first seat (LaysItem i x) es = refl
 read_first seat (Answers i a) es = refl
 read_first seat (Applies i q a) es = refl
 read_first seat (Archives i n) es = refl
+read_first seat (Changes i c) es = refl
+read_first seat (HandsOut i) es = refl
 read_first seat (Releases i) es = refl
 read_first seat (ReleasesBy i q a) es = refl
 read_first seat (Looks i) es = refl

@@ -17,12 +17,12 @@ use Rattle.pq_types.specs.Operation.{Asked}
 use Rattle.desk_core.specs.Pen.{IsKept, limits_in_hand}
 use Rattle.desk_core.specs.Desk.{Desk, Has}
 use Rattle.desk_core.specs.Rule.{MeetsRule}
-use Rattle.desk_core.specs.Keeping.{DraftKeeps, PostKeeps, LeadKeeps, MissKeeps, ReadKeeps, ReadItemKeeps, LayItemKeeps, AnswerKeeps, ApplyKeeps, ArchiveKeeps, ReleaseKeeps, ReleaseByKeeps, LookKeeps, SeeItemKeeps, TakeItemKeeps, PensAreSeated, IsNew, DueIsNew}
+use Rattle.desk_core.specs.Keeping.{DraftKeeps, PostKeeps, LeadKeeps, MissKeeps, ReadKeeps, ReadItemKeeps, LayItemKeeps, AnswerKeeps, ApplyKeeps, ArchiveKeeps, ChangeKeeps, HandOutKeeps, ReleaseKeeps, ReleaseByKeeps, LookKeeps, SeeItemKeeps, TakeItemKeeps, PensAreSeated, IsNew, DueIsNew}
 use Rattle.desk_core.proofs.Loose.{MayTellOf, loosely}
 use Rattle.desk_core.proofs.Records.{kept_carries, same_request}
 use Rattle.desk_core.proofs.Journals.{QueueLaws}
 use Rattle.desk_core.proofs.Views.{same_pen}
-use Rattle.desk_core.proofs.StepFacts.{not_both_locks, draft_keeps, post_keeps, lead_keeps, miss_keeps, read_keeps, read_item_keeps, lay_keeps, answer_keeps, apply_keeps, archive_keeps, release_keeps, release_by_keeps, look_keeps, see_keeps, take_keeps, poster, hand_below}
+use Rattle.desk_core.proofs.StepFacts.{not_both_locks, draft_keeps, post_keeps, lead_keeps, miss_keeps, read_keeps, read_item_keeps, lay_keeps, answer_keeps, apply_keeps, archive_keeps, change_keeps, hand_out_keeps, release_keeps, release_by_keeps, look_keeps, see_keeps, take_keeps, poster, hand_below}
 
 pub draft : DraftKeeps
 draft d i p m a x free = (m.0, m.1, draft_keeps d m.0 m.1 m.2 i p a x free)
@@ -52,6 +52,12 @@ answer laws d i p m a due q x is_due is_kind known laid may = (_, m.1, answer_ke
 
 pub apply : QueueLaws → ApplyKeeps
 apply laws d i p m a q x now leads free few proper may = (_, m.1, apply_keeps d m.0 m.1 m.2 i p a now laws q x leads free few proper may)
+
+pub hand_out : HandOutKeeps
+hand_out d i p m a = (m.0, m.1, hand_out_keeps d m.0 m.1 m.2 i p a)
+
+pub change : ChangeKeeps
+change d i p m a c leads = (m.0, m.1, change_keeps d m.0 m.1 m.2 i p a c)
 
 pub archive : ArchiveKeeps
 archive d i p m a n leads = (m.0, m.1, archive_keeps d m.0 m.1 m.2 i p a n)

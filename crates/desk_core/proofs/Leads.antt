@@ -11,9 +11,9 @@ use Rattle.pq_types.specs.Control.{is_posted}
 use Rattle.desk_core.specs.declared.model.Due.{Due}
 use Rattle.desk_core.specs.declared.model.PenState.{PenState}
 use Rattle.desk_core.specs.declared.model.View.TheVariants.{Holder}
-use Rattle.desk_core.specs.Pen.{due_at, with_known, after_draft, after_post, after_miss, after_read_item, after_lay, after_apply, after_archive, after_look, after_see, after_take}
+use Rattle.desk_core.specs.Pen.{due_at, with_known, after_draft, after_post, after_miss, after_read_item, after_lay, after_apply, after_archive, after_change, after_hand_out, after_look, after_see, after_take}
 use Rattle.desk_core.specs.Desk.{Desk, time, Has}
-use Rattle.desk_core.specs.Steps.{Event, Drafts, Posts, Tries, Reads, ReadsItem, LaysItem, Answers, Applies, Archives, Releases, ReleasesBy, Looks, SeesItem, TakesItem, actor, Step}
+use Rattle.desk_core.specs.Steps.{Event, Drafts, Posts, Tries, Reads, ReadsItem, LaysItem, Answers, Applies, Archives, Changes, HandsOut, Releases, ReleasesBy, Looks, SeesItem, TakesItem, actor, Step}
 use Rattle.desk_core.specs.Rule.{MeetsRule}
 use Rattle.desk_core.specs.Leads.{InTurn, Serving, places_read}
 use Rattle.desk_core.proofs.Journals.{QueueLaws}
@@ -57,6 +57,8 @@ now_or_later seat (LaysItem i x) es place h = inl h
 now_or_later seat (Answers i a) es place h = inl h
 now_or_later seat (Applies i q a) es place h = inl h
 now_or_later seat (Archives i n) es place h = inl h
+now_or_later seat (Changes i c) es place h = inl h
+now_or_later seat (HandsOut i) es place h = inl h
 now_or_later seat (Releases i) es place h = inl h
 now_or_later seat (ReleasesBy i q a) es place h = inl h
 now_or_later seat (Looks i) es place h = inl h
@@ -109,6 +111,8 @@ module _ (place : ℕ) (Before After : Desk → Type 0) where
   owes_self d (Answers i x) e t m step turn o h = inr (t.answered d e x m step h o)
   owes_self d (Applies i q x) e t m (p, a, leads, free, few, proper, may, same) turn o h = inl (owes_after d e i place o p (after_apply p q x (time d)) a (ap (λ (y : Desk). y.views) same) refl)
   owes_self d (Archives i n) e t m (p, a, leads, same) turn o h = inl (owes_after d e i place o p (after_archive p n) a (ap (λ (y : Desk). y.views) same) refl)
+  owes_self d (Changes i c) e t m (p, a, leads, same) turn o h = inl (owes_after d e i place o p (after_change p c) a (ap (λ (y : Desk). y.views) same) refl)
+  owes_self d (HandsOut i) e t m (p, a, same) turn o h = inl (owes_after d e i place o p (after_hand_out p) a (ap (λ (y : Desk). y.views) same) refl)
   owes_self d (Releases i) e t m step turn o h = absurd (turn refl)
   owes_self d (ReleasesBy i q x) e t m step turn o h = absurd (turn refl)
   owes_self d (Looks i) e t m (p, q, a, waits, same) turn o h = inl (owes_after d e i place o p (after_look p q (d.control p.place) (time d)) a (ap (λ (y : Desk). y.views) same) refl)

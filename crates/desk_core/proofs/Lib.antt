@@ -38,4 +38,6 @@ pub mod Looking
 pub mod WorkedLooks
 pub mod Shut
 pub mod Loose
+pub mod Held
 pub mod Archiving
+pub mod Waiters

@@ -17,9 +17,9 @@ use Rattle.pq_types.specs.History.{line_of, journal_by, journal_after}
 use Rattle.desk_core.specs.Calls.{call, calls_of, gained}
 use Rattle.desk_core.specs.CallLines.{IsLineOf}
 use Rattle.desk_core.specs.Clauses.{HasNo}
-use Rattle.desk_core.specs.Pen.{IsIdle, told_by, standing_told, after_draft, after_post, after_lead, after_miss, after_read, after_read_item, after_lay, after_answer, after_release, after_release_by, after_look, after_see, after_take, after_apply, after_archive}
+use Rattle.desk_core.specs.Pen.{IsIdle, told_by, standing_told, after_draft, after_post, after_lead, after_miss, after_read, after_read_item, after_lay, after_answer, after_release, after_release_by, after_look, after_see, after_take, after_apply, after_archive, after_change, after_hand_out}
 use Rattle.desk_core.specs.Desk.{Desk, Has, time}
-use Rattle.desk_core.specs.Steps.{Event, Drafts, Posts, Tries, Reads, ReadsItem, LaysItem, Answers, Releases, ReleasesBy, Looks, SeesItem, TakesItem, Step, Applies, Archives}
+use Rattle.desk_core.specs.Steps.{Event, Drafts, Posts, Tries, Reads, ReadsItem, LaysItem, Answers, Releases, ReleasesBy, Looks, SeesItem, TakesItem, Step, Applies, Archives, Changes, HandsOut}
 use Rattle.desk_core.specs.Rule.{StartsWith, RuleAt, above_mine}
 use Rattle.desk_core.specs.Notes.{after_catch_up, after_writing, after_hearing}
 use Rattle.desk_core.specs.Linearizable.{Act, Begins, Ends, IsIn, Precedes, IsTrueOf, told, acts}
@@ -36,7 +36,7 @@ use Rattle.desk_core.proofs.Journals.{QueueLaws, all_weaker, get_last, lines_bel
 use Rattle.desk_core.proofs.Splits.{split_keeps, each_dealt, stays_out}
 use Rattle.desk_core.proofs.Views.{has_here, has_else, each_after, same_pen}
 use Rattle.desk_core.proofs.Stand.{barred_stands, own_bars, not_idle, full_stands, answered_stands}
-use Rattle.desk_core.proofs.StepFacts.{draft_keeps, post_keeps, lead_keeps, miss_keeps, read_keeps, read_item_keeps, lay_keeps, answer_keeps, release_keeps, release_by_keeps, look_keeps, see_keeps, take_keeps, poster, apply_keeps, archive_keeps, may_answer}
+use Rattle.desk_core.proofs.StepFacts.{draft_keeps, post_keeps, lead_keeps, miss_keeps, read_keeps, read_item_keeps, lay_keeps, answer_keeps, release_keeps, release_by_keeps, look_keeps, see_keeps, take_keeps, poster, apply_keeps, archive_keeps, change_keeps, hand_out_keeps, may_answer}
 use Rattle.desk_core.proofs.Clauses.{knows}
 use Rattle.desk_core.proofs.CallLines.{calls_are_lines}
 use Rattle.desk_core.specs.Testimonies.{after_retiring, after_sleeping, after_waking}
@@ -442,6 +442,12 @@ module _ (laws : QueueLaws) (d : Desk) (old : List Act) (journal : List Line) (a
   step_at (Archives i n) e (p, a, leads, same) =
       asks_on e i p (after_archive p n) at.chief a (ap (λ (y : Desk). y.views) same) (ap (λ (y : Desk). y.room) same) refl refl refl
       (subst (λ y. RuleAt y journal at.chief) (sym same) (archive_keeps d journal at.chief at.rule i p a n))
+  step_at (Changes i c) e (p, a, leads, same) =
+      asks_on e i p (after_change p c) at.chief a (ap (λ (y : Desk). y.views) same) (ap (λ (y : Desk). y.room) same) refl refl refl
+      (subst (λ y. RuleAt y journal at.chief) (sym same) (change_keeps d journal at.chief at.rule i p a c))
+  step_at (HandsOut i) e (p, a, same) =
+      asks_on e i p (after_hand_out p) at.chief a (ap (λ (y : Desk). y.views) same) (ap (λ (y : Desk). y.room) same) refl refl refl
+      (subst (λ y. RuleAt y journal at.chief) (sym same) (hand_out_keeps d journal at.chief at.rule i p a))
   step_at (Releases i) e (p, a, leads, same) =
       asks_on e i p (after_release p) at.chief a (ap (λ (y : Desk). y.views) same) (ap (λ (y : Desk). y.room) same) refl refl refl
       (subst (λ y. RuleAt y journal at.chief) (sym same) (release_keeps d journal at.chief at.rule i p a leads))

@@ -9,9 +9,9 @@ use Rattle.pq_types.specs.Control.{posted, answered, is_answer}
 use Rattle.pq_book.specs.Book.{Volume}
 use Rattle.desk_core.specs.declared.model.PenState.{PenState}
 use Rattle.desk_core.specs.declared.model.View.TheVariants.{Holder}
-use Rattle.desk_core.specs.Pen.{IsIdle, after_draft, after_post, after_lead, after_miss, after_read, after_read_item, after_lay, after_answer, after_apply, after_archive, after_release, after_release_by, after_look, after_see, after_take}
+use Rattle.desk_core.specs.Pen.{IsIdle, after_draft, after_post, after_lead, after_miss, after_read, after_read_item, after_lay, after_answer, after_apply, after_archive, after_change, after_hand_out, after_release, after_release_by, after_look, after_see, after_take}
 use Rattle.desk_core.specs.Desk.{Desk, time, Has, put}
-use Rattle.desk_core.specs.Steps.{Event, Drafts, Posts, Tries, Reads, ReadsItem, LaysItem, Answers, Applies, Archives, Releases, ReleasesBy, Looks, SeesItem, TakesItem, actor, Step}
+use Rattle.desk_core.specs.Steps.{Event, Drafts, Posts, Tries, Reads, ReadsItem, LaysItem, Answers, Applies, Archives, Changes, HandsOut, Releases, ReleasesBy, Looks, SeesItem, TakesItem, actor, Step}
 use Rattle.desk_core.specs.Rule.{MeetsRule}
 use Rattle.desk_core.specs.Leads.{HasPosted, IsAnswered, HasAnswer, AnswersStay}
 use Rattle.desk_core.proofs.Records.{put_else, no_post}
@@ -103,6 +103,10 @@ moves d (Applies i q x) e m (p, a, leads, free, few, proper, may, same) =
     }
 moves d (Archives i n) e m (p, a, leads, same) =
     subst (λ y. Moved d y i) (sym same) (same_controls d d.held d.item d.home i p (after_archive p n) a refl refl (λ f. f))
+moves d (Changes i c) e m (p, a, leads, same) =
+    subst (λ y. Moved d y i) (sym same) (same_controls d d.held d.item d.home i p (after_change p c) a refl refl (λ f. f))
+moves d (HandsOut i) e m (p, a, same) =
+    subst (λ y. Moved d y i) (sym same) (same_controls d d.held d.item d.home i p (after_hand_out p) a refl refl (λ f. f))
 moves d (Releases i) e m (p, a, leads, same) =
     subst (λ y. Moved d y i) (sym same) (same_controls d false d.item _ i p (after_release p) a refl refl (λ f. f))
 moves d (ReleasesBy i q x) e m (p, a, leads, none, free, few, proper, may, same) =

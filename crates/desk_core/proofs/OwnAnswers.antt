@@ -7,9 +7,9 @@ use Rattle.pq_types.specs.Asked.{Answer}
 use Rattle.pq_types.specs.declared.control.Control.{Control}
 use Rattle.pq_types.specs.Control.{answered, is_posted, is_answer}
 use Rattle.desk_core.specs.declared.model.PenState.{PenState}
-use Rattle.desk_core.specs.Pen.{IsIdle, after_draft, after_post, after_lead, after_miss, after_read, after_read_item, after_lay, after_answer, after_apply, after_archive, after_release, after_release_by, after_look, after_see, after_take}
+use Rattle.desk_core.specs.Pen.{IsIdle, after_draft, after_post, after_lead, after_miss, after_read, after_read_item, after_lay, after_answer, after_apply, after_archive, after_change, after_hand_out, after_release, after_release_by, after_look, after_see, after_take}
 use Rattle.desk_core.specs.Desk.{Desk, time, Has}
-use Rattle.desk_core.specs.Steps.{Event, Drafts, Posts, Tries, Reads, ReadsItem, LaysItem, Answers, Applies, Archives, Releases, ReleasesBy, Looks, SeesItem, TakesItem, actor, Step}
+use Rattle.desk_core.specs.Steps.{Event, Drafts, Posts, Tries, Reads, ReadsItem, LaysItem, Answers, Applies, Archives, Changes, HandsOut, Releases, ReleasesBy, Looks, SeesItem, TakesItem, actor, Step}
 use Rattle.desk_core.specs.Rule.{MeetsRule}
 use Rattle.desk_core.specs.Leads.{KnowsAnswer, AnswersStayKnown, LeadersKnowTheirAnswers}
 use Rattle.desk_core.proofs.Views.{has_here, same_pen}
@@ -84,6 +84,8 @@ knows_self d (Applies i q x) e serial m (p, a, leads, free, few, proper, may, sa
     let w = after_apply p q x (time d) in
     subst (λ y. KnowsAnswer y i serial) (sym same) (w, has_here d.views i p w a, omega (arith, le'), inl (omega (arith, le')))
 knows_self d (Archives i n) e serial m (p, a, leads, same) v b le h = knows_then d e _ i serial v p (after_archive p n) a b same (has_here d.views i p (after_archive p n) a) refl (λ f. f) (λ o. o) le h
+knows_self d (Changes i c) e serial m (p, a, leads, same) v b le h = knows_then d e _ i serial v p (after_change p c) a b same (has_here d.views i p (after_change p c) a) refl (λ f. f) (λ o. o) le h
+knows_self d (HandsOut i) e serial m (p, a, same) v b le h = knows_then d e _ i serial v p (after_hand_out p) a b same (has_here d.views i p (after_hand_out p) a) refl (λ f. f) (λ o. o) le h
 knows_self d (Releases i) e serial m (p, a, leads, same) v b le h = knows_then d e _ i serial v p (after_release p) a b same (has_here d.views i p (after_release p) a) refl (λ f. f) (λ o. o) le h
 knows_self d (ReleasesBy i q x) e serial m (p, a, leads, none, free, few, proper, may, same) v b le h =
     let le' : serial ≤ p.posts = subst (λ (y : PenState). serial ≤ y.posts) (same_pen d.views i v p b a) le in

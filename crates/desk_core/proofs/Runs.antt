@@ -11,10 +11,10 @@ use Rattle.desk_core.specs.declared.model.View.{View}
 use Rattle.desk_core.specs.declared.model.View.TheVariants.{Dealer, Holder, Note}
 use Rattle.desk_core.specs.Pen.{new_pen}
 use Rattle.desk_core.specs.Desk.{Desk, Has, time, volume, pens_from, opening, dealer_opening}
-use Rattle.desk_core.specs.Steps.{Event, Drafts, Posts, Tries, Reads, ReadsItem, LaysItem, Answers, Applies, Archives, Releases, ReleasesBy, Looks, SeesItem, TakesItem, Step, Run}
+use Rattle.desk_core.specs.Steps.{Event, Drafts, Posts, Tries, Reads, ReadsItem, LaysItem, Answers, Applies, Archives, Changes, HandsOut, Releases, ReleasesBy, Looks, SeesItem, TakesItem, Step, Run}
 use Rattle.desk_core.specs.Rule.{PenRule, fresh, MeetsRule, OpeningsMeetRule, EveryRunMeetsRule, EveryStepKeepsRule}
 use Rattle.desk_core.proofs.Journals.{QueueLaws}
-use Rattle.desk_core.proofs.StepFacts.{draft_keeps, post_keeps, lead_keeps, miss_keeps, read_keeps, read_item_keeps, lay_keeps, answer_keeps, apply_keeps, archive_keeps, release_keeps, release_by_keeps, look_keeps, see_keeps, take_keeps}
+use Rattle.desk_core.proofs.StepFacts.{draft_keeps, post_keeps, lead_keeps, miss_keeps, read_keeps, read_item_keeps, lay_keeps, answer_keeps, apply_keeps, archive_keeps, change_keeps, hand_out_keeps, release_keeps, release_by_keeps, look_keeps, see_keeps, take_keeps}
 
 step_keeps : QueueLaws → (d : Desk) (x : Event) (e : Desk) → MeetsRule d → Step d x e → MeetsRule e
 step_keeps laws d (Drafts i x) e m (p, a, free, item, same) = subst MeetsRule (sym same) (m.0, m.1, draft_keeps d m.0 m.1 m.2 i p a x free)
@@ -32,6 +32,8 @@ step_keeps laws d (Answers i x) e m (p, due, q, a, leads, is_due, is_kind, known
 step_keeps laws d (Applies i q x) e m (p, a, leads, free, few, proper, may, same) =
     subst MeetsRule (sym same) (_, m.1, apply_keeps d m.0 m.1 m.2 i p a (time d) laws q x leads free few proper may)
 step_keeps laws d (Archives i n) e m (p, a, leads, same) = subst MeetsRule (sym same) (m.0, m.1, archive_keeps d m.0 m.1 m.2 i p a n)
+step_keeps laws d (Changes i c) e m (p, a, leads, same) = subst MeetsRule (sym same) (m.0, m.1, change_keeps d m.0 m.1 m.2 i p a c)
+step_keeps laws d (HandsOut i) e m (p, a, same) = subst MeetsRule (sym same) (m.0, m.1, hand_out_keeps d m.0 m.1 m.2 i p a)
 step_keeps laws d (Releases i) e m (p, a, leads, same) = subst MeetsRule (sym same) (m.0, m.1, release_keeps d m.0 m.1 m.2 i p a leads)
 step_keeps laws d (ReleasesBy i q x) e m (p, a, leads, none, free, few, proper, may, same) =
     subst MeetsRule (sym same) (_, m.1, release_by_keeps d m.0 m.1 m.2 i p a (time d) laws q x leads none free few proper may)

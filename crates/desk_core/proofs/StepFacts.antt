@@ -22,6 +22,8 @@ use Rattle.pq_types.specs.declared.journal.TheConstants.{GREATEST_NUMBER}
 use Rattle.pq_types.specs.Queue.{IsProperRequestOf}
 use Rattle.pq_types.specs.Control.{kind_of, request_item, answer_item, answer_with, posted, answered, Carries, is_posted, is_answer}
 use Rattle.pq_types.specs.History.{journal_by, journal_after, MayDo, MayAnswer}
+use Rattle.wait_list.specs.Waiters.{Change}
+use Rattle.pq_book.specs.Stock.{settled_book}
 use Rattle.pq_book.specs.Book.{Volume}
 use Rattle.desk_core.specs.declared.model.Call.{Call}
 use Rattle.desk_core.specs.declared.model.Standing.{Standing}
@@ -29,7 +31,7 @@ use Rattle.desk_core.specs.declared.model.Standing.TheVariants.{Idle, Waiting}
 use Rattle.desk_core.specs.declared.model.Due.{Due}
 use Rattle.desk_core.specs.declared.model.PenState.{PenState}
 use Rattle.desk_core.specs.Calls.{calls_of, gained}
-use Rattle.desk_core.specs.Pen.{IsIdle, IsKept, after_draft, after_post, after_lead, after_miss, due_at, after_read, with_known, after_read_item, after_lay, after_answer, after_apply, after_archive, after_release, after_release_by, book_with, book_in_hand, limits_in_hand, told_by, standing_told, mine_told, full_told, after_look, after_see, after_take}
+use Rattle.desk_core.specs.Pen.{IsIdle, IsKept, after_draft, after_post, after_lead, after_miss, due_at, after_read, with_known, after_read_item, after_lay, after_answer, after_apply, after_archive, after_change, after_hand_out, after_release, after_release_by, book_with, book_in_hand, limits_in_hand, told_by, standing_told, mine_told, full_told, after_look, after_see, after_take}
 use Rattle.desk_core.specs.Desk.{Desk, Has, put, with_control, with_cell, locked, freed, with_pen}
 use Rattle.desk_core.specs.Rule.{PenRule, RuleAt, Stands, idle, unanswered, above_mine}
 use Rattle.desk_core.proofs.Loose.{MayTell, loosely}
@@ -263,15 +265,29 @@ module _ (d : Desk) (journal : List Line) (chief : ℕ) (r : RuleAt d journal ch
       same_cells d journal chief r i p a (after_archive p n) refl refl refl (λ due e. r.due i p a due e)
       record { told = mine.told; counted = mine.counted; stands = mine.stands; looked = mine.looked; known = mine.known; own = mine.own; blank = mine.blank; filled = mine.filled; barred = mine.barred; seen = mine.seen }
 
+  -- it hands out whom it has woken
+  pub hand_out_keeps : RuleAt (with_pen d i (after_hand_out p)) journal chief
+  hand_out_keeps =
+      let mine = r.pens i p a in
+      same_cells d journal chief r i p a (after_hand_out p) refl refl refl (λ due e. r.due i p a due e)
+      record { told = mine.told; counted = mine.counted; stands = mine.stands; looked = mine.looked; known = mine.known; own = mine.own; blank = mine.blank; filled = mine.filled; barred = mine.barred; seen = mine.seen }
+
+  -- it changes who waits
+  pub change_keeps : (c : Change) → RuleAt (with_pen d i (after_change p c)) journal chief
+  change_keeps c =
+      let mine = r.pens i p a in
+      same_cells d journal chief r i p a (after_change p c) refl refl refl (λ due e. r.due i p a due e)
+      record { told = mine.told; counted = mine.counted; stands = mine.stands; looked = mine.looked; known = mine.known; own = mine.own; blank = mine.blank; filled = mine.filled; barred = mine.barred; seen = mine.seen }
+
   -- it releases the lock
   pub release_keeps : p.leading ≡ true → RuleAt (with_pen (freed d (book_in_hand p)) i (after_release p)) journal chief
   release_keeps leads =
       let mine = r.pens i p a in
       let t = r.led i p a leads in
-      keeps d journal chief r i p a false d.control d.item (Some (book_in_hand p)) journal chief (after_release p) record {
+      keeps d journal chief r i p a false d.control d.item (Some (settled_book (book_in_hand p))) journal chief (after_release p) record {
         place = refl;
         owned = r.seated.owned;
-        lock = inl (refl, record { book = book_in_hand p; is = refl; room_is = mine.told; journal_is = t.2 });
+        lock = inl (refl, record { book = settled_book (book_in_hand p); is = refl; room_is = mine.told; journal_is = t.2 });
         led = λ l. absurd (cc l);
         led_others = λ j q ne b l. absurd (ne ((r.led j q b l).0 ∙ sym t.0));
         due = λ due e. absurd (cc e);
@@ -361,10 +377,10 @@ module _ (d : Desk) (journal : List Line) (chief : ℕ) (r : RuleAt d journal ch
       let js = journal_by journal k s q x in
       let hand = journal_by p.hand k s q x in
       let same : hand ≡ js = ap (λ h. journal_by h k s q x) t.2 in
-      keeps d journal chief r i p a false d.control d.item (Some (book_with p hand)) js chief (after_release_by p q x now) record {
+      keeps d journal chief r i p a false d.control d.item (Some (settled_book (book_with p hand))) js chief (after_release_by p q x now) record {
         place = refl;
         owned = r.seated.owned;
-        lock = inl (refl, record { book = book_with p hand; is = refl; room_is = mine.told; journal_is = same });
+        lock = inl (refl, record { book = settled_book (book_with p hand); is = refl; room_is = mine.told; journal_is = same });
         led = λ l. absurd (cc l);
         led_others = λ j v ne b l. absurd (ne ((r.led j v b l).0 ∙ sym t.0));
         due = λ due e. absurd (let f : None ≡ Some due = sym none ∙ e in cc);

@@ -6,9 +6,9 @@ use lib.ListN.{get_elem?}
 use Rattle.pq_types.specs.Asked.{Request}
 use Rattle.pq_types.specs.Asked.{Answer}
 use Rattle.pq_types.specs.Asked.{Line}
-use Rattle.desk_core.specs.Pen.{IsIdle, told_by, standing_told, after_draft, after_post, after_lead, after_miss, after_read, after_read_item, after_lay, after_answer, after_apply, after_archive, after_release, after_release_by, after_look, after_see, after_take}
+use Rattle.desk_core.specs.Pen.{IsIdle, told_by, standing_told, after_draft, after_post, after_lead, after_miss, after_read, after_read_item, after_lay, after_answer, after_apply, after_archive, after_change, after_hand_out, after_release, after_release_by, after_look, after_see, after_take}
 use Rattle.desk_core.specs.Desk.{Desk, time, Has, put}
-use Rattle.desk_core.specs.Steps.{Event, Drafts, Posts, Tries, Reads, ReadsItem, LaysItem, Answers, Applies, Archives, Releases, ReleasesBy, Looks, SeesItem, TakesItem, Step}
+use Rattle.desk_core.specs.Steps.{Event, Drafts, Posts, Tries, Reads, ReadsItem, LaysItem, Answers, Applies, Archives, Changes, HandsOut, Releases, ReleasesBy, Looks, SeesItem, TakesItem, Step}
 use Rattle.desk_core.specs.Rule.{MeetsRule}
 use Rattle.desk_core.specs.Notes.{after_catch_up, after_writing, after_hearing}
 use Rattle.desk_core.specs.Linearizable.{Act, TakeTurns, told, acts}
@@ -176,6 +176,10 @@ module _ (d : Desk) (rule : MeetsRule d) (last : ℕ → ℕ) (open_at : ℕ →
       )
   turn_step (Archives i n) e (p, a, leads, same) next =
       stays e i p (after_archive p n) a (ap (λ (y : Desk). y.views) same) refl refl refl next
+  turn_step (Changes i c) e (p, a, leads, same) next =
+      stays e i p (after_change p c) a (ap (λ (y : Desk). y.views) same) refl refl refl next
+  turn_step (HandsOut i) e (p, a, same) next =
+      stays e i p (after_hand_out p) a (ap (λ (y : Desk). y.views) same) refl refl refl next
   turn_step (Releases i) e (p, a, leads, same) next =
       stays e i p (after_release p) a (ap (λ (y : Desk). y.views) same) refl refl refl next
   turn_step (ReleasesBy i q x) e (p, a, leads, none, free, few, proper, may, same) next =

@@ -26,12 +26,12 @@ use Rattle.desk_core.specs.declared.model.Standing.TheVariants.{Waiting}
 use Rattle.desk_core.specs.declared.model.Due.{Due}
 use Rattle.desk_core.specs.declared.model.Word.TheVariants as word
 use Rattle.desk_core.specs.declared.model.PenState.{PenState}
-use Rattle.desk_core.specs.Pen.{due_at, told_by, standing_told, mine_told, after_draft, after_post, after_lead, after_miss, after_read, after_read_item, after_lay, after_answer, after_apply, after_archive, after_release, limits_in_hand, after_release_by, after_look, after_see, after_take}
+use Rattle.desk_core.specs.Pen.{due_at, told_by, standing_told, mine_told, after_draft, after_post, after_lead, after_miss, after_read, after_read_item, after_lay, after_answer, after_apply, after_archive, after_change, after_hand_out, after_release, limits_in_hand, after_release_by, after_look, after_see, after_take}
 use Rattle.desk_core.specs.Calls.{gained}
 use Rattle.desk_core.specs.Desk.{Desk, time, Has, with_pen}
-use Rattle.desk_core.specs.Steps.{Event, actor, Drafts, Posts, Tries, Reads, ReadsItem, LaysItem, Answers, Applies, Archives, Releases, ReleasesBy, Looks, SeesItem, TakesItem, Step}
+use Rattle.desk_core.specs.Steps.{Event, actor, Drafts, Posts, Tries, Reads, ReadsItem, LaysItem, Answers, Applies, Archives, Changes, HandsOut, Releases, ReleasesBy, Looks, SeesItem, TakesItem, Step}
 use Rattle.desk_core.specs.Rule.{MeetsRule, above_mine}
-use Rattle.desk_core.specs.Tells.{SameAsker, AfterDraft, AfterPost, AfterTry, AfterRead, AfterReadItem, AfterLay, AfterAnswer, AfterApply, AfterArchive, AfterRelease, AfterReleaseBy, AfterLook, AfterSee, AfterTake, Acted, DraftTells, PostTells, TryTells, ReadTells, ReadItemTells, LayItemTells, AnswerTells, ApplyTells, ArchiveTells, ReleaseTells, ReleaseByTells, LookTells, SeeItemTells, TakeItemTells}
+use Rattle.desk_core.specs.Tells.{SameAsker, AfterDraft, AfterPost, AfterTry, AfterRead, AfterReadItem, AfterLay, AfterAnswer, AfterApply, AfterArchive, AfterChange, AfterHandOut, AfterRelease, AfterReleaseBy, AfterLook, AfterSee, AfterTake, Acted, DraftTells, PostTells, TryTells, ReadTells, ReadItemTells, LayItemTells, AnswerTells, ApplyTells, ArchiveTells, ChangeTells, HandOutTells, ReleaseTells, ReleaseByTells, LookTells, SeeItemTells, TakeItemTells}
 use Rattle.desk_core.proofs.Loose.{MayTell, loosely}
 use Rattle.desk_core.proofs.Records.{put_here}
 use Rattle.desk_core.proofs.Views.{has_here}
@@ -50,6 +50,8 @@ After (LaysItem seat x) d d' p p' = AfterLay d d' x p p'
 After (Answers seat answer) d d' p p' = AfterAnswer d d' answer p p'
 After (Applies seat request answer) d d' p p' = AfterApply d d' request answer p p'
 After (Archives seat lines) d d' p p' = AfterArchive d d' lines p p'
+After (Changes seat change) d d' p p' = AfterChange d d' change p p'
+After (HandsOut seat) d d' p p' = AfterHandOut d d' p p'
 After (Releases seat) d d' p p' = AfterRelease d d' p p'
 After (ReleasesBy seat operation answer) d d' p p' = AfterReleaseBy d d' operation answer p p'
 After (Looks seat) d d' p p' = AfterLook d d' p p'
@@ -401,6 +403,39 @@ steps_tell d e (Archives i n) m (p, a, leads, same) =
         home = refl;
       },
     )
+steps_tell d e (Changes i c) m (p, a, leads, same) =
+    let w = after_change p c in
+    subst (Told (Changes i c) d) (sym same) (
+      p,
+      w,
+      a,
+      has_here d.views i p w a,
+      record {
+        book = refl;
+        lead = record { leading = refl; hand = refl; dealt = refl; due = refl; known = refl };
+        asker = record { posts = refl; standing = refl; mine = refl };
+        own = refl;
+        held = refl;
+        home = refl;
+      },
+    )
+steps_tell d e (HandsOut i) m (p, a, same) =
+    let w = after_hand_out p in
+    subst (Told (HandsOut i) d) (sym same) (
+      p,
+      w,
+      a,
+      has_here d.views i p w a,
+      record {
+        owed = refl;
+        book = refl;
+        lead = record { leading = refl; hand = refl; dealt = refl; due = refl; known = refl };
+        asker = record { posts = refl; standing = refl; mine = refl };
+        own = refl;
+        held = refl;
+        home = refl;
+      },
+    )
 steps_tell d e (Releases i) m (p, a, leads, same) =
     let w = after_release p in
     subst (Told (Releases i) d) (sym same) (
@@ -413,6 +448,7 @@ steps_tell d e (Releases i) m (p, a, leads, same) =
         held = refl;
         known = refl;
         home = refl;
+        owed = refl;
         dealt = refl;
         due = refl;
         own = refl;
@@ -431,6 +467,7 @@ steps_tell d e (ReleasesBy i q x) m (p, a, leads, none, free, few, proper, may, 
         held = refl;
         known = refl;
         home = refl;
+        owed = refl;
         may = may;
         full = when_full d.room p.hand q x (may_here d i p m a q x may);
         shut = when_shut d.room p.hand q x (may_here d i p m a q x may);
@@ -480,6 +517,12 @@ answer_tells d d' seat answer m step = steps_tell d d' (Answers seat answer) m s
 
 pub apply_tells : ApplyTells
 apply_tells d d' seat request answer m step = steps_tell d d' (Applies seat request answer) m step
+
+pub hand_out_tells : HandOutTells
+hand_out_tells d d' seat m step = steps_tell d d' (HandsOut seat) m step
+
+pub change_tells : ChangeTells
+change_tells d d' seat change m step = steps_tell d d' (Changes seat change) m step
 
 pub archive_tells : ArchiveTells
 archive_tells d d' seat lines m step = steps_tell d d' (Archives seat lines) m step

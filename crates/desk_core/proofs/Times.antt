@@ -17,9 +17,9 @@ use Rattle.desk_core.specs.declared.model.Call.{Call}
 use Rattle.desk_core.proofs.CallLines.{calls_are_lines}
 use Rattle.desk_core.proofs.Clauses.{knows, clauses_hold}
 use Rattle.desk_core.proofs.Reached.{reached_meet}
-use Rattle.desk_core.specs.Pen.{new_pen, told_by, ends_told, after_draft, after_post, after_lead, after_miss, after_read, after_read_item, after_lay, after_answer, after_release, after_release_by, after_look, after_see, after_take, after_apply, after_archive}
+use Rattle.desk_core.specs.Pen.{new_pen, told_by, ends_told, after_draft, after_post, after_lead, after_miss, after_read, after_read_item, after_lay, after_answer, after_release, after_release_by, after_look, after_see, after_take, after_apply, after_archive, after_change, after_hand_out}
 use Rattle.desk_core.specs.Desk.{Desk, Has, acts_in, acts_number, time, dealer_opening}
-use Rattle.desk_core.specs.Steps.{Event, Drafts, Posts, Tries, Reads, ReadsItem, LaysItem, Answers, Applies, Archives, Releases, ReleasesBy, Looks, SeesItem, TakesItem, Step}
+use Rattle.desk_core.specs.Steps.{Event, Drafts, Posts, Tries, Reads, ReadsItem, LaysItem, Answers, Applies, Archives, Changes, HandsOut, Releases, ReleasesBy, Looks, SeesItem, TakesItem, Step}
 use Rattle.desk_core.specs.Notes.{after_catch_up, after_writing, after_hearing}
 use Rattle.desk_core.specs.Linearizable.{Act, Begins, Ends, told, acts}
 use Rattle.desk_core.specs.Dealing.{Move, Deals, Takes, CatchesUp, Writes, Hears, Copies, Testifies, Retires, Sleeps, Wakes, Gathers, Happens, DealtRun, acts_of, dealt_history}
@@ -329,6 +329,8 @@ module _ (d : Desk) (old : List Act) (t : AreTimed d.views old) where
   step_timed (Applies i q x) e (p, a, leads, free, few, proper, may, same) =
       leads_to e _ (Begins p.place (p.posts + 1) (Asked q) ∷ Ends p.place (p.posts + 1) x ∷ []) same (both_timed d.views i p (after_apply p q x (time d)) old (Asked q) x a t refl refl refl)
   step_timed (Archives i n) e (p, a, leads, same) = leads_to e _ [] same (quiet d.views i p (after_archive p n) old a t refl refl refl)
+  step_timed (Changes i c) e (p, a, leads, same) = leads_to e _ [] same (quiet d.views i p (after_change p c) old a t refl refl refl)
+  step_timed (HandsOut i) e (p, a, same) = leads_to e _ [] same (quiet d.views i p (after_hand_out p) old a t refl refl refl)
   step_timed (Releases i) e (p, a, leads, same) = leads_to e _ [] same (quiet d.views i p (after_release p) old a t refl refl refl)
   step_timed (ReleasesBy i q x) e (p, a, leads, none, free, few, proper, may, same) =
       leads_to e _ (Begins p.place (p.posts + 1) q ∷ Ends p.place (p.posts + 1) x ∷ []) same (both_timed d.views i p (after_release_by p q x (time d)) old q x a t refl refl refl)

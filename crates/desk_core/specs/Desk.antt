@@ -11,6 +11,7 @@ use Rattle.pq_types.specs.Asked.{Line}
 use Rattle.pq_types.specs.Item.{item}
 use Rattle.pq_types.specs.History.{Limits}
 use Rattle.pq_book.specs.Book.{Volume, limits}
+use Rattle.pq_book.specs.Stock.{settled_book}
 use Rattle.desk_core.specs.Pen.{new_pen}
 use Rattle.desk_core.specs.declared.model.PenState.{PenState}
 use Rattle.desk_core.specs.declared.model.View.{View}
@@ -48,9 +49,9 @@ time d = acts_number d.views
 abbrev pub Has : List View → ℕ → PenState → Type 0
 Has views seat p = get_elem? views seat ≡ some (Holder p)
 
--- the Book with these limits and this journal
+-- the Book with these limits and this journal, at which nobody waits
 abbrev pub volume : Limits → List Line → Volume
-volume l journal = record { room = l.room; bound = l.bound; allowed = l.allowed; journal = journal }
+volume l journal = record { room = l.room; bound = l.bound; allowed = l.allowed; journal = journal; waiters = [] }
 
 -- the limits of a queue without a bound that forgets
 abbrev pub plain : ℕ → Limits
@@ -79,9 +80,9 @@ with_cell d place x = record d { item = put d.item place x }
 abbrev pub locked : Desk → Desk
 locked d = record d { held = true; home = None }
 
--- the desk with the lock free, and this Book at home
+-- the desk with the lock free, and this Book at home, once it has woken whom it is to wake
 abbrev pub freed : Desk → Volume → Desk
-freed d book = record d { held = false; home = Some book }
+freed d book = record d { held = false; home = Some (settled_book book) }
 
 -- the desk with this pen at the seat: no other view changes
 abbrev pub with_pen : Desk → ℕ → PenState → Desk

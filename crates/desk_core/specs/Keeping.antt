@@ -13,11 +13,12 @@ use Rattle.pq_types.specs.declared.journal.TheConstants.{GREATEST_NUMBER}
 use Rattle.pq_types.specs.Queue.{IsProperRequestOf}
 use Rattle.pq_types.specs.Control.{kind_of, request_item, answer_item, posted, answered, is_answer}
 use Rattle.pq_types.specs.History.{journal_by, MayDo, MayAnswer}
+use Rattle.wait_list.specs.Waiters.{Change}
 use Rattle.pq_book.specs.Book.{Volume}
 use Rattle.pq_types.specs.Mail.{IsSerial, IsProperAnswerOf, IsProperControl}
 use Rattle.desk_core.specs.Pen.{IsIdle, IsKept, after_draft, after_post, after_lead, after_miss, after_read, after_read_item}
 use Rattle.desk_core.specs.Pen.{after_lay, after_answer, after_apply, after_release, after_release_by}
-use Rattle.desk_core.specs.Pen.{after_archive, after_look, after_see, after_take, book_with, book_in_hand, limits_in_hand}
+use Rattle.desk_core.specs.Pen.{after_archive, after_change, after_hand_out, after_look, after_see, after_take, book_with, book_in_hand, limits_in_hand}
 use Rattle.desk_core.specs.Desk.{Desk, Has, with_control, with_cell, locked, freed, with_pen}
 use Rattle.desk_core.specs.Rule.{MeetsRule}
 use Rattle.desk_core.specs.declared.model.Standing.TheVariants.{Idle, Waiting}
@@ -86,7 +87,15 @@ ApplyKeeps = OfEachPen (λ d seat p.
 abbrev pub ArchiveKeeps : Type 0
 ArchiveKeeps = OfEachPen (λ d seat p. (lines : ℕ) → p.leading ≡ true → MeetsRule (with_pen d seat (after_archive p lines)))
 
--- it may release
+-- it may change who waits at the Book in its hand
+abbrev pub ChangeKeeps : Type 0
+ChangeKeeps = OfEachPen (λ d seat p. (change : Change) → p.leading ≡ true → MeetsRule (with_pen d seat (after_change p change)))
+
+-- a pen may hand out the numbers that its releases have woken
+abbrev pub HandOutKeeps : Type 0
+HandOutKeeps = OfEachPen (λ d seat p. MeetsRule (with_pen d seat (after_hand_out p)))
+
+-- a leader may release
 abbrev pub ReleaseKeeps : Type 0
 ReleaseKeeps = OfEachPen (λ d seat p. p.leading ≡ true
     → MeetsRule (with_pen (freed d (book_in_hand p)) seat (after_release p)))

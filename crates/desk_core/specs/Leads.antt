@@ -4,7 +4,7 @@ use Rattle.pq_types.specs.Control.{is_answer}
 use Rattle.desk_core.specs.Pen.{IsIdle}
 use Rattle.desk_core.specs.Desk.{Desk, Has}
 use Rattle.desk_core.specs.Steps.{Event, Drafts, Posts, Tries, Reads, ReadsItem, LaysItem, Answers, Applies}
-use Rattle.desk_core.specs.Steps.{Archives, Releases, ReleasesBy, Looks, SeesItem, TakesItem, Step}
+use Rattle.desk_core.specs.Steps.{Archives, Changes, HandsOut, Releases, ReleasesBy, Looks, SeesItem, TakesItem, Step}
 use Rattle.desk_core.specs.Rule.{MeetsRule}
 use Rattle.desk_core.specs.declared.model.PenState.{PenState}
 
@@ -39,6 +39,8 @@ InTurn seat d (LaysItem who x) = Unit {0}
 InTurn seat d (Answers who answer) = Unit {0}
 InTurn seat d (Applies who request answer) = Unit {0}
 InTurn seat d (Archives who lines) = Unit {0}
+InTurn seat d (Changes who change) = Unit {0}
+InTurn seat d (HandsOut who) = Unit {0}
 InTurn seat d (Releases who) = who ≢ seat
 InTurn seat d (ReleasesBy who operation answer) = who ≢ seat
 InTurn seat d (Looks who) = Unit {0}
@@ -63,6 +65,8 @@ places_read seat (LaysItem who x ∷ es) = places_read seat es
 places_read seat (Answers who answer ∷ es) = places_read seat es
 places_read seat (Applies who request answer ∷ es) = places_read seat es
 places_read seat (Archives who lines ∷ es) = places_read seat es
+places_read seat (Changes who change ∷ es) = places_read seat es
+places_read seat (HandsOut who ∷ es) = places_read seat es
 places_read seat (Releases who ∷ es) = places_read seat es
 places_read seat (ReleasesBy who operation answer ∷ es) = places_read seat es
 places_read seat (Looks who ∷ es) = places_read seat es

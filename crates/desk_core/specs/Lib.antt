@@ -29,4 +29,5 @@ pub mod WrongSteps
 pub mod Guards
 pub mod Looking
 pub mod Archiving
+pub mod Waiters
 pub mod WorkedLooks

@@ -17,7 +17,7 @@ use Rattle.desk_core.specs.Clauses.{HasNo, LockClause}
 use Rattle.desk_core.specs.Pen.{told_by}
 use Rattle.desk_core.specs.Desk.{Desk, put, opening}
 use Rattle.desk_core.specs.Steps.{Event, Drafts, Posts, Tries, Reads, ReadsItem, LaysItem, Answers, Applies}
-use Rattle.desk_core.specs.Steps.{Archives, Releases, ReleasesBy, Looks, SeesItem, TakesItem, Step, Run}
+use Rattle.desk_core.specs.Steps.{Archives, Changes, HandsOut, Releases, ReleasesBy, Looks, SeesItem, TakesItem, Step, Run}
 use Rattle.desk_core.specs.Rule.{StartsWith}
 use Rattle.desk_core.specs.declared.model.Call.{Call}
 
@@ -48,6 +48,8 @@ acts d (Answers seat answer) d' step = []
 acts d (Applies seat request answer) d' step =
     Begins step.0.place (step.0.posts + 1) (Asked request) ∷ Ends step.0.place (step.0.posts + 1) answer ∷ []
 acts d (Archives seat lines) d' step = []
+acts d (Changes seat change) d' step = []
+acts d (HandsOut seat) d' step = []
 acts d (Releases seat) d' step = []
 acts d (ReleasesBy seat operation answer) d' step =
     Begins step.0.place (step.0.posts + 1) operation ∷ Ends step.0.place (step.0.posts + 1) answer ∷ []

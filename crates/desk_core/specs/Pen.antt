@@ -1,5 +1,5 @@
 -- A pen, and what it is after each of its steps, by what it stored or found.
-use Rattle.std.specs.Prelude.{◌≡◌, ℕ, ◌+◌, ◌==◌, max, min, if◌then◌else◌, Bool, true, false, List, [], ◌∷◌, ◌++◌, length, Option}
+use Rattle.std.specs.Prelude.{◌≡◌, ℕ, ◌+◌, ◌==◌, max, min, if◌then◌else◌, ◌&&◌, not, Bool, true, false, List, [], ◌∷◌, ◌++◌, length, Option}
 use Rattle.std.specs.Prelude.{Some, None}
 use Rattle.pq_types.specs.Item.{Item}
 use Rattle.pq_types.specs.Asked.{Request, Operation}
@@ -16,7 +16,10 @@ use Rattle.pq_types.specs.declared.control.Control.TheVariants.{Nothing, Posted,
 use Rattle.pq_types.specs.Asked.{Line}
 use Rattle.pq_types.specs.Control.{answer_with, posted, answered}
 use Rattle.pq_types.specs.History.{journal_by, journal_after, Limits}
+use Rattle.wait_list.specs.declared.waiter.Waiter.{Waiter}
+use Rattle.wait_list.specs.Waiters.{Change, changed, is_woken_at}
 use Rattle.pq_book.specs.Book.{Volume, limits}
+use Rattle.pq_book.specs.Stock.{settled_book}
 use Rattle.pq_book.specs.Pages.{page_of}
 use Rattle.desk_core.specs.Calls.{gained, gained_by}
 use Rattle.desk_core.specs.declared.model.Call.{Call}
@@ -41,6 +44,8 @@ new_pen room place =
       hand = [];
       bound = 0;
       allowed = 0;
+      waiters = [];
+      owed = [];
       dealt = [];
       known = [];
       due = None;
@@ -79,7 +84,7 @@ after_post p request now =
 
 -- the Book that a pen has in its hand, or had last, once its journal is this one
 abbrev pub book_with : PenState → List Line → Volume
-book_with p journal = record { room = p.room; bound = p.bound; allowed = p.allowed; journal = journal }
+book_with p journal = record { room = p.room; bound = p.bound; allowed = p.allowed; journal = journal; waiters = p.waiters }
 
 -- the Book in its hand
 abbrev pub book_in_hand : PenState → Volume
@@ -97,6 +102,7 @@ after_lead p book =
       hand = book.journal;
       bound = book.bound;
       allowed = book.allowed;
+      waiters = book.waiters;
       dealt = [];
       due = None;
       read = Some (word.Lock false);
@@ -155,9 +161,19 @@ after_answer p due request answer =
       steps = p.steps + 1;
     }
 
--- it has put the Book home and freed the lock
+-- the numbers of those in the second list who are woken, and were not in the first
+abbrev pub newly : List Waiter → List Waiter → List ℕ
+newly before [] = []
+newly before (w ∷ ws) = if w.is_woken && not (is_woken_at w.number before) then w.number ∷ newly before ws else newly before ws
+
+-- and of those whom a Book wakes as it goes home
+abbrev pub newly_woken : Volume → List ℕ
+newly_woken book = newly book.waiters (settled_book book).waiters
+
+-- it has put the Book home and freed the lock: it owes a wake to each whom the Book woke
 abbrev pub after_release : PenState → PenState
-after_release p = record p { leading = false; known = p.hand; due = None; steps = p.steps + 1 }
+after_release p =
+    record p { leading = false; owed = p.owed ++ newly_woken (book_in_hand p); known = p.hand; due = None; steps = p.steps + 1 }
 
 -- whether a pen was told that the journal is full, after it was told this answer
 abbrev pub told_full_by : Bool → Answer → Bool
@@ -185,6 +201,7 @@ after_release_by p operation answer now =
       mine = p.mine ++ gained_by (p.posts + 1) operation answer;
       told_full = told_full_by p.told_full answer;
       leading = false;
+      owed = p.owed ++ newly_woken (book_with p (journal_by p.hand p.place (p.posts + 1) operation answer));
       known = journal_by p.hand p.place (p.posts + 1) operation answer;
       begins = own_begins p now;
       ends = own_ends p now;
@@ -224,6 +241,14 @@ allowed_by room allowed archived = max allowed (archived + page_of room)
 abbrev pub after_archive : PenState → ℕ → PenState
 after_archive p lines =
     record p { allowed = allowed_by p.room p.allowed (min lines (length p.hand)); steps = p.steps + 1 }
+
+-- as the leader it has changed the list of those who wait at the Book in its hand
+abbrev pub after_change : PenState → Change → PenState
+after_change p change = record p { waiters = changed change p.waiters; steps = p.steps + 1 }
+
+-- it has handed out the numbers that its releases have woken
+abbrev pub after_hand_out : PenState → PenState
+after_hand_out p = record p { owed = []; steps = p.steps + 1 }
 
 -- the answer that this control tells by itself: none where it is no answer, or one whose item is
 -- still to be read

@@ -14,9 +14,10 @@ use Rattle.pq_types.specs.Item.{IsItemOf}
 use Rattle.pq_types.specs.Queue.{IsProperRequestOf}
 use Rattle.pq_types.specs.Control.{kind_of, request_item, answer_item, notice_has_item, posted, answered}
 use Rattle.pq_types.specs.History.{journal_by, MayDo, MayAnswer}
+use Rattle.wait_list.specs.Waiters.{Change}
 use Rattle.pq_book.specs.Book.{Volume}
 use Rattle.desk_core.specs.Pen.{IsIdle, IsKept, after_draft, after_post, after_lead, after_miss, after_read, after_read_item}
-use Rattle.desk_core.specs.Pen.{after_lay, after_answer, after_apply, after_archive, after_release, after_release_by, after_look}
+use Rattle.desk_core.specs.Pen.{after_lay, after_answer, after_apply, after_archive, after_change, after_hand_out, after_release, after_release_by, after_look}
 use Rattle.desk_core.specs.Pen.{after_see, after_take, book_with, book_in_hand, limits_in_hand}
 use Rattle.desk_core.specs.Desk.{Desk, Has, time, with_control, with_cell, locked, freed, with_pen}
 use Rattle.desk_core.specs.declared.model.Standing.TheVariants.{Idle, Waiting}
@@ -25,8 +26,8 @@ use Rattle.desk_core.specs.declared.model.PenState.{PenState}
 
 -- What a pen, named by its seat, may do: draft an item; post a request; try the lock; as the leader
 -- read the mail at a place, read the item of what is due, lay the item of an answer there, answer
--- it, apply a request of its own, hear that lines are archived, release the lock, alone or with an operation
--- of its own; look for its answer, and take its item. No order is preferred, and a pen may halt after any step.
+-- it, apply a request of its own, hear that lines are archived, change who waits, release the lock, alone or with an
+-- operation of its own; look for its answer, and take its item. No order is preferred, and a pen may halt after any step.
 pub data Event : Type 0 where
   Drafts : (seat : ℕ) (item : Item) → Event
   Posts : (seat : ℕ) (request : Request) → Event
@@ -37,6 +38,8 @@ pub data Event : Type 0 where
   Answers : (seat : ℕ) (answer : Answer) → Event
   Applies : (seat : ℕ) (request : Request) (answer : Answer) → Event
   Archives : (seat lines : ℕ) → Event
+  Changes : (seat : ℕ) (change : Change) → Event
+  HandsOut : (seat : ℕ) → Event
   Releases : (seat : ℕ) → Event
   ReleasesBy : (seat : ℕ) (operation : Operation) (answer : Answer) → Event
   Looks : (seat : ℕ) → Event
@@ -62,6 +65,8 @@ actor (LaysItem seat x) = seat
 actor (Answers seat answer) = seat
 actor (Applies seat request answer) = seat
 actor (Archives seat lines) = seat
+actor (Changes seat change) = seat
+actor (HandsOut seat) = seat
 actor (Releases seat) = seat
 actor (ReleasesBy seat operation answer) = seat
 actor (Looks seat) = seat
@@ -138,7 +143,18 @@ StepsArchive d seat lines d' =
     (p : PenState) × Has d.views seat p × (p.leading ≡ true)
     × (d' ≡ with_pen d seat (after_archive p lines))
 
--- The leader puts the Book in its hand home, and frees the lock.
+-- The leader changes the list of those who wait at the Book in its hand. No cell changes; it loads the lock, which it
+-- holds.
+abbrev pub StepsChange : Desk → ℕ → Change → Desk → Type 0
+StepsChange d seat change d' =
+    (p : PenState) × Has d.views seat p × (p.leading ≡ true)
+    × (d' ≡ with_pen d seat (after_change p change))
+
+-- A pen hands out the numbers that its releases have woken. No cell changes; it loads the lock.
+abbrev pub StepsHandOut : Desk → ℕ → Desk → Type 0
+StepsHandOut d seat d' = (p : PenState) × Has d.views seat p × (d' ≡ with_pen d seat (after_hand_out p))
+
+-- The leader puts the Book in its hand home, once that has woken whom it is to wake, and frees the lock.
 abbrev pub StepsRelease : Desk → ℕ → Desk → Type 0
 StepsRelease d seat d' =
     (p : PenState) × Has d.views seat p × (p.leading ≡ true)
@@ -146,7 +162,7 @@ StepsRelease d seat d' =
 
 -- A leader to which nothing is due, and which is idle and has a serial left, releases the lock with an
 -- operation of its own, answered as the Book in its hand may answer: that Book goes home with its line, if it
--- is entered.
+-- is entered, once it has woken whom it is to wake.
 abbrev pub StepsReleaseBy : Desk → ℕ → Operation → Answer → Desk → Type 0
 StepsReleaseBy d seat operation answer d' =
     (p : PenState)
@@ -190,6 +206,8 @@ Step d (LaysItem seat x) d' = StepsLayItem d seat x d'
 Step d (Answers seat answer) d' = StepsAnswer d seat answer d'
 Step d (Applies seat request answer) d' = StepsApply d seat request answer d'
 Step d (Archives seat lines) d' = StepsArchive d seat lines d'
+Step d (Changes seat change) d' = StepsChange d seat change d'
+Step d (HandsOut seat) d' = StepsHandOut d seat d'
 Step d (Releases seat) d' = StepsRelease d seat d'
 Step d (ReleasesBy seat operation answer) d' = StepsReleaseBy d seat operation answer d'
 Step d (Looks seat) d' = StepsLook d seat d'

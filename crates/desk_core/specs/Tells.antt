@@ -14,11 +14,13 @@ use Rattle.pq_types.specs.declared.control.Control.TheVariants.{Posted}
 use Rattle.pq_types.specs.Control.{answer_item, reply_item, posted, answered, is_posted, is_answer, has_item}
 use Rattle.pq_types.specs.History.{journal_by, journal_after, EndsAtShut, is_shut, MayDo, MayAnswer}
 use Rattle.desk_core.specs.Calls.{call, gained, gained_by}
+use Rattle.wait_list.specs.Waiters.{Change, changed}
+use Rattle.pq_book.specs.Stock.{with_waiters, settled_book}
 use Rattle.pq_book.specs.Pages.{page_of}
-use Rattle.desk_core.specs.Pen.{due_to, book_with, book_in_hand, limits_in_hand}
+use Rattle.desk_core.specs.Pen.{due_to, newly_woken, book_with, book_in_hand, limits_in_hand}
 use Rattle.desk_core.specs.Desk.{Desk, Has}
 use Rattle.desk_core.specs.Steps.{Drafts, Posts, Tries, Reads, ReadsItem, LaysItem, Answers, Applies}
-use Rattle.desk_core.specs.Steps.{Archives, Releases, ReleasesBy, Looks, SeesItem, TakesItem, Step}
+use Rattle.desk_core.specs.Steps.{Archives, Changes, HandsOut, Releases, ReleasesBy, Looks, SeesItem, TakesItem, Step}
 use Rattle.desk_core.specs.Rule.{MeetsRule}
 use Rattle.desk_core.specs.declared.model.Standing.TheVariants.{Idle, Waiting}
 use Rattle.desk_core.specs.declared.model.Due.{Due}
@@ -172,12 +174,33 @@ pub record AfterArchive (d d' : Desk) (lines : ℕ) (p p' : PenState) : Type 0 w
   pub held : d'.held ≡ d.held
   pub home : d'.home ≡ d.home
 
--- the lock is free, and the Book that was in hand is at home; its journal is what the pen knows
+-- The list of the Book in hand is changed so, and all else is as it was.
+pub record AfterChange (d d' : Desk) (change : Change) (p p' : PenState) : Type 0 where
+  pub book : book_in_hand p' ≡ with_waiters (book_in_hand p) (changed change p.waiters)
+  pub lead : SameLead p p'
+  pub asker : SameAsker p p'
+  pub own : p'.own ≡ p.own
+  pub held : d'.held ≡ d.held
+  pub home : d'.home ≡ d.home
+
+-- The pen owes no wake, and all else is as it was.
+pub record AfterHandOut (d d' : Desk) (p p' : PenState) : Type 0 where
+  pub owed : p'.owed ≡ []
+  pub book : book_in_hand p' ≡ book_in_hand p
+  pub lead : SameLead p p'
+  pub asker : SameAsker p p'
+  pub own : p'.own ≡ p.own
+  pub held : d'.held ≡ d.held
+  pub home : d'.home ≡ d.home
+
+-- the lock is free, and the Book that was in hand is at home, once it has woken whom it is to wake; its journal is what the
+-- pen knows
 pub record AfterRelease (d d' : Desk) (p p' : PenState) : Type 0 where
   pub leading : p'.leading ≡ false
   pub held : d'.held ≡ false
   pub known : p'.known ≡ p.hand
-  pub home : d'.home ≡ Some (book_in_hand p)
+  pub home : d'.home ≡ Some (settled_book (book_in_hand p))
+  pub owed : p'.owed ≡ p.owed ++ newly_woken (book_in_hand p)
   pub dealt : p'.dealt ≡ p.dealt
   pub due : p'.due ≡ None
   pub own : p'.own ≡ p.own
@@ -192,7 +215,8 @@ pub record AfterReleaseBy (d d' : Desk) (operation : Operation) (answer : Answer
   pub leading : p'.leading ≡ false
   pub held : d'.held ≡ false
   pub known : p'.known ≡ journal_by p.hand p.place p'.posts operation answer
-  pub home : d'.home ≡ Some (book_with p p'.known)
+  pub home : d'.home ≡ Some (settled_book (book_with p p'.known))
+  pub owed : p'.owed ≡ p.owed ++ newly_woken (book_with p p'.known)
   pub may : MayDo (limits_in_hand p) p.hand operation answer
   pub full : (answer ≡ BookFull) ↔ (length p.hand ≡ d.room)
   pub shut : (answer ≡ Refused Shut) ↔ ((length p.hand < d.room) × EndsAtShut operation × (is_shut p.hand ≡ true))
@@ -291,6 +315,13 @@ ApplyTells =
 abbrev pub ArchiveTells : Type 0
 ArchiveTells = (d d' : Desk) (seat lines : ℕ) → MeetsRule d → Step d (Archives seat lines) d'
     → Acted d d' seat (AfterArchive d d' lines)
+
+abbrev pub ChangeTells : Type 0
+ChangeTells = (d d' : Desk) (seat : ℕ) (change : Change) → MeetsRule d → Step d (Changes seat change) d'
+    → Acted d d' seat (AfterChange d d' change)
+
+abbrev pub HandOutTells : Type 0
+HandOutTells = (d d' : Desk) (seat : ℕ) → MeetsRule d → Step d (HandsOut seat) d' → Acted d d' seat (AfterHandOut d d')
 
 abbrev pub ReleaseTells : Type 0
 ReleaseTells = (d d' : Desk) (seat : ℕ) → MeetsRule d → Step d (Releases seat) d' → Acted d d' seat (AfterRelease d d')

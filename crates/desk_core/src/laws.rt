@@ -8,7 +8,7 @@ ghost use Rattle.desk_core.specs.Dealing.{EveryDealtRunIsLinearizable, DealtOrde
 ghost use Rattle.desk_core.specs.Dealing.{ReachedMeetRule, MovesReach};
 ghost use Rattle.desk_core.specs.Guards.{AskingNeedsGuards, LeadingNeedsGuards};
 ghost use Rattle.desk_core.specs.Keeping.{DraftKeeps, PostKeeps, LeadKeeps, MissKeeps, ReadKeeps, ReadItemKeeps};
-ghost use Rattle.desk_core.specs.Keeping.{LayItemKeeps, AnswerKeeps, ApplyKeeps, ArchiveKeeps, ReleaseKeeps, ReleaseByKeeps, LookKeeps};
+ghost use Rattle.desk_core.specs.Keeping.{LayItemKeeps, AnswerKeeps, ApplyKeeps, ArchiveKeeps, ChangeKeeps, HandOutKeeps, ReleaseKeeps, ReleaseByKeeps, LookKeeps};
 ghost use Rattle.desk_core.specs.Keeping.{SeeItemKeeps, TakeItemKeeps, DueIsNew, PensAreSeated};
 ghost use Rattle.desk_core.specs.Knows.{LeadersKnow, HomeIsKnown, CallsHaveReplies};
 ghost use Rattle.desk_core.specs.Layout.{LockStored, ControlStored, ItemStored, Loaded};
@@ -24,15 +24,17 @@ ghost use Rattle.desk_core.specs.Needs.{OwnRequestNeeds};
 ghost use Rattle.desk_core.specs.Notes.{CatchUpKeeps, WritingKeeps, HearingKeeps, CopyingKeeps};
 ghost use Rattle.desk_core.specs.Rule.{OpeningsMeetRule, EveryStepKeepsRule, DealingKeepsRule, EveryRunMeetsRule};
 ghost use Rattle.desk_core.specs.Tells.{DraftTells, PostTells, TryTells, ReadTells, ReadItemTells, LayItemTells, AnswerTells};
-ghost use Rattle.desk_core.specs.Tells.{ReleaseTells, ReleaseByTells, LookTells, SeeItemTells, TakeItemTells, ApplyTells, ArchiveTells};
+ghost use Rattle.desk_core.specs.Tells.{ReleaseTells, ReleaseByTells, LookTells, SeeItemTells, TakeItemTells, ApplyTells, ArchiveTells, ChangeTells, HandOutTells};
 ghost use Rattle.desk_core.specs.Positions.{PositionsAreForced};
 ghost use Rattle.desk_core.specs.Times.{EveryDealtRunIsTimed, EveryDealtRunIsWhole, TimesOrderCalls};
+ghost use Rattle.desk_core.specs.Waiters.{NobodySleepsBesideAnItem, EveryRunHasWaiters, MovesKeepWaiters};
 ghost use Rattle.desk_core.specs.Witnessed.{TestimoniesAreTrue, LinearizedFollowTime, RefusedStandNowhere};
 ghost use Rattle.desk_core.specs.WorkedHistories.{ComingOut, Overtaking, Together, StaleIsRefused};
 ghost use Rattle.desk_core.specs.WorkedLooks.{LooksBetween};
 ghost use Rattle.desk_core.specs.Worked.{ThreePens, HalfWritten, FullJournal, OwnRequests};
 
 use pq_types::laws::{law_items_stay_in_range, law_one_more_line, law_shut, law_words_differ};
+use wait_list::laws::{law_same_waiters, law_settled};
 
 /// In every run of the desk's steps, in whatever order the pens take them: the rule of the desk
 /// holds between any two steps, and whatever desk meets it meets each of its plain clauses. Both
@@ -68,6 +70,8 @@ pub fn law_each_step_keeps_the_rule()
     ensures answer { AnswerKeeps }
     ensures apply { ApplyKeeps }
     ensures archive { ArchiveKeeps }
+    ensures change { ChangeKeeps }
+    ensures hand_out { HandOutKeeps }
     ensures release { ReleaseKeeps }
     ensures release_by { ReleaseByKeeps }
     ensures look { LookKeeps }
@@ -93,6 +97,8 @@ pub fn law_each_step_tells()
     ensures answer { AnswerTells }
     ensures apply { ApplyTells }
     ensures archive { ArchiveTells }
+    ensures change { ChangeTells }
+    ensures hand_out { HandOutTells }
     ensures release { ReleaseTells }
     ensures release_by { ReleaseByTells }
     ensures look { LookTells }
@@ -296,6 +302,21 @@ pub fn law_archiving()
     ensures rise { LimitsRise }
     ensures page { PageIsAllowed }
 {
+    law_one_more_line();
+    law_shut();
+    law_items_stay_in_range();
+}
+
+/// In every run, whenever the lock is free: the Book is at home, and no thread sleeps beside an item that it could take, unless
+/// one that could was woken and has not come back; and so with listeners, timers, alarms and producers. At home or in a
+/// combiner's hand the list has exactly whom the changes put in and did not take out, in that order. So no release can lose one.
+pub fn law_nobody_sleeps_beside_an_item()
+    ensures free { NobodySleepsBesideAnItem }
+    ensures runs { EveryRunHasWaiters }
+    ensures moves { MovesKeepWaiters }
+{
+    law_settled();
+    law_same_waiters();
     law_one_more_line();
     law_shut();
     law_items_stay_in_range();

@@ -2,6 +2,7 @@
 // make no value of these types but `Call`.
 use pq_types::{Control, Item, Kind, Line, Operation, Reply, Request};
 use std::collections::LinkedList;
+use wait_list::Waiter;
 
 /// An answer that was entered, as its asker keeps it: the journal line, from 1, the serial of the
 /// post, the operation and the reply.
@@ -76,6 +77,10 @@ pub struct PenState {
     pub bound: u64,
     /// How many lines that Book's journal may have until more are archived.
     pub allowed: u64,
+    /// Who waits at that Book.
+    pub waiters: LinkedList<Waiter>,
+    /// The numbers that its releases have woken, and that it has not handed out yet.
+    pub owed: LinkedList<u8>,
     /// The places whose mail it has read in its present or last lead, in order.
     pub dealt: LinkedList<u16>,
     /// The journal that it knows, empty at first: that of its last release, or the whole one with which it has caught

@@ -14,6 +14,7 @@ pub mod Misses
 pub mod OwnRequests
 pub mod UpTos
 pub mod TicketUses
+pub mod Settlings
 pub mod Shuttings
 pub mod Together
 pub mod Lookings
@@ -33,3 +34,4 @@ pub mod CallStepping
 pub mod Dues
 pub mod DueStepping
 pub mod ClosedHistories
+pub mod WaitStepping

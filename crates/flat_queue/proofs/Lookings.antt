@@ -22,7 +22,7 @@ use Rattle.flat_queue.specs.declared.looking.Looked.TheVariants as looked
 use Rattle.flat_queue.proofs.OwnRequests.{is_ready, IsReady}
 
 -- a member that leads, and releases with no request of its own, makes none
-releases_none : (a b c : Joined) → IsReady a b → c ≡ record b { pen = after_release b.pen } → MakesNoRequest a c
+pub releases_none : (a b c : Joined) → IsReady a b → c ≡ record b { pen = after_release b.pen } → MakesNoRequest a c
 releases_none a b c h e =
     subst (MakesNoRequest a) (sym e)
     record {

@@ -32,3 +32,4 @@ pub mod TakeSteps
 pub mod CallSteps
 pub mod Due
 pub mod DueSteps
+pub mod WaitSteps

@@ -44,6 +44,12 @@
 //!   whose stores can (`TicketStore`). `Queue::reschedule` moves it so to another priority, by one line, whose number is its new
 //!   ticket. Both wait until they have the lock, and post nothing; `Queue::carry_out_by_ticket` does so where it finds the lock
 //!   free, and wakes nobody.
+//! - `Queue::take_or_wait` and `push_or_wait` take a member's entry, by its number, out of those who wait in the list beside the heap,
+//!   look or push, and enter again where they have to wait: all under one lock, so that nothing comes between. A take enters where
+//!   its look takes nothing, as its patience says; a push where nothing but its bound refuses it. `Queue::leave` takes entries out.
+//!   Each try finds the lock free, or nothing was done.
+//! - Each release wakes whom it is to wake, as few as it may, and the member keeps their numbers: `Member::owes_wakes` says whether
+//!   there are any, and `Queue::take_wakes` hands them out, as a mask.
 //! - `Queue::count_items` counts the items under the lock, those that wait and the most that waited at once, and makes no
 //!   request. `Queue::peek` tells so which item is first, and how many lines the journal has.
 //! - `Queue::push_all` puts many items into the queue under one lock, and `Queue::pop_all_up_to` takes many out that are due
@@ -140,7 +146,9 @@ pub mod time_source;
 pub mod times;
 mod until_end;
 pub mod up_to;
+pub mod wait_steps;
 pub mod waiting;
+mod waking;
 
 pub use announce_board::{Note, Testimony};
 pub use batches::{Batch, MOST_BATCH, Popped};
@@ -167,3 +175,4 @@ pub use taking::Awaited;
 pub use time_source::TimeSource;
 pub use times::Times;
 pub use up_to::UpTo;
+pub use wait_steps::{Entry, Patience, PushedOr, RoomWait};

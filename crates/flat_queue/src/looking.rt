@@ -70,7 +70,7 @@ impl<S: Store<Entry<P>>, P: Part> Queue<S, P> {
 }
 
 // What the leader leaves there, where it makes no request; `None` where it is to pop.
-fn left_there<S: Store<Entry<P>>, P: Part>(
+pub(crate) fn left_there<S: Store<Entry<P>>, P: Part>(
     lead: &Lead<S, P>,
     room: u64,
     wanted: Wanted,
@@ -133,7 +133,7 @@ fn is_wanted(wanted: Wanted, priority: u64) -> bool
 }
 
 // What a look comes to that made a pop, which was so answered.
-fn looked_by<P: Part>(answer: Answer<Item<P>>) -> Looked<Item<P>>
+pub(crate) fn looked_by<P: Part>(answer: Answer<Item<P>>) -> Looked<Item<P>>
     ensures { result ≡ looked_by answer }
 {
     match answer {

@@ -1,5 +1,5 @@
 -- How many items each beginning of a journal leaves, as lines come; and that it heeds its shut line.
-use Rattle.std.proofs.Common.{Bool, ◌≡◌, ℕ, zero, suc, ◌⊎◌, inl, inr, ◌+◌, ◌<◌, ◌≤◌, true, false, List, [], ◌∷◌, ◌++◌, length, map, length-append, take, refl, sym, ◌∙◌, ap, subst, arith}
+use Rattle.std.proofs.Common.{Bool, ◌≡◌, ℕ, zero, suc, ◌⊎◌, inl, inr, ◌+◌, ◌<◌, ◌≤◌, true, false, List, [], ◌∷◌, ◌++◌, length, length-append, take, refl, sym, ap, subst, arith}
 use Rattle.std.specs.Prelude.{◌==◌, if◌then◌else◌, Option, Some, None}
 use Rattle.std.proofs.Math.Seq.{take-length}
 use Rattle.std.proofs.lemmas.List.{length-map, take-append-le, take_all}
@@ -10,7 +10,7 @@ use Rattle.pq_types.specs.declared.request.Request.TheVariants.{Push, Pop, Least
 use Rattle.pq_types.specs.declared.answer.Answer.TheVariants.{Entered, BookFull, NoMemory, Refused}
 use Rattle.pq_types.specs.Operation.{Asked, ByTicket, Shuts, Remove, Move}
 use Rattle.pq_types.specs.Entry.{Entry, entry, item_of, item_at, entry_not_above, with_entry, without, with_moved, entries_after}
-use Rattle.pq_types.specs.History.{line_of, entries_of, left, Adds, HeedsShut, IsAdmitted, journal_by, MayDo}
+use Rattle.pq_types.specs.History.{line_of, entries_of, left, Adds, HeedsShut, journal_by, MayDo}
 use Rattle.pq_types.specs.Laws.{StillHeeds}
 use Rattle.pq_book.specs.Book.{limits}
 use Rattle.pq_book.specs.Peak.{KeepsBound}

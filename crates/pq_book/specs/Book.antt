@@ -8,17 +8,19 @@ use Rattle.pq_types.specs.Asked.{Line}
 use Rattle.pq_types.specs.declared.journal.TheConstants.{MOST_LINES, GREATEST_NUMBER}
 use Rattle.pq_types.specs.Queue.{IsProperReplyOf}
 use Rattle.pq_types.specs.History.{last_serial, journal_after, Limits, MayAnswer}
+use Rattle.wait_list.specs.declared.waiter.Waiter.{Waiter}
 use Rattle.leftist_heap.specs.declared.store.TheConstants.{MOST_ITEMS}
 use Rattle.pq_book.specs.declared.book.BookError.{BookError}
 use Rattle.pq_book.specs.declared.book.BookError.TheVariants.{LinesOutOfRange, NoMemory as OutOfMemory}
 
 -- how many lines a Book has room for, how many items pushes may leave in it, how many lines its journal may have until more
--- are archived, and its journal
+-- are archived, its journal, and who waits
 pub record Volume : Type 0 where
   pub room : ℕ
   pub bound : ℕ
   pub allowed : ℕ
   pub journal : List Line
+  pub waiters : List Waiter
 
 -- the limits of these three numbers
 abbrev pub limits : ℕ → ℕ → ℕ → Limits
@@ -31,9 +33,9 @@ limits_of book = limits book.room book.bound book.allowed
 abbrev pub IsPlain : Volume → Type 0
 IsPlain book = (book.bound ≡ book.room + 1) × (book.allowed ≡ book.room)
 
--- the Book keeps its constants
+-- the Book keeps its constants, and who waits
 abbrev pub KeepsTerms : Volume → Volume → Type 0
-KeepsTerms old new = (new.room ≡ old.room) × (new.bound ≡ old.bound)
+KeepsTerms old new = (new.room ≡ old.room) × (new.bound ≡ old.bound) × (new.waiters ≡ old.waiters)
 
 -- a number of lines that a short journal may have room for, which is kept whole
 abbrev pub IsRoom : ℕ → Type 0

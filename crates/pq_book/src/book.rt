@@ -26,9 +26,11 @@ use pq_types::{
 use std::alloc::{AllocError, Allocator};
 use std::marker::Model;
 use thiserror::Error;
+use wait_list::WaitList;
 
 pub mod by_ticket;
 pub mod shutting;
+pub mod waiters;
 
 /// Why there is no Book.
 #[derive(Clone, Copy, Debug, PartialEq, Eq, Error)]
@@ -57,8 +59,8 @@ impl BookError {
 /// what the journal leaves on the empty queue, each item with the journal line that put it in; each line
 /// has the reply of that queue, and the serials of each place rise strictly. No push stands after a shut,
 /// and no beginning of the journal leaves more items than the bound. In memory is a page of the journal:
-/// all lines of one with room for 1,048,576 at most, else the last 65,536. A contract sees the limits and
-/// the whole journal.
+/// all lines of one with room for 1,048,576 at most, else the last 65,536. Beside it stands the list of
+/// those who wait. A contract sees the limits, the whole journal and that list.
 #[derive(Drop)]
 pub struct Book<S: Store<Entry<P>>, A: Allocator, P: Part = u32> {
     store: S,
@@ -72,6 +74,7 @@ pub struct Book<S: Store<Entry<P>>, A: Allocator, P: Part = u32> {
     push_limit: u64,
     shut: bool,
     peak: u64,
+    waiters: WaitList,
 }
 
 impl<S: Store<Entry<P>>, A: Allocator, P: Part> Model for Book<S, A, P> {
@@ -84,7 +87,7 @@ impl<S: Store<Entry<P>>, A: Allocator, P: Part> Model for Book<S, A, P> {
 
     ghost Value = { Volume };
 
-    ghost view = { λ b. record { room = b.room; bound = b.bound; allowed = b.allowed; journal = all b.journal } };
+    ghost view = { λ b. record { room = b.room; bound = b.bound; allowed = b.allowed; journal = all b.journal; waiters = b.waiters } };
 
     ghost invariant = { λ b. Kept P.wide (S.content b.store) (all b.journal) (limits b.room b.bound b.allowed)
         × IsPaged b.room b.journal × IsPeak (all b.journal) b.peak × (b.shut ≡ is_shut (all b.journal))
@@ -98,6 +101,7 @@ impl<S: Store<Entry<P>>, A: Allocator, P: Part> Book<S, A, P> {
         requires { S.content store ≡ [] }
         ensures ok { IfOk result (λ book. (book.room ≡ lines) × (book.journal ≡ [])) }
         ensures plain { IfOk result IsPlain }
+        ensures waiters { IfOk result (λ book. book.waiters ≡ []) }
         ensures in_range { IfOk result (λ _. IsRoom lines) }
         ensures out_of_range { IsErrOf result BookError.LinesOutOfRange ↔ (¬ (IsRoom lines)) }
     {
@@ -115,6 +119,7 @@ impl<S: Store<Entry<P>>, A: Allocator, P: Part> Book<S, A, P> {
         requires { S.content store ≡ [] }
         ensures ok { IfOk result (λ book. (book.room ≡ room) × (book.journal ≡ [])) }
         ensures plain { IfOk result IsPlain }
+        ensures waiters { IfOk result (λ book. book.waiters ≡ []) }
         ensures in_range { IfOk result (λ _. IsLongRoom room) }
         ensures out_of_range { IsErrOf result BookError.LinesOutOfRange ↔ (¬ (IsLongRoom room)) }
     {
@@ -133,6 +138,7 @@ impl<S: Store<Entry<P>>, A: Allocator, P: Part> Book<S, A, P> {
     ) -> Result<Self, BookError>
         requires { S.content store ≡ [] }
         ensures ok { IfOk result (λ book. (book.room ≡ room) × (book.bound ≡ bound) × (book.allowed ≡ allowed) × (book.journal ≡ [])) }
+        ensures waiters { IfOk result (λ book. book.waiters ≡ []) }
         ensures in_range { IfOk result (λ _. IsLongRoom room) }
         ensures out_of_range { IsErrOf result BookError.LinesOutOfRange ↔ (¬ (IsLongRoom room)) }
     {
@@ -152,6 +158,7 @@ impl<S: Store<Entry<P>>, A: Allocator, P: Part> Book<S, A, P> {
             push_limit: bound,
             shut: false,
             peak: 0,
+            waiters: WaitList::new(),
         })
     }
 
@@ -396,6 +403,7 @@ impl<S: Store<Entry<P>>, A: Allocator, P: Part> Book<S, A, P> {
             push_limit: _,
             shut: _,
             peak: _,
+            waiters: _,
         } = book;
         let forgotten = journal.forgotten();
         (store, forgotten, journal.into_kept())
@@ -418,6 +426,7 @@ impl<S: Store<Entry>, A: Allocator> Book<S, A> {
             push_limit: _,
             shut: _,
             peak: _,
+            waiters: _,
         } = self;
         let forgotten = journal.forgotten();
         (store, forgotten, journal.into_kept())

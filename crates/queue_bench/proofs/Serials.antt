@@ -3,7 +3,7 @@ use Rattle.std.proofs.Common.{arith, ◌≤◌, ℕ, List, Bool, true, false}
 use Rattle.std.specs.Prelude.{◌==◌, if◌then◌else◌}
 use Rattle.pq_types.specs.Asked.{Request}
 use Rattle.pq_types.specs.Asked.{Answer}
-use Rattle.pq_types.specs.declared.answer.Answer.TheVariants.{Entered, BookFull, NoMemory}
+use Rattle.pq_types.specs.declared.answer.Answer.TheVariants.{Entered, BookFull, NoMemory, Refused}
 use Rattle.pq_types.specs.Asked.{Line}
 use Rattle.pq_types.specs.History.{line, last_serial, journal_after}
 use Rattle.pq_types.specs.Laws.{SerialOfOneMore}
@@ -19,3 +19,4 @@ stays_below law place here old serial journal request (Entered number reply) bel
     omega (arith, law place journal (line here serial request reply), at_most (here == place) serial, below, up)
 stays_below law place here old serial journal request BookFull below up = omega (arith, below, up)
 stays_below law place here old serial journal request NoMemory below up = omega (arith, below, up)
+stays_below law place here old serial journal request (Refused why) below up = omega (arith, below, up)

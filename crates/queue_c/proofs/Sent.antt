@@ -14,7 +14,7 @@ use Rattle.core.specs.declared.cmp.PartialOrd as PartialOrd
 use Rattle.core.specs.contracts.clone.Clone+copy.TheImpl as clone
 use Rattle.std.specs.contracts.alloc.Global as global
 use Rattle.std.specs.contracts.impls.GlobalAllocator.TheImpl as allocator
-use Rattle.std.proofs.Crossing.{frees, send, Vec-send}
+use Rattle.std.proofs.Crossing.{frees, send, Box-send, Vec-send}
 use Rattle.std_alloc.proofs.SendSync.{lies}
 use Rattle.std.specs.contracts.prelude.U64Eq.TheImpl as wide_equivalence
 use Rattle.std.specs.contracts.prelude.U64PartialEq.TheImpl as wide_equal
@@ -41,6 +41,8 @@ use Rattle.any_heap.specs.contracts.any_heap.AnyHeap as any_heap
 use Rattle.any_heap.proofs.any_heap.AnyHeap.TheSendSync as any_heap_sent
 use Rattle.queue_c.specs.contracts.handle.Handle as handle
 use Rattle.queue_c.specs.contracts.contents.Contents as held
+use Rattle.queue_c.specs.contracts.boxed_replay.BoxedReplay as boxed_replay
+use Rattle.queue_c.specs.contracts.boxed_replay.BoxedReplay.TheInside as inside_replay
 use Rattle.queue_c.specs.contracts.journal.Journal as journal
 use Rattle.queue_c.specs.contracts.journal.Journal.TheInside as inside_journal
 
@@ -91,8 +93,14 @@ journal_sent : IsSend journal.the_row
 journal_sent = view_send inside_journal.the_row _ _ _ _ inside_journal_sent
 
 -- a replay, by what its store has; `search` finds that, where an argument `_` stays open
-replay_sent : (g : Store.Ghosts heap_row.Denot row.Denot) → IsSend (owned_row.the_field (replay_row.the_row heap_row global.the_row u64 g allocator.ghosts wide_part.ghosts wide_equal.ghosts)).row
-replay_sent g = owned.the_field_send _ (replay.the_send heap_row global.the_row u64 g allocator.ghosts wide_part.ghosts wide_equal.ghosts heap_sent send number_sent frees)
+replay_sent : (g : Store.Ghosts heap_row.Denot row.Denot) → IsSend (owned_row.the_row (replay_row.the_row heap_row global.the_row u64 g allocator.ghosts wide_part.ghosts wide_equal.ghosts))
+replay_sent g = owned.the_send _ (replay.the_send heap_row global.the_row u64 g allocator.ghosts wide_part.ghosts wide_equal.ghosts heap_sent send number_sent frees)
+
+inside_replay_sent : IsSend inside_replay.the_row
+inside_replay_sent = declared_send inside_replay.the_type (search (Box-send, replay_sent), tt)
+
+boxed_replay_sent : IsSend boxed_replay.the_row
+boxed_replay_sent = view_send inside_replay.the_row _ _ _ _ inside_replay_sent
 
 pub held_sent : IsSend held.the_row
 held_sent =
@@ -102,7 +110,7 @@ held_sent =
         (pool.the_send heap_row u64 _ wide_part.ghosts (clone.ghosts u64) wide_equivalence.ghosts wide_equal.ghosts heap_sent number_sent, tt),
         (
           (shared.the_send heap_row u64 _ wide_part.ghosts (clone.ghosts u64) wide_equivalence.ghosts wide_equal.ghosts heap_sent number_sent, (number_sent, tt)),
-          ((journal_sent, tt), ((search (replay_sent), tt), tt)),
+          ((journal_sent, tt), ((boxed_replay_sent, tt), tt)),
         ),
       ),
     )

@@ -45,7 +45,7 @@ replay_held Vacant = None
 replay_held (Queue opened) = None
 replay_held (Member member number) = None
 replay_held (Journal told) = None
-replay_held (Replay replay) = Some replay.value
+replay_held (Replay replay) = Some replay
 
 -- the same of what is behind a handle
 abbrev pub queue_in : Option Contents → Option Pooled

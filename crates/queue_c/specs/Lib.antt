@@ -18,3 +18,4 @@ pub mod Threads
 pub mod Tickets
 pub mod Shutting
 pub mod Values
+pub mod WaitSteps

@@ -15,7 +15,7 @@ use Rattle.queue_c.specs.declared.contents.Contents.TheVariants as holds
 
 -- an opening of a replay, which has read no line
 pub record OpenReplayAnswers (before : Option Contents) (code : ℕ) (after : Option Contents) : Type 0 where
-  pub opened : code ≡ OK → after ≡ Some (holds.Replay (record { value = record { journal = [] } }))
+  pub opened : code ≡ OK → after ≡ Some (holds.Replay (record { journal = [] }))
   pub refused : code ≢ OK → after ≡ before
   pub codes : IsOneOf code (OK ∷ NO_MEMORY ∷ NO_HANDLE ∷ [])
   pub not_empty : (code ≡ NO_HANDLE) ↔ IsSome before

@@ -18,6 +18,12 @@ pub const POSTS_SPENT: u32 = 11;
 /// Done, and the whole answer is told.
 pub const TOLD: u32 = 14;
 
+/// Done, and one waits under the number that was given.
+pub const ENTERED: u32 = 15;
+
+/// So it does, and comes back by itself when the first item is due.
+pub const WATCHES: u32 = 16;
+
 /// Members share the queue still.
 pub const MEMBERS_LEFT: u32 = 40;
 
@@ -33,7 +39,7 @@ pub const WAITS: u32 = 43;
 /// The member has no request out.
 pub const IDLE: u32 = 44;
 
-/// There is no such store or request.
+/// There is no such store, request, number or way to wait.
 pub const UNKNOWN: u32 = 45;
 
 /// The journal has no such line.

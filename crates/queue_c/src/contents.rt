@@ -2,11 +2,12 @@
 ghost use Rattle.std.specs.Prelude.{◌≡◌, true};
 ghost use Rattle.std.specs.Option.{MatchOption};
 
+use crate::boxed_replay::BoxedReplay;
 use crate::journal::Journal;
 use any_heap::AnyHeap;
 use pq_book::Entry;
 use queue_pool::{Pool, SharedHandle};
-use queue_texts::{Owned, Replay};
+use queue_texts::Replay;
 use std::alloc::Global;
 
 /// The store of a queue: a heap in an array, with the places of tickets or without.
@@ -30,7 +31,7 @@ pub enum Contents {
     /// A member, and the number under which it joined its queue.
     Member(QueueMember, u64),
     Journal(Journal),
-    Replay(Owned<JournalReplay>),
+    Replay(BoxedReplay),
 }
 
 /// What a call came to: its code, and what is then in place of what it was handed.

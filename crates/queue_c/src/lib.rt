@@ -6,6 +6,7 @@
 mod archiving;
 mod asking;
 mod batches;
+mod boxed_replay;
 mod buffers;
 mod calling;
 mod calls;
@@ -28,6 +29,5 @@ mod reading;
 mod replaying;
 mod returning;
 mod shutting;
-mod taking;
 mod tickets;
-mod waking;
+mod wait_steps;

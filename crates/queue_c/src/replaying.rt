@@ -6,25 +6,25 @@ ghost use Rattle.queue_c.specs.Replaying.{OpenReplayAnswers, LineAnswers, IsRead
 ghost use Rattle.queue_c.specs.declared.contents.Contents.TheVariants as holds;
 ghost use Rattle.queue_c.specs.declared.codes.TheConstants.{NO_HANDLE, NO_MEMORY, OK};
 
+use crate::boxed_replay::BoxedReplay;
 use crate::closing::put_closed;
 use crate::codes::{NO_HANDLE, NO_MEMORY, NOT_LAWFUL, OK};
 use crate::contents::{Contents, JournalReplay};
 use crate::handle::Handle;
 use crate::journal::Journal;
 use crate::place::{boxed, set};
-use any_heap::AnyHeap;
-use queue_texts::{Owned, Replay, ReplayError};
-use std::alloc::{AllocError, Global};
+use queue_texts::{Replay, ReplayError};
+use std::alloc::Global;
 use std::mem;
 
 // A replay of no lines, on the heap.
 fn open_boxed(alloc: Global) -> Result<Box<Contents, Global>, u32>
-    ensures opened { IfOk result (λ b. b.value ≡ holds.Replay (record { value = record { journal = [] } })) }
+    ensures opened { IfOk result (λ b. b.value ≡ holds.Replay (record { journal = [] })) }
     ensures err { IfErr result (λ code. code ≡ NO_MEMORY) }
 {
-    match Replay::new(&alloc, AnyHeap::new(alloc, true)) {
-        Ok(replay) => boxed(alloc, Contents::Replay(Owned { value: replay })),
-        Err(AllocError) => Err(NO_MEMORY),
+    match BoxedReplay::new(alloc) {
+        Ok(replay) => boxed(alloc, Contents::Replay(replay)),
+        Err(code) => Err(code),
     }
 }
 
@@ -46,10 +46,10 @@ pub extern "C" fn pq_core_replay_open(alloc: Global, replay: &mut Handle) -> u32
 }
 
 // Reads the text as the next line of the replay.
-fn read_next(replay: &mut Owned<JournalReplay>, text: &[u8]) -> u32
+fn read_next(replay: &mut BoxedReplay, text: &[u8]) -> u32
     ensures answers { LineAnswers text.now (Some (holds.Replay replay.old)) result (Some (holds.Replay replay.new)) }
 {
-    match replay.value.play_line(text) {
+    match replay.play_line(text) {
         Ok(()) => OK,
         Err(ReplayError::NoMemory) => NO_MEMORY,
         Err(ReplayError::Unlawful(_)) => NOT_LAWFUL,
@@ -98,7 +98,7 @@ fn end(held: &mut Contents) -> u32
     ensures no_replay { (result ≡ NO_HANDLE) ↔ (replay_in (Some held.old) ≡ None) }
 {
     let journal = match mem::replace(held, Contents::Vacant) {
-        Contents::Replay(replay) => read_back(replay.value),
+        Contents::Replay(replay) => read_back(replay.into_replay()),
         other => {
             set(held, other);
             return NO_HANDLE;

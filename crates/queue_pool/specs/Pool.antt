@@ -163,13 +163,3 @@ and_waiting false ms m = ms ++ m ∷ []
 abbrev pub with_member : Pooled → Joined → Pooled
 with_member p m =
     record p { idle = and_idle (is_idle m.pen.standing) p.idle m; waiting = and_waiting (is_idle m.pen.standing) p.waiting m }
-
--- The same of narrow items, which have one word.
-abbrev pub ComesOut : (before : Lists) (m : Joined) (after : Lists) → Type 0
-ComesOut = ComesOutBy 1
-
-abbrev pub NoneComes : (before after : Lists) → Type 0
-NoneComes = NoneComesBy 1
-
-abbrev pub TakesOut : Pooled → Joined → Pooled → Type 0
-TakesOut = TakesOutBy 1

@@ -11,7 +11,6 @@ use Rattle.flat_queue.specs.Limits.{most_posts}
 use Rattle.flat_queue.specs.Members.{Joined, StaysAtPlace}
 use Rattle.flat_queue.specs.Turns.{FindsLockHeld}
 use Rattle.flat_queue.specs.OwnRequest.{CarriesOutBy}
-use Rattle.flat_queue.specs.UpTo.{CarriesOutUpToBy, TellsUpTo}
 use Rattle.flat_queue.specs.Tickets.{CarriesOutByTicket, TellsFound}
 use Rattle.flat_queue.specs.Shutting.{CarriesOutShut, TellsShut}
 use Rattle.flat_queue.specs.Looking.{Looked, LooksFirstBy, FindsNext}
@@ -72,11 +71,6 @@ SeesBy words before (Err Idle) after = (is_idle before.pen.standing ≡ true) ×
 SeesBy words before (Err Waits) after =
     (is_answer before.pen.own ≡ false) × StaysAtPlace before after × LooksBy words before.pen None after.pen
 SeesBy words before (Err why) after = ⊥
-
--- The member carried the request out that the first item asked for, and this is the answer.
-abbrev pub TriesUpToBy : ℕ → ℕ → Joined → Result Answer Undone → Joined → Type 0
-TriesUpToBy words bound before tried after =
-    TriesBy (λ answer. CarriesOutUpToBy words bound before answer after × TellsUpTo bound answer) before tried after
 
 -- It carried this request out itself, and this is the answer.
 abbrev pub TriesCallBy : ℕ → Joined → Request → Result Answer Undone → Joined → Type 0
@@ -142,10 +136,3 @@ TriesPushesBy words before items tried after = TriesFreeBy (λ batch. PushesBy w
 -- and the same of pops
 abbrev pub TriesPopsBy : ℕ → ℕ → Joined → List Item → Result (Popped Item) Undone → Joined → Type 0
 TriesPopsBy words bound before items tried after = TriesFreeBy (λ popped. PopsBy words bound before items popped after) before tried after
-
--- The same of narrow items, which have one word.
-abbrev pub Sees : Joined → Result Answer Undone → Joined → Type 0
-Sees = SeesBy 1
-
-abbrev pub TriesUpTo : ℕ → Joined → Result Answer Undone → Joined → Type 0
-TriesUpTo = TriesUpToBy 1

@@ -16,7 +16,7 @@ ghost use Rattle.queue_pool.specs.Pool.{NoneComesBy, TakesOutBy, StaysPool, all_
 ghost use Rattle.queue_pool.specs.StillOpen.{IsStillOpen};
 
 use crate::shared::SharedHandle;
-use flat_queue::{EventCount, Member, Newcomer, Queue};
+use flat_queue::{Member, Newcomer, Queue};
 use leftist_heap::Store;
 use pq_book::{Book, Entry};
 use pq_types::Part;
@@ -29,7 +29,7 @@ use std::sync::Arc;
 /// came back, so that a queue has as many members at once as it was opened with ids, and not in all its
 /// life. What is in the pool is its own, as the language has it: no member is in it twice, or inside and
 /// outside at once. A pool has no lock: whoever shares it puts it behind one. It wakes nobody: whoever takes a member
-/// out, and whoever calls by it, wakes those who wait for an item, by `owed_wakes` or `wake_owed` of its `waiters`.
+/// out, and whoever calls by it, wakes the numbers that its `take_wakes` hands out.
 #[derive(Drop)]
 pub struct Pool<S: Store<Entry<P>>, P: Part = u32> {
     queue: Arc<Queue<S, P>, Global>,
@@ -283,11 +283,6 @@ impl<S: Store<Entry<P>>, P: Part> Pool<S, P> {
         })
     }
 
-    /// The event count of its queue, by which that is shut.
-    pub fn waiters(&self) -> &EventCount {
-        self.queue.waiters()
-    }
-
     /// How many comers and members are in the pool.
     pub fn inside(&self) -> usize
         ensures { result ≡ inside self.now }
@@ -306,7 +301,7 @@ impl<S: Store<Entry<P>>, P: Part> Pool<S, P> {
     /// that finds its answer now; or else the next newcomer, which joins, where all of those have looked in
     /// vain; or else the first of them, which makes a round where it finds the lock free, and so has its answer.
     /// Each comes out idle, with its own place and its own calls. Takes memory for pushes alone, in such a
-    /// round, and never waits. Such a round counts those who may be woken, and the caller wakes them.
+    /// round, and never waits. Whom such a round wakes the member's `take_wakes` hands out.
     pub fn take(&mut self) -> Result<SharedHandle<S, P>, NotTaken>
         ensures stays { StaysPool self.old self.new }
         ensures taken { IfOk result (λ m. TakesOutBy (word_number P.wide) self.old m self.new) }

@@ -10,12 +10,11 @@ ghost use Rattle.flat_queue.specs.Members.{HasRoomForAll};
 ghost use Rattle.flat_queue.specs.Memory.{HasSpareRoom};
 ghost use Rattle.flat_queue.specs.Settling.{Archives, SettlesBy};
 ghost use Rattle.flat_queue.specs.TrailSweeping.{MakesTrailRoundBy};
-ghost use Rattle.queue_pool.specs.Shared.{MayCall, UndoneBy, PostsBy, SeesBy, TriesUpToBy, TriesFirstBy, TriesPushesBy, TriesPopsBy};
+ghost use Rattle.queue_pool.specs.Shared.{MayCall, UndoneBy, PostsBy, SeesBy, TriesFirstBy, TriesPushesBy, TriesPopsBy};
 ghost use Rattle.queue_pool.specs.Shared.{TriesCallBy, TriesCountBy, TriesPeekBy, TriesTicketBy, TriesRemovalBy, TriesMoveBy, TriesShutBy};
 
 use flat_queue::{
-    ArchiveError, Batch, Counts, DueStage, EventCount, Looked, Member, Peeked, Popped, Queue,
-    Round, Wanted,
+    ArchiveError, Batch, Counts, Looked, Member, Peeked, Popped, Queue, Round, Wanted,
 };
 use leftist_heap::{Store, TicketStore};
 use pq_book::Entry;
@@ -32,7 +31,6 @@ use std::sync::Arc;
 pub struct SharedHandle<S: Store<Entry<P>>, P: Part = u32> {
     pub(crate) queue: Arc<Queue<S, P>, Global>,
     pub(crate) member: Member<S, P>,
-    pub(crate) stage: DueStage<Item<P>>,
     pub(crate) most: u64,
 }
 
@@ -76,16 +74,8 @@ impl<S: Store<Entry<P>>, P: Part> SharedHandle<S, P> {
         SharedHandle {
             queue,
             member,
-            stage: DueStage::Announces,
             most,
         }
-    }
-
-    /// The id of the comer.
-    pub fn id(&self) -> u64
-        ensures { result ≡ self.now.comer.id }
-    {
-        self.member.id()
     }
 
     /// The place at which it posts, below n(n + 1)/2 for the n comers of its queue.
@@ -103,15 +93,9 @@ impl<S: Store<Entry<P>>, P: Part> SharedHandle<S, P> {
         self.member.is_idle()
     }
 
-    /// The event count of its queue, by which it may wait for an item. Its calls count those who may be woken, and wake
-    /// nobody: whoever makes one that led does so thereafter, by `owed_wakes` or `wake_owed`.
-    pub fn waiters(&self) -> &EventCount {
-        self.queue.waiters()
-    }
-
     // Whether the last request is answered, and a serial left.
     #[inline(always)]
-    fn may_call(&self) -> Result<(), Undone>
+    pub(crate) fn may_call(&self) -> Result<(), Undone>
         ensures may { OnOk result (MayCall self.now) }
         ensures undone { IfErr result (λ why. UndoneBy why self.now self.now × (why ≢ Undone.LockHeld)) }
     {
@@ -146,22 +130,6 @@ impl<S: Store<Entry<P>>, P: Part> SharedHandle<S, P> {
         }
         let Some(answer) = self.queue.look(&mut self.member) else {
             return Err(Undone::Waits);
-        };
-        Ok(answer)
-    }
-
-    /// Takes the first item out itself where its priority is at most this one, and else tells it, where the last
-    /// request is answered, not all serials are spent, and it finds the lock free, as `Queue::pop_up_to` does: the
-    /// answer is one to a pop, or to a least where the item stays. Takes memory for the pushes of others alone, and
-    /// never waits.
-    pub fn try_pop_up_to(&mut self, priority: P) -> Result<Answer<Item<P>>, Undone>
-        ensures { TriesUpToBy (word_number P.wide) (P.number priority) self.old result self.new }
-    {
-        if let Err(why) = self.may_call() {
-            return Err(why);
-        }
-        let Some(answer) = self.queue.carry_out_up_to(&mut self.member, priority) else {
-            return Err(Undone::LockHeld);
         };
         Ok(answer)
     }
@@ -306,17 +274,15 @@ impl<S: Store<Entry<P>>, P: Part> SharedHandle<S, P> {
         self.queue.archive(&mut self.member, archived, archive)
     }
 
-    /// The member, which does not lead, and its share of the queue. It waits for no item any more.
-    pub fn into_parts(mut self) -> (Arc<Queue<S, P>, Global>, Member<S, P>)
+    /// The member, which does not lead, and its share of the queue.
+    pub fn into_parts(self) -> (Arc<Queue<S, P>, Global>, Member<S, P>)
         ensures queue { arc_value result.0 ≡ self.queue }
         ensures member { result.1 ≡ self }
         ensures led_not { result.1.pen.leading ≡ false }
     {
-        self.end_take();
         let SharedHandle {
             queue,
             member,
-            stage: _,
             most: _,
         } = self;
         (queue, member)

@@ -51,3 +51,5 @@ mod takes;
 mod tickets;
 #[cfg(test)]
 mod up_to;
+#[cfg(test)]
+mod waits;

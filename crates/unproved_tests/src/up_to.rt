@@ -1,6 +1,6 @@
 // Pops of what is due: by a shared handle, and beside a lead that is kept, where they wait and post nothing.
 use crate::common::{Heap, shared, wait_for};
-use flat_queue::{Newcomer, Queue, UpTo};
+use flat_queue::{Looked, Newcomer, Queue, UpTo, Wanted};
 use pq_types::{Answer, Item, Reply, Request};
 use queue_pool::{SharedHandle, Undone};
 use std::alloc::Global;
@@ -83,26 +83,27 @@ fn a_pop_up_to_a_bound_waits_for_the_lock_and_posts_nothing(rt: HostRuntime) -> 
     Ok(())
 }
 
-// What the tries of two members come to that share a queue with room for four lines: none while another leads.
+// What the tries of two members come to that share a queue with room for three lines: none while another leads.
 fn tries<R: Abort>(rt: &R, queue: &Queue<Heap>, handle: &mut SharedHandle<Heap>, other: Newcomer) {
-    let entered = |number, reply| Ok(Answer::Entered(number, reply));
-    assert!(rt; handle.try_call(Request::Push(FIVE)) == entered(1, Reply::Pushed));
+    let up_to_five = Wanted::UpTo(5);
+    assert!(rt; handle.try_call(Request::Push(FIVE)) == Ok(Answer::Entered(1, Reply::Pushed)));
     let mut leader = queue.enter(other);
     let lead = leader.lead().expect(rt, "the lock is free");
-    assert!(rt; handle.try_pop_up_to(5) == Err(Undone::LockHeld));
+    assert!(rt; handle.try_take_first(up_to_five) == Err(Undone::LockHeld));
     leader.release(lead);
     drop(leader);
-    assert!(rt; handle.try_pop_up_to(4) == entered(2, Reply::Least(FIVE)));
-    assert!(rt; handle.try_pop_up_to(5) == entered(3, Reply::Got(FIVE)));
-    assert!(rt; handle.try_pop_up_to(5) == entered(4, Reply::Empty));
-    assert!(rt; handle.try_pop_up_to(5) == Ok(Answer::BookFull));
+    assert!(rt; handle.try_take_first(Wanted::UpTo(4)) == Ok(Looked::Stays(FIVE)));
+    assert!(rt; handle.try_take_first(up_to_five) == Ok(Looked::Taken(2, FIVE)));
+    assert!(rt; handle.try_take_first(up_to_five) == Ok(Looked::Nothing));
+    assert!(rt; handle.try_call(Request::Pop) == Ok(Answer::Entered(3, Reply::Empty)));
+    assert!(rt; handle.try_take_first(up_to_five) == Ok(Looked::BookFull));
     assert!(rt; handle.post(Request::Pop).is_ok());
-    assert!(rt; handle.try_pop_up_to(5) == Err(Undone::Waits));
+    assert!(rt; handle.try_take_first(up_to_five) == Err(Undone::Waits));
 }
 
 #[test]
-fn a_shared_handle_tries_to_pop_up_to_a_bound(rt: HostRuntime) -> Result<(), Fail> {
-    let Ok((queue, mut newcomers)) = Queue::new(rt.alloc(), &[1, 2], 4) else {
+fn a_shared_handle_takes_the_first_item_up_to_a_bound(rt: HostRuntime) -> Result<(), Fail> {
+    let Ok((queue, mut newcomers)) = Queue::new(rt.alloc(), &[1, 2], 3) else {
         panic!(rt; "there is such a queue")
     };
     let Ok(queue) = Arc::new(rt.alloc(), queue) else {

@@ -44,14 +44,17 @@ static void has_room_for(int pushes, uint64_t most_items, uint32_t entries, pq_c
     close_and_free(queue);
 }
 
-static void the_last_that_is_awake_does_not_listen(void) {
+static void who_listens_by_its_own_holds_no_member(void) {
     const pq_options options = { 2, PQ_FORGETS, 0, 0, 0, 0, 1 };
     pq_queue *queue;
     CHECK(pq_open(&options, &queue) == PQ_OK);
     pq_member *member = joined(queue);
     CHECK(pq_push_or_listen(member, item_of(1, 2), NULL, notes_nothing, NULL) == PQ_OK);
     CHECK(pq_push_or_listen(member, item_of(1, 2), NULL, notes_nothing, NULL) == PQ_FULL);
-    CHECK(pq_push_or_listen(pq_own(queue), item_of(1, 2), NULL, notes_nothing, NULL) == PQ_ALL_JOINED);
+    CHECK(pq_push_or_listen(pq_own(queue), item_of(1, 2), NULL, notes_nothing, NULL) == PQ_FULL);
+    pq_member *other = joined(queue);
+    CHECK(pq_push_or_listen(other, item_of(1, 2), NULL, notes_nothing, NULL) == PQ_ALL_JOINED && pq_unlisten(pq_own(queue)) == 1);
+    pq_give_back(other);
     pq_give_back(member);
     close_and_free(queue);
 }
@@ -61,7 +64,7 @@ int main(void) {
     pq_queue *queue;
     CHECK(pq_open(&options, &queue) == PQ_BAD_OPTION && queue == NULL);
     is_refused_at_its_deadline();
-    the_last_that_is_awake_does_not_listen();
+    who_listens_by_its_own_holds_no_member();
     has_room_for(1, 1, 10, PQ_FULL);
     has_room_for(3, 0, 3, PQ_JOURNAL_FULL);
     has_room_for(3, UINT64_MAX, 3, PQ_JOURNAL_FULL);

@@ -1,5 +1,5 @@
-/* The last member that is awake does not listen. The system is asked for as many wakes as there are items. Who is woken for what tests/explore
-   tries; ../cpp/threads.cpp has more threads that wait than members. */
+/* The last joined member that does not wait may not listen. The system is asked for as many wakes as there are items. Who is woken for what
+   tests/explore tries; many_wait.c has more threads that wait than members. */
 #include "refused.h"
 #include "system_calls.h"
 
@@ -50,6 +50,18 @@ static void the_last_member_does_not_listen(int timer) {
     close_and_free(queue);
 }
 
+/* Another has its member meanwhile, and it makes its first call of the other queue. */
+static void who_listens_at_one_queue_calls_another(void) {
+    pq_queue *other = opened(1);
+    queue = opened(1);
+    CHECK(listens_by(pq_own(queue), -1) == PQ_EMPTY);
+    pq_give_back(joined(queue));
+    CHECK(pq_push(pq_own(other), item_of(0, 1), PQ_NOW, NULL) == PQ_OK);
+    CHECK(pq_close(queue, NULL) == PQ_MEMBERS_LEFT && pq_unlisten(pq_own(queue)) == 1);
+    close_and_free(queue);
+    close_and_free(other);
+}
+
 static void *takes_all(void *unused) {
     pq_item item;
     while (pq_take(pq_own(queue), &item, PQ_FOREVER, NULL) == PQ_OK) {
@@ -94,6 +106,7 @@ int main(void) {
     alarm(200);
     the_last_member_does_not_listen(-1);
     the_last_member_does_not_listen(timer);
+    who_listens_at_one_queue_calls_another();
     a_batch_wakes_as_many_as_it_has_items();
     CHECK(close(timer) == 0);
     return 0;

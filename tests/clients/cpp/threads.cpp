@@ -82,7 +82,7 @@ static void jobs_push_jobs() {
     for (int i = 0; i < jobs; ++i) {
         CHECK(queue.push(-i % 7, job([&, i] { CHECK(queue.push(-i % 5, job([&ends, own = std::make_unique<int>(i)] { ends(); }))); })));
     }
-    run(9, [&](std::uint32_t) {
+    run(80, [&](std::uint32_t) {
         while (auto first = queue.take()) {
             first->payload();
         }

@@ -1,6 +1,6 @@
 //! Wakers are code of the user. They may call queues, also the one that wakes, drop members and the queue, run their tasks, and panic. No
 //! call is under way meanwhile, so that none of it panics or waits for ever.
-use flatpq::{Error, Member, Options, Queue, TaskQueue};
+use flatpq::{Due, Error, Member, Options, Queue, TaskQueue};
 use std::future::Future;
 use std::panic::panic_any;
 use std::pin::Pin;
@@ -16,7 +16,7 @@ fn in_time(run: impl FnOnce() + Send + 'static) {
         run();
         ends.send(()).unwrap();
     });
-    let result = ended.recv_timeout(Duration::from_secs(30));
+    let result = ended.recv_timeout(Duration::from_secs(100));
     assert_ne!(result, Err(mpsc::RecvTimeoutError::Timeout), "it hangs");
     thread.join().unwrap();
 }
@@ -200,30 +200,30 @@ fn a_waker_drops_the_last_of_its_queue() {
 
 /// Each waker says in which thread it runs. A thread that waits in a call passes a wake on to it, and can't run it: a thread of the crate does.
 fn run_while_a_thread_waits(wakers: &[Waker], woken: &mpsc::Receiver<ThreadId>) {
-    let queue = Queue::new().unwrap();
-    let (mut first, mut second) = (queue.join().unwrap(), queue.join().unwrap());
-    let idle = waker(|| ());
-    thread::scope(|scope| {
-        let waiting = scope.spawn(|| queue.take_due());
-        for waker in wakers {
-            // The push wakes the thread and the first that listens; once more where the thread did not wait yet.
-            let runs_in = std::iter::repeat_with(|| {
-                queue.clear().unwrap();
-                waits(&mut first, &idle);
-                waits(&mut second, waker);
-                queue.push(u64::MAX - 1, 1).unwrap();
-                woken.recv_timeout(Duration::from_millis(100))
+    let queue = Options::new().most_items(1).open().unwrap();
+    let mut listening = queue.join().unwrap();
+    for waker in wakers {
+        // The thread runs it itself where it did not wait yet: then once more, with more time for that.
+        let (mut has_waited, mut patience) = (false, Duration::from_millis(10));
+        while !has_waited {
+            assert_eq!(queue.push(9, 1).map(|_| ()), Ok(()));
+            let seen = listening.take_or_listen(5, &mut Context::from_waker(waker));
+            assert_eq!(seen, Ok(Due::Later(9)));
+            has_waited = thread::scope(|scope| {
+                let waiting = scope.spawn(|| queue.push(3, 1).map(|_| ()));
+                let pushes = waiting.thread().id();
+                thread::sleep(patience);
+                assert_eq!(queue.pop(), Ok(Some((9, 1))));
+                let runs_in = woken.recv().unwrap();
+                assert!(runs_in != thread::current().id());
+                assert_eq!(waiting.join().unwrap(), Ok(()));
+                runs_in != pushes
             });
-            let runs_in = runs_in.flatten().next().unwrap();
-            assert!(runs_in != waiting.thread().id() && runs_in != thread::current().id());
-            // It may listen again: a wake of the push before may come late.
-            let _ = second.unlisten();
-            assert!(!waiting.is_finished());
+            assert!(!listening.unlisten());
+            assert_eq!(queue.clear(), Ok(1));
+            patience *= 2;
         }
-        queue.shut().unwrap();
-        assert_eq!(queue.clear(), Ok(1));
-        assert_eq!(waiting.join().unwrap(), Err(Error::Shut));
-    });
+    }
 }
 
 #[test]

@@ -1,5 +1,5 @@
 // A Book, queues and a pool of items whose parts have 64 bits.
-use flat_queue::{Called, Handle, Newcomer, Queue, UpTo};
+use flat_queue::{Called, Handle, Looked, Newcomer, Queue, UpTo, Wanted};
 use leftist_heap::{Leftist, SortedVec};
 use pq_book::{Book, BookError, Entry};
 use pq_types::{Answer, Item, Line, Operation, Reply, Request};
@@ -262,22 +262,26 @@ fn pool_of_one<R: Abort>(rt: &R, alloc: Global) -> Pool<Heap, u64> {
 #[test]
 fn a_pool_hands_out_a_member_of_a_wide_queue(rt: HostRuntime) -> Result<(), Fail> {
     let mut pool = pool_of_one(&rt, rt.alloc());
-    let entered = |number, reply| Ok(Answer::Entered(number, reply));
     let Ok(mut member) = pool.take() else {
         panic!(&rt; "it is in the pool")
     };
-    assert!(&rt; member.try_call(Request::Push(GREATEST)) == entered(1, Reply::Pushed));
+    let pushed = Answer::Entered(1, Reply::Pushed);
+    assert!(&rt; member.try_call(Request::Push(GREATEST)) == Ok(pushed));
     assert!(&rt; member.post(Request::Push(UPPER_ONE)).is_ok());
     pool.give_back(member);
     let Ok(mut member) = pool.take() else {
         panic!(&rt; "it comes out by a round of its own")
     };
-    assert!(&rt; member.try_pop_up_to(4_294_967_295) == entered(3, Reply::Least(UPPER_ONE)));
-    assert!(&rt; member.try_pop_up_to(4_294_967_296) == entered(4, Reply::Got(UPPER_ONE)));
+    assert!(&rt;
+        member.try_take_first(Wanted::UpTo(4_294_967_295)) == Ok(Looked::Stays(UPPER_ONE))
+    );
+    assert!(&rt;
+        member.try_take_first(Wanted::UpTo(4_294_967_296)) == Ok(Looked::Taken(3, UPPER_ONE))
+    );
     pool.give_back(member);
     match pool.close() {
         Ok(book) => {
-            assert!(&rt; book.len() == 4);
+            assert!(&rt; book.len() == 3);
             drop(book);
         }
         Err(StillOpen::Missing(pool)) => {

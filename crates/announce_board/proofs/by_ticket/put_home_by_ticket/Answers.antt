@@ -6,6 +6,7 @@ use Rattle.announce_board.specs.Slots.{out}
 use Rattle.announce_board.specs.Steps.{pen_at}
 use Rattle.announce_board.specs.Asking.{IsFullFor}
 use Rattle.pq_types.specs.History.{left, last_serial}
+use Rattle.pq_book.specs.Stock.{settled_book}
 use Rattle.pq_book.specs.Book.{AllHaveRoom, Volume}
 use Rattle.desk_core.specs.Pen.{limits_in_hand}
 use Rattle.announce_board.proofs.ItemSteps.{wider_operation}
@@ -22,9 +23,9 @@ store-requires g c =
     let may = in_hand (pen_at c.args.seat.now.me) c.deref_mut.result.now (ByTicket c.args.ticketed) c.apply_by_ticket-answer.result there e.answer in (
       c.exchange.ensures.0 ∙ h.here,
       h.lock,
-      release_with_owes _ _ c.law_steps_are_allowed.ensures.release_with _ _ _ _ _ c.args.seat.now.me _ c.apply_by_ticket-answer.new.self (ByTicket c.args.ticketed) c.apply_by_ticket-answer.result h.is h.leads h.due h.idle
+      release_with_owes _ _ c.law_steps_are_allowed.ensures.release_with _ _ _ _ _ c.args.seat.now.me _ c.settled-book.result.0 (ByTicket c.args.ticketed) c.apply_by_ticket-answer.result h.is h.leads h.due h.idle
           (omega (arith, h.serial, h.few)) proper may
-          (carried_out (pen_at c.args.seat.now.me) c.args.place c.args.serial c.deref_mut.result.now c.apply_by_ticket-answer.new.self (ByTicket c.args.ticketed) c.apply_by_ticket-answer.result there h.place h.serial e.terms e.allowed e.journal) (c.exchange.ensures.3 ∙ ap (λ s. (c.args.seat.now.me.0, (0, s) ∷ rest c.args.seat.now.me.1)) c.with.ensures),
+          (c.settled-book.ensures.book ∙ ap settled_book (carried_out (pen_at c.args.seat.now.me) c.args.place c.args.serial c.deref_mut.result.now c.apply_by_ticket-answer.new.self (ByTicket c.args.ticketed) c.apply_by_ticket-answer.result there h.place h.serial e.terms e.allowed e.journal)) (c.exchange.ensures.3 ∙ ap (λ s. (c.args.seat.now.me.0, (0, s) ∷ rest c.args.seat.now.me.1)) c.with.ensures),
     )
 
 pub returns-clause-after : goal.returns-clause-after
@@ -33,8 +34,8 @@ returns-clause-after g c =
     let h = c.requires in
     let there = (c.deref_mut.ensures.value ∙ c.book.view_is) ∙ h.book in
     let may = in_hand (pen_at c.args.seat.now.me) c.deref_mut.result.now (ByTicket c.args.ticketed) c.apply_by_ticket-answer.result there e.answer in
-    (released_with c.args.seat.now.me _ c.store.new.seat.me c.apply_by_ticket-answer.new.self (ByTicket c.args.ticketed) c.apply_by_ticket-answer.result h.slot may
-    (carried_out (pen_at c.args.seat.now.me) c.args.place c.args.serial c.deref_mut.result.now c.apply_by_ticket-answer.new.self (ByTicket c.args.ticketed) c.apply_by_ticket-answer.result there h.place h.serial e.terms e.allowed e.journal) (c.exchange.ensures.3 ∙ ap (λ s. (c.args.seat.now.me.0, (0, s) ∷ rest c.args.seat.now.me.1)) c.with.ensures) c.store.ensures.2).0
+    (released_with c.args.seat.now.me _ c.store.new.seat.me c.settled-book.result.0 (ByTicket c.args.ticketed) c.apply_by_ticket-answer.result h.slot may
+    (c.settled-book.ensures.book ∙ ap settled_book (carried_out (pen_at c.args.seat.now.me) c.args.place c.args.serial c.deref_mut.result.now c.apply_by_ticket-answer.new.self (ByTicket c.args.ticketed) c.apply_by_ticket-answer.result there h.place h.serial e.terms e.allowed e.journal)) (c.exchange.ensures.3 ∙ ap (λ s. (c.args.seat.now.me.0, (0, s) ∷ rest c.args.seat.now.me.1)) c.with.ensures) c.store.ensures.2).0
 
 pub returns-clause-behind : goal.returns-clause-behind
 returns-clause-behind g c =
@@ -42,8 +43,8 @@ returns-clause-behind g c =
     let h = c.requires in
     let there = (c.deref_mut.ensures.value ∙ c.book.view_is) ∙ h.book in
     let may = in_hand (pen_at c.args.seat.now.me) c.deref_mut.result.now (ByTicket c.args.ticketed) c.apply_by_ticket-answer.result there e.answer in
-    let told = released_with c.args.seat.now.me _ c.store.new.seat.me c.apply_by_ticket-answer.new.self (ByTicket c.args.ticketed) c.apply_by_ticket-answer.result h.slot may
-    (carried_out (pen_at c.args.seat.now.me) c.args.place c.args.serial c.deref_mut.result.now c.apply_by_ticket-answer.new.self (ByTicket c.args.ticketed) c.apply_by_ticket-answer.result there h.place h.serial e.terms e.allowed e.journal) (c.exchange.ensures.3 ∙ ap (λ s. (c.args.seat.now.me.0, (0, s) ∷ rest c.args.seat.now.me.1)) c.with.ensures) c.store.ensures.2 in
+    let told = released_with c.args.seat.now.me _ c.store.new.seat.me c.settled-book.result.0 (ByTicket c.args.ticketed) c.apply_by_ticket-answer.result h.slot may
+    (c.settled-book.ensures.book ∙ ap settled_book (carried_out (pen_at c.args.seat.now.me) c.args.place c.args.serial c.deref_mut.result.now c.apply_by_ticket-answer.new.self (ByTicket c.args.ticketed) c.apply_by_ticket-answer.result there h.place h.serial e.terms e.allowed e.journal)) (c.exchange.ensures.3 ∙ ap (λ s. (c.args.seat.now.me.0, (0, s) ∷ rest c.args.seat.now.me.1)) c.with.ensures) c.store.ensures.2 in
     own_behind c.law_calls_are_lines.ensures.lines (pen_at c.args.seat.now.me) (ByTicket c.args.ticketed) c.apply_by_ticket-answer.result told.1 h.idle may
 
 pub returns-clause-barred : goal.returns-clause-barred
@@ -52,8 +53,8 @@ returns-clause-barred g c =
     let h = c.requires in
     let there = (c.deref_mut.ensures.value ∙ c.book.view_is) ∙ h.book in
     let may = in_hand (pen_at c.args.seat.now.me) c.deref_mut.result.now (ByTicket c.args.ticketed) c.apply_by_ticket-answer.result there e.answer in
-    let told = released_with c.args.seat.now.me _ c.store.new.seat.me c.apply_by_ticket-answer.new.self (ByTicket c.args.ticketed) c.apply_by_ticket-answer.result h.slot may
-    (carried_out (pen_at c.args.seat.now.me) c.args.place c.args.serial c.deref_mut.result.now c.apply_by_ticket-answer.new.self (ByTicket c.args.ticketed) c.apply_by_ticket-answer.result there h.place h.serial e.terms e.allowed e.journal) (c.exchange.ensures.3 ∙ ap (λ s. (c.args.seat.now.me.0, (0, s) ∷ rest c.args.seat.now.me.1)) c.with.ensures) c.store.ensures.2 in
+    let told = released_with c.args.seat.now.me _ c.store.new.seat.me c.settled-book.result.0 (ByTicket c.args.ticketed) c.apply_by_ticket-answer.result h.slot may
+    (c.settled-book.ensures.book ∙ ap settled_book (carried_out (pen_at c.args.seat.now.me) c.args.place c.args.serial c.deref_mut.result.now c.apply_by_ticket-answer.new.self (ByTicket c.args.ticketed) c.apply_by_ticket-answer.result there h.place h.serial e.terms e.allowed e.journal)) (c.exchange.ensures.3 ∙ ap (λ s. (c.args.seat.now.me.0, (0, s) ∷ rest c.args.seat.now.me.1)) c.with.ensures) c.store.ensures.2 in
     own_barred (pen_at c.args.seat.now.me) (ByTicket c.args.ticketed) c.apply_by_ticket-answer.result told.1 may
 
 pub returns-clause-full : goal.returns-clause-full
@@ -62,8 +63,8 @@ returns-clause-full g c =
     let h = c.requires in
     let there = (c.deref_mut.ensures.value ∙ c.book.view_is) ∙ h.book in
     let may = in_hand (pen_at c.args.seat.now.me) c.deref_mut.result.now (ByTicket c.args.ticketed) c.apply_by_ticket-answer.result there e.answer in
-    let told = released_with c.args.seat.now.me _ c.store.new.seat.me c.apply_by_ticket-answer.new.self (ByTicket c.args.ticketed) c.apply_by_ticket-answer.result h.slot may
-    (carried_out (pen_at c.args.seat.now.me) c.args.place c.args.serial c.deref_mut.result.now c.apply_by_ticket-answer.new.self (ByTicket c.args.ticketed) c.apply_by_ticket-answer.result there h.place h.serial e.terms e.allowed e.journal) (c.exchange.ensures.3 ∙ ap (λ s. (c.args.seat.now.me.0, (0, s) ∷ rest c.args.seat.now.me.1)) c.with.ensures) c.store.ensures.2 in
+    let told = released_with c.args.seat.now.me _ c.store.new.seat.me c.settled-book.result.0 (ByTicket c.args.ticketed) c.apply_by_ticket-answer.result h.slot may
+    (c.settled-book.ensures.book ∙ ap settled_book (carried_out (pen_at c.args.seat.now.me) c.args.place c.args.serial c.deref_mut.result.now c.apply_by_ticket-answer.new.self (ByTicket c.args.ticketed) c.apply_by_ticket-answer.result there h.place h.serial e.terms e.allowed e.journal)) (c.exchange.ensures.3 ∙ ap (λ s. (c.args.seat.now.me.0, (0, s) ∷ rest c.args.seat.now.me.1)) c.with.ensures) c.store.ensures.2 in
     λ f. subst (λ (m : Seated). IsFullFor (pen_at m)) (sym told.0.1) (own_full (pen_at c.args.seat.now.me) (ByTicket c.args.ticketed) c.apply_by_ticket-answer.result told.0.0 f)
 
 pub returns-clause-answers : goal.returns-clause-answers

@@ -4,7 +4,7 @@ use prog.Atomic.{either}
 use Rattle.atomic_table.specs.Table.{step}
 use Rattle.pq_book.specs.Book.{AllHaveRoom}
 use Rattle.desk_core.specs.Layout.{lock_at}
-use Rattle.announce_board.specs.Steps.{Drafted, PostStored, LockRead, LockTried, MailRead, ItemRead, ItemLaid, AnswerStored, Applied, Archived, Released, ReleasedWith, AnswerLooked, ItemSeen, ItemTaken}
+use Rattle.announce_board.specs.Steps.{Drafted, PostStored, LockRead, LockTried, MailRead, ItemRead, ItemLaid, AnswerStored, Applied, Archived, Changed, HandedOut, Released, ReleasedWith, AnswerLooked, ItemSeen, ItemTaken}
 use Rattle.announce_board.proofs.Allows.{plainly}
 use Rattle.announce_board.proofs.laws.law_steps_are_allowed.Goals as goal
 
@@ -22,6 +22,8 @@ returns g c =
       answer = λ room terms places slots id m is i w due q x a b d e f h o u v. plainly g.P.Part.wide (AllHaveRoom g.S.Store.room) room terms places slots id m i (λ _. w) (λ _. AnswerStored (step slots i w 0 none) m w) (moves.answer room terms places slots id m is i w due q x a b d e f h o u v);
       apply = λ room terms places slots id m is others q x a b d e f h. plainly g.P.Part.wide (AllHaveRoom g.S.Store.room) room terms places slots id m lock_at (λ n. n) (Applied (step slots lock_at 0 0 none) m) (moves.apply room terms places slots id m is others q x a b d e f h);
       archive = λ room terms places slots id m is others n a b. plainly g.P.Part.wide (AllHaveRoom g.S.Store.room) room terms places slots id m lock_at (λ k. k) (Archived (step slots lock_at 0 0 none) m) (moves.archive room terms places slots id m is others n a b);
+      change = λ room terms places slots id m is others n a b. plainly g.P.Part.wide (AllHaveRoom g.S.Store.room) room terms places slots id m lock_at (λ k. k) (Changed (step slots lock_at 0 0 none) m) (moves.change room terms places slots id m is others n a b);
+      hand_out = λ room terms places slots id m is. plainly g.P.Part.wide (AllHaveRoom g.S.Store.room) room terms places slots id m lock_at (λ k. k) (HandedOut (step slots lock_at 0 0 none) m) (moves.hand_out room terms places slots id m is);
       release = λ room terms places slots id m is others a b. plainly g.P.Part.wide (AllHaveRoom g.S.Store.room) room terms places slots id m lock_at (λ _. 0) (λ _. Released (step slots lock_at 0 0 none) m 0) (moves.release room terms places slots id m is others a b);
       release_with = λ room terms places slots id m is others q x a b d e f h o. plainly g.P.Part.wide (AllHaveRoom g.S.Store.room) room terms places slots id m lock_at (λ _. 0) (λ _. ReleasedWith (step slots lock_at 0 0 none) m 0) (moves.release_with room terms places slots id m is others q x a b d e f h o);
       look = λ room terms places slots id m is i q a b. plainly g.P.Part.wide (AllHaveRoom g.S.Store.room) room terms places slots id m i (λ n. n) (AnswerLooked (AllHaveRoom g.S.Store.room) (step slots i 0 0 none) m) (moves.look room terms places slots id m is i q a b);

@@ -27,6 +27,7 @@ returns-clause-linearized g c = λ room terms places s k.
       whole = c.law_times.ensures.whole places first k.reached.0 d small k.reached.1;
       follow = c.law_times.ensures.order places first k.reached.0 d small k.reached.1;
       limited = c.law_archiving.ensures.runs places first k.reached.0 d small k.reached.1;
+      waited = c.law_nobody_sleeps_beside_an_item.ensures.runs places first k.reached.0 d small k.reached.1;
     }
 
 pub returns-clause-forced : goal.returns-clause-forced

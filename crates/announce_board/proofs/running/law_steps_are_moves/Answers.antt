@@ -1,5 +1,5 @@
 use Rattle.announce_board.proofs.Allows as allows
-use Rattle.announce_board.proofs.Allows.{Laws}
+use Rattle.announce_board.proofs.StepLaws.{Laws}
 use Rattle.announce_board.proofs.running.law_steps_are_moves.Goals as goal
 
 pub returns : goal.returns
@@ -17,6 +17,8 @@ returns g c =
       answer = kept.answer;
       apply = kept.apply;
       archive = kept.archive;
+      change = kept.change;
+      hand_out = kept.hand_out;
       release = kept.release;
       release_by = kept.release_by;
       look = kept.look;
@@ -39,6 +41,7 @@ returns g c =
       goes_on = c.law_reached_desks.ensures.goes_on;
       limited = c.law_archiving.ensures.runs;
       rise = c.law_archiving.ensures.rise;
+      waited = c.law_nobody_sleeps_beside_an_item.ensures.runs;
     } in
     record {
       draft = allows.draft_allowed laws _ _;
@@ -51,6 +54,8 @@ returns g c =
       answer = allows.answer_allowed laws _ _;
       apply = allows.apply_allowed laws _ _;
       archive = allows.archive_allowed laws _ _;
+      change = allows.change_allowed laws _ _;
+      hand_out = allows.hand_out_allowed laws _ _;
       release = allows.release_allowed laws _ _;
       release_looks = allows.release_looks laws _ _;
       release_with = allows.release_with_allowed laws _ _;

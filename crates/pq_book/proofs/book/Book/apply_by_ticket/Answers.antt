@@ -1,11 +1,10 @@
-use Rattle.std.proofs.Common.{arith, ap, refl, sym, subst, ◌<◌, length, ◌∙◌, ◌++◌, ◌∷◌, []}
-use Rattle.pq_types.specs.Asked.{Line}
+use Rattle.std.proofs.Common.{arith, ap, refl, sym, subst, length, ◌∙◌, ◌++◌, ◌∷◌, []}
 use Rattle.pq_types.specs.Operation.{ByTicket}
 use Rattle.pq_types.specs.Entry.{reply_by}
-use Rattle.pq_types.specs.History.{line_of, left, entries_of, IsAdmitted, MayDo, journal_by}
+use Rattle.pq_types.specs.History.{line_of, left, entries_of, IsAdmitted}
 use Rattle.pq_book.specs.Book.{Volume, limits_of}
-use Rattle.pq_book.proofs.KeptLemmas.{items_left, next_is_later, few_entries, as_many_left, reply_in_range, kept_entered, paged_entered, with_line, no_room}
-use Rattle.pq_book.proofs.KeptLemmas.{bar_enters_none, bar_is_proper, bar_is_within, bar_is_not_memory, shut_still}
+use Rattle.pq_book.proofs.KeptLemmas.{next_is_later, few_entries, as_many_left, reply_in_range, kept_entered, paged_entered, with_line, no_room}
+use Rattle.pq_book.proofs.KeptLemmas.{shut_still}
 use Rattle.pq_book.proofs.Peak.{peak_entered}
 use Rattle.pq_book.proofs.book.Book.apply_by_ticket.Goals as goal
 

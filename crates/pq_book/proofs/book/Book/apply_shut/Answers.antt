@@ -1,9 +1,8 @@
-use Rattle.std.proofs.Common.{arith, ap, refl, sym, subst, ◌+◌, ◌<◌, length, map, ◌∙◌, ◌++◌, ◌∷◌, []}
-use Rattle.pq_types.specs.Asked.{Line}
+use Rattle.std.proofs.Common.{arith, ap, refl, sym, subst, ◌+◌, length, map, ◌∙◌}
 use Rattle.pq_types.specs.declared.answer.Reply.TheVariants.{Empty}
 use Rattle.pq_types.specs.Operation.{Shuts}
 use Rattle.pq_types.specs.Entry.{item_of}
-use Rattle.pq_types.specs.History.{line_of, left, entries_of, IsAdmitted}
+use Rattle.pq_types.specs.History.{line_of, entries_of, IsAdmitted}
 use Rattle.pq_book.specs.Book.{Volume, limits_of}
 use Rattle.pq_book.proofs.KeptLemmas.{kept_entered, paged_entered, with_line, shut_then}
 use Rattle.pq_book.specs.Pages.{all}

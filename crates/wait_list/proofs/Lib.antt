@@ -1,0 +1,13 @@
+pub mod FirstOnes
+pub mod Counting
+pub mod Numbers
+pub mod Leaving
+pub mod Masks
+pub mod OnlyWakings
+pub mod Settling
+pub mod Fewest
+pub mod OfKinds
+pub mod Least
+pub mod FirstCome
+pub mod EveryRun
+pub mod Changes

@@ -1,0 +1,7 @@
+use Rattle.std.proofs.Common.{◌≡◌, take, false}
+use Rattle.std.specs.List.{list_any}
+use Rattle.wait_list.specs.Waiters.{is_asleep}
+use Rattle.wait_list.proofs.waking.any_asleep.Given as goal
+
+abbrev pub invariant-loop-waiter : goal.invariant-loop-waiter
+invariant-loop-waiter l = list_any (is_asleep l.group) (take l.waiter-index l.waiters) ≡ false

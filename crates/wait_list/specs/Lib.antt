@@ -1,0 +1,3 @@
+pub mod Waiters
+pub mod Settled
+pub mod Runs

@@ -19,20 +19,22 @@ use std::thread::Threads;
 // At which turn a worker of these tests gives up.
 const PATIENCE: u64 = 10_000_000;
 
-// Under this gate the worker of one id looks until another has asked the gate once, and leads from
-// then on. Each of the others takes the same turn again and again. All give up in the end.
+// Under this gate the worker of one id looks until the others have asked the gate so many times, and leads
+// from then on. Each of the others takes the same turn again and again. All give up in the end.
 #[derive(Drop)]
 struct Meeting {
     leader: u64,
+    awaited: u64,
     others: Turn,
     of_leader: AtomicU64,
     of_others: AtomicU64,
 }
 
 impl Meeting {
-    fn new(leader: u64, others: Turn) -> Meeting {
+    fn new(leader: u64, awaited: u64, others: Turn) -> Meeting {
         Meeting {
             leader,
+            awaited,
             others,
             of_leader: AtomicU64::new(0),
             of_others: AtomicU64::new(0),
@@ -55,7 +57,7 @@ impl Gate for Meeting {
         }
         if !is_leader {
             self.others
-        } else if self.of_others.load(Ordering::SeqCst) == 0 {
+        } else if self.of_others.load(Ordering::SeqCst) < self.awaited {
             Turn::Look
         } else {
             Turn::Lead
@@ -83,7 +85,7 @@ fn load<R: Abort + Threads + Wait + Sync, G: Gate + Sync>(
 // not meet: worker 2 makes no round before worker 1 waits.
 #[test]
 fn two_workers_meet(rt: HostRuntime) -> Result<(), Fail> {
-    let gate = Meeting::new(2, Turn::Look);
+    let gate = Meeting::new(2, 1, Turn::Look);
     let Ok(report) = load(&rt, rt.alloc(), (2, 1, 0), &gate) else {
         panic!(&rt; "the load has a report")
     };
@@ -91,11 +93,11 @@ fn two_workers_meet(rt: HostRuntime) -> Result<(), Fail> {
     Ok(())
 }
 
-// All workers give up at once but one, which ends all its requests.
+// All workers give up at once but one, which then ends all its requests.
 #[test]
 fn of_workers_that_give_up_the_least_is_told(rt: HostRuntime) -> Result<(), Fail> {
     for (workers, stays, least) in [(1, 0, 1), (64, 0, 1), (2, 1, 2), (3, 1, 2)] {
-        let gate = Meeting::new(stays, Turn::GiveUp);
+        let gate = Meeting::new(stays, u64::from(workers - 1), Turn::GiveUp);
         let error = load(&rt, rt.alloc(), (workers, 3, 1), &gate).err();
         let reason = WorkerError::GaveUp;
         assert!(rt; error == Some(LoadError::Worker { id: least, reason }));
@@ -111,10 +113,10 @@ impl Watch for Silent {
     fn tell(&mut self, _rounds: u64, _all: u32) {}
 }
 
-// Worker 1 makes all its requests, the others give up at once: all come back, each with what became of it.
+// The others give up at once, then worker 1 makes all its requests: all come back, each with what became of it.
 #[test]
 fn a_load_that_fails_hands_its_workers_back(rt: HostRuntime) -> Result<(), Fail> {
-    let gate = Meeting::new(1, Turn::GiveUp);
+    let gate = Meeting::new(1, 2, Turn::GiveUp);
     let Ok(plan) = Plan::new(3, 3, 1) else {
         panic!(&rt; "there is such a load")
     };

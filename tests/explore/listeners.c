@@ -5,12 +5,21 @@
 
 #include <string.h>
 
-/* Whether each member was notified since its last call began, and was when that returned, and by its own thread; and how often it may be. */
-static uint32_t notified[MOST_FIBERS], was_notified[MOST_FIBERS], notified_itself[MOST_FIBERS], may_notify[MOST_FIBERS];
+/* Whether each member was notified since its last call began, and was when that returned, and by its own thread. */
+static uint32_t notified[MOST_FIBERS], was_notified[MOST_FIBERS], notified_itself[MOST_FIBERS];
+
+/* Of each member what its last two calls began, in turn, and which call is the last. Each may be notified of once. */
+typedef struct {
+    int which, may_notify;
+} listening;
+
+static listening listenings[MOST_FIBERS][2];
+static int last[MOST_FIBERS];
 
 void listeners_begin(void) {
     memset(notified, 0, sizeof notified);
-    memset(may_notify, 0, sizeof may_notify);
+    memset(listenings, 0, sizeof listenings);
+    memset(last, 0, sizeof last);
 }
 
 static int is_notified(int which) {
@@ -19,30 +28,42 @@ static int is_notified(int which) {
 }
 
 static void notify(void *context) {
-    uint32_t *it = context;
-    const int which = (int)(it - notified);
-    scheduler_point("notify", it, WRITES, __FILE__, __LINE__);
-    if (may_notify[which] == 0) {
+    listening *it = context;
+    const int which = it->which;
+    scheduler_point("notify", &notified[which], WRITES, __FILE__, __LINE__);
+    if (!it->may_notify) {
         fail("member %d is notified, and does not listen, or was notified already", which);
     }
-    may_notify[which]--;
+    it->may_notify = 0;
     notified_itself[which] = me == &fibers[which];
-    *it = 1;
-    wake_word(it);
+    notified[which] = 1;
+    wake_word(&notified[which]);
 }
 
-/* Takes, or begins to listen. The call ends the earlier listening: notify may run for that until then, and for the new one from then on. */
-static pq_code begin_listening(int which, uint64_t priority, pq_item *first) {
-    uint64_t entry = 0;
-    pq_code code;
-    may_notify[which]++;
+/* A call begins. It ends the earlier listening: notify may run for that until then, and for the new one from now on. */
+static listening *begin(int which) {
+    listening *it = &listenings[which][last[which] ^= 1];
     scheduler_point("not notified yet", &notified[which], WRITES, __FILE__, __LINE__);
     notified[which] = notified_itself[which] = 0;
+    *it = (listening){ which, 1 };
+    return it;
+}
+
+static void end(listening *it, int listens) {
+    listenings[it->which][!last[it->which]].may_notify = 0;
+    it->may_notify &= listens;
+    was_notified[it->which] = is_notified(it->which);
+}
+
+/* Takes, or begins to listen. */
+static pq_code begin_listening(int which, uint64_t priority, pq_item *first) {
+    listening *it = begin(which);
+    uint64_t entry = 0;
+    pq_code code;
     check_call_begins(LISTENS_FOR, PQ_NOW, priority);
-    code = pq_take_or_listen(used[which], priority, first, &entry, notify, &notified[which]);
+    code = pq_take_or_listen(used[which], priority, first, &entry, notify, it);
     check_call_ends(PQ_POP, code, *first, code == PQ_OK ? entry : 0);
-    may_notify[which] = code == PQ_EMPTY || code == PQ_NOT_DUE;
-    was_notified[which] = is_notified(which);
+    end(it, code == PQ_EMPTY || code == PQ_NOT_DUE);
     return code;
 }
 
@@ -103,7 +124,7 @@ static void unlisten(int which, const uint64_t *numbers) {
     check_call_begins(CALLS, PQ_NOW, 0);
     listened = pq_unlisten(used[which]);
     check_call_begins(NO_CALL, PQ_FOREVER, 0);
-    may_notify[which] = 0;
+    listenings[which][last[which]].may_notify = 0;
     if (listened && notified[which] && !was_notified[which]) {
         fail("a member was notified, and unlisten says that it was not");
     }
@@ -144,16 +165,13 @@ static void listen_held(int which, const uint64_t *numbers) {
 /* Pushes, or begins to listen for room. */
 static pq_code begin_listening_for_room(int which, uint64_t priority) {
     const pq_item item = new_item(priority);
+    listening *it = begin(which);
     uint64_t entry = 0;
     pq_code code;
-    may_notify[which]++;
-    scheduler_point("not notified yet", &notified[which], WRITES, __FILE__, __LINE__);
-    notified[which] = notified_itself[which] = 0;
     check_call_begins(CALLS, PQ_NOW, 0);
-    code = pq_push_or_listen(used[which], item, &entry, notify, &notified[which]);
+    code = pq_push_or_listen(used[which], item, &entry, notify, it);
     check_call_ends(PQ_PUSH, code, item, entry);
-    may_notify[which] = code == PQ_FULL;
-    was_notified[which] = is_notified(which);
+    end(it, code == PQ_FULL);
     return code;
 }
 

@@ -19,7 +19,7 @@
  * a pointer.
  *
  * Unchecked preconditions: pointers are valid. A joined member is in one call at a time. No call is made from a signal handler, or left by
- * longjmp. Nothing is used after it was freed. A queue, and pq_own(queue), may be in calls of many threads. A thread that dies in a call may
+ * longjmp. Nothing is used after it was freed, but joined members until they are given back. A queue, and pq_own(queue), may be in calls of many threads. A thread that dies in a call may
  * keep the queue's lock: then calls with a deadline time out, and others hang. If it keeps another lock, any call may hang.
  */
 #ifndef FLATPQ_H
@@ -140,7 +140,7 @@ void pq_free(pq_queue *queue, void (*left)(void *context, pq_item item), void *c
 
 /* The calling thread's own member, as a pointer that all threads may share. A thread gets its member at its first call, and gives it back when
    it ends. If all members are in use, a call takes over one that its thread does not use, or waits for one until its `until`. A thread that
-   waits for an item or for room, or listens, holds no member meanwhile. So any number of threads may call, and wait. */
+   waits for an item or for room, or listens, holds none meanwhile. So any number of threads may call, and wait. */
 pq_member *pq_own(pq_queue *queue);
 
 /* Gives the calling thread's own member back now, if the thread has one. */
@@ -160,8 +160,8 @@ uint32_t pq_place(pq_member *member);
 /* Requests. Each of these calls may also return PQ_NO_MEMBER, PQ_FORKED, PQ_EXHAUSTED, PQ_JOURNAL_FULL or PQ_UNARCHIVED. It may return
    PQ_TIMED_OUT unless `until` is PQ_FOREVER; a call by pq_own also PQ_CLOSED or PQ_NO_MEMORY. A call without `until` doesn't wait. number
    may be NULL; else *number is the number of the journal entry, if there is one. The first that is true refuses a request: PQ_JOURNAL_FULL,
-   PQ_SHUT, PQ_UNARCHIVED, PQ_FULL, PQ_NO_MEMORY. If nothing is there to take, a call that takes is refused for PQ_JOURNAL_FULL alone, or while
-   a shut waits for the archive (PQ_UNARCHIVED). */
+   PQ_SHUT, PQ_UNARCHIVED, PQ_FULL, PQ_NO_MEMORY. If nothing is there to take, a take is refused only for PQ_JOURNAL_FULL, or for PQ_UNARCHIVED
+   while a shut waits for the archive. */
 
 /* Puts an item in. If the queue has as many items as pq_options allow, the call waits until one goes out.
    PQ_OK; PQ_FULL: there was no room until then; PQ_SHUT, PQ_NO_MEMORY. */
@@ -207,10 +207,10 @@ PQ_CHECKED pq_code pq_remove(pq_member *member, uint64_t ticket, pq_item *item, 
 PQ_CHECKED pq_code pq_reschedule(pq_member *member, uint64_t ticket, uint64_t priority, uint64_t until, uint64_t *number);
 
 /* For event loops and futures. A member listens for one thing at a time: a call to listen for another ends that. It may push, pop and peek
-   meanwhile. 32 may listen at once, and up to 58 while few threads wait. The last member of several may not, while all others are joined and wait
-   or listen. A call that may not listen returns PQ_ALL_JOINED.
+   meanwhile. 32 may listen at once, and up to 58 while few threads wait. If all other members are joined and wait or
+   listen, the last one may not listen. A call that may not listen returns PQ_ALL_JOINED.
    An item wakes one thread in pq_take. If no thread waits there, as many listeners of pq_take_or_listen are notified as there are items that
-   they can take, first come first served. Then one thread in pq_take_due is woken, too, unless one of these wakes up by itself in time. */
+   they can take, first come first served. Then one thread in pq_take_due is woken too, unless one of these wakes by itself in time. */
 
 /* Takes the first item out if it is due (pq_take_due); else the member listens by `timer`, a timerfd of CLOCK_MONOTONIC that no other member
    has. It is readable once the first item is due, when an earlier one comes, on a shut, or sometimes for nothing. Then call again, while this
@@ -244,7 +244,7 @@ void pq_notify_fd(void *context);
 
 enum pq_request { PQ_PUSH = 0, PQ_POP = 1, PQ_PEEK = 2, PQ_REMOVE = 3, PQ_RESCHEDULE = 4, PQ_SHUTS = 5 };
 
-/* An entry. PQ_SHUTS shut the queue: no push follows, and its reply is PQ_EMPTY. */
+/* An entry. PQ_PEEK is only in text of earlier versions. PQ_SHUTS shut the queue: no push follows, and its reply is PQ_EMPTY. */
 typedef struct pq_entry {
     uint64_t number;  /* from 1 */
     uint64_t serial;  /* its place's count of requests so far, this one and refused ones included */

@@ -419,7 +419,7 @@ public:
     /// Takes the first item out, or the first one whose key is at most this one. Call it when the descriptor is readable, until it returns
     /// code::empty, or code::not_due with found::first(), which stays. The descriptor is then readable once an item comes that may be for it, or
     /// the queue is shut, or at once if other threads had the lock for long. After code::not_due call it again once first() is within the bound.
-    /// It never waits. If it returns code::shut or a refusal the descriptor stays readable.
+    /// It never waits. After code::shut, or a refusal, the descriptor stays readable.
     found take_or_listen() noexcept { return taken(UINT64_MAX); }
     found take_or_listen(const key &bound) noexcept { return taken(key_order<key>::number(bound)); }
     template <class Number, detail::if_signed_for<key, Number> = 0> void take_or_listen(Number) = delete; // write 5u for 5

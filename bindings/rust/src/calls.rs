@@ -276,8 +276,8 @@ macro_rules! calls {
                 self.call().push(key, payload)
             }
 
-            /// Takes the first payload out, with its key, if there is one: of the smallest key the payload that was pushed first. It
-            /// doesn't wait for one.
+            /// Takes the first payload out, with its key, if there is one: of the smallest key the payload that was pushed or
+            /// moved there first. It doesn't wait for one.
             ///
             /// # Errors
             ///

@@ -58,7 +58,7 @@ errors! {
     Forked = 60,
     /// The processor has no SSE4.1.
     Processor = 61,
-    /// Other threads had the lock, or all members, until the deadline.
+    /// Other threads had the lock, or all members, until the deadline. A join returns [`Error::AllJoined`] then.
     TimedOut = 62,
 }
 

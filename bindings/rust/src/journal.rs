@@ -32,7 +32,7 @@ pub enum Request {
     Push,
     /// To take the first item out.
     Pop,
-    /// To return the first item, which stays.
+    /// To return the first item, which stays. It is only in text of earlier versions.
     Peek,
     /// To take the item out that has this ticket, the number of the entry that put it in.
     Remove(u64),
@@ -67,7 +67,7 @@ impl Request {
 pub struct Entry {
     /// Its number, from 1.
     pub number: u64,
-    /// How many requests its member had made, this one included.
+    /// How many requests members at its place have made, this one and refused ones included.
     pub serial: u64,
     /// The place of its member.
     pub place: u32,

@@ -34,8 +34,9 @@
 //!   due.
 //! - Each request that takes effect has an entry in the queue's [`Journal`]. Memory keeps the last ones, which
 //!   [`archive`](TaskQueue::archive) copies, and [`close`](TaskQueue::close).
-//! - A program that writes archives to a file survives a crash: [`wait_archived`](TaskQueue::wait_archived) waits until a push is on disk, and
-//!   [`read_from`](TaskJournal::read_from) reads the file back. A journal has payloads as numbers, so that is for numbers alone.
+//! - [`shut`](TaskQueue::shut) ends those that wait, once nothing is left.
+//! - A program that writes archives to a file survives a crash: [`wait_archived`](TaskQueue::wait_archived) waits until it has written a push,
+//!   and [`read_from`](TaskJournal::read_from) reads the file back. A journal has payloads as numbers, so that is for numbers alone.
 //! - A [`Queue`] is one of integers.
 //!
 //! All that a thread does before it pushes or moves a payload happens before whatever a thread does after a call that returned this payload.

@@ -77,8 +77,7 @@ impl<T> Drop for Shared<T> {
 /// Those that are left are dropped with the last of the queue and its members, or with the journal if the queue was closed. Box a payload
 /// of more than some KiB: a call of a debug build needs up to 64 times its size of stack.
 ///
-/// A queue whose type is not named has keys of the type of those that are pushed, which of bare numbers is `i32`. That is so of
-/// `Queue::new()` too: the defaults of [`Queue`] count where it is a type, as in `let queue: Queue = Queue::new()?`.
+/// Without a named type bare numbers make `i32` keys, also by `Queue::new()`. Write `let queue: Queue = Queue::new()?` for `u64`.
 ///
 /// ```
 /// use flatpq::TaskQueue;
@@ -168,7 +167,7 @@ impl<K: Key, T: Send> TaskQueue<K, T> {
         })
     }
 
-    /// Joins the queue, if a member is left, or an idle one that it takes over. Leave one for calls by the queue itself, which else wait.
+    /// Joins the queue, if a member is left, or an idle one that it takes over. Leave one unjoined: else calls by the queue itself wait.
     ///
     /// # Errors
     ///

@@ -1,7 +1,9 @@
 /* Members are joined, move between threads and are given back; no two have the same place at once, and each
    entry of the journal is that of a request. A joining waits for a member until its time. A queue that is freed hands its
-   items on, unless a journal has them. A program may end with all of it open. */
+   items on, unless a journal has them. A queue and a member take the memory that the guide names. A program may end with all of it open. */
 #include "../check.h"
+
+#include <malloc.h>
 
 enum { MEMBERS = 8, AT_ONCE = 16, THREADS = 1000, PLACES = 2080 };
 
@@ -108,6 +110,23 @@ static void a_freed_queue_leaves_its_items(void) {
     }
 }
 
+static size_t memory(void) {
+    const struct mallinfo2 it = mallinfo2();
+    return it.uordblks + it.hblkhd;
+}
+
+/* Tools that replace malloc say 0. */
+static void a_queue_takes_little_memory(void) {
+    const size_t before = memory();
+    pq_queue *one = opened_as(64, PQ_FORGETS, 0);
+    const size_t of_queue = memory() - before;
+    pq_member *member = joined(one);
+    const size_t of_member = memory() - before - of_queue;
+    CHECK(of_queue < 300000 && of_member < 700);
+    pq_give_back(member);
+    close_and_free(one);
+}
+
 /* The pointers are where tools that look for lost memory find them. */
 pq_member *left_member;
 pq_journal *left_journal;
@@ -125,6 +144,7 @@ int main(void) {
     threads_come_and_go();
     members_move_between_threads();
     a_freed_queue_leaves_its_items();
+    a_queue_takes_little_memory();
     all_is_left_open();
     return 0;
 }

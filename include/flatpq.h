@@ -143,7 +143,7 @@ void pq_free(pq_queue *queue, void (*left)(void *context, pq_item item), void *c
    waits for an item or for room, or listens, holds none meanwhile. So any number of threads may call, and wait. */
 pq_member *pq_own(pq_queue *queue);
 
-/* Gives the calling thread's own member back now, if the thread has one. */
+/* Gives the calling thread's own member back now, if the thread has one, and ends its listening. */
 void pq_leave(pq_queue *queue);
 
 /* Joins the queue. If all members are in use, it takes over one that its thread does not use (pq_own). Else it waits until then for one that
@@ -230,7 +230,8 @@ PQ_CHECKED pq_code pq_take_or_listen(pq_member *member, uint64_t priority, pq_it
                                      void (*notify)(void *context), void *context);
 
 /* Puts an item in, if there is room; else the member listens for room as by pq_take_or_listen. After notify call again, or pq_unlisten: others
-   that listen for room may rely on that. PQ_OK; PQ_FULL: it listens; PQ_SHUT, PQ_NO_MEMORY; or a refusal. */
+   that listen for room may rely on that. If others have the lock, or all members, for long, this call notifies, and returns PQ_FULL although there
+   may be room. PQ_OK; PQ_FULL: it listens; PQ_SHUT, PQ_NO_MEMORY; or a refusal. */
 PQ_CHECKED pq_code pq_push_or_listen(pq_member *member, pq_item item, uint64_t *number, void (*notify)(void *context), void *context);
 
 /* Ends the listening, as a take or a refused call does: notify neither runs nor is called again. 1: the member listened, and was not notified. */

@@ -311,6 +311,7 @@ INLINE int flatpq_is_over(pq_code code) { /* it waits for nothing more */
     return code != PQ_EMPTY && code != PQ_NOT_DUE && code != PQ_FULL;
 }
 HIDDEN int flatpq_take_number(wait *it); /* 0: none is free */
+HIDDEN void flatpq_call_unnumbered(pq_queue *queue, int most); /* so many of each kind */
 HIDDEN void flatpq_give_numbers(pq_queue *queue, uint64_t numbers);
 HIDDEN pq_code flatpq_begin_wait(wait *it, pq_member *member);
 HIDDEN pq_code flatpq_step(wait *it, uint32_t word, uint64_t until);

@@ -27,8 +27,17 @@ int flatpq_unlisten(wait *it) {
 /* Of several members that are joined the last that does not wait stays awake, for those that call by their own. */
 static int may_listen(wait *it) {
     const uint32_t members = it->queue->members;
-    return flatpq_take_number(it)
-           && (it->is_own || members == 1 || (uint32_t)__builtin_popcountll(__atomic_load_n(&it->queue->holders, SEQ)) < members);
+    uint64_t held = __atomic_load_n(&it->queue->holders, SEQ);
+    if (!flatpq_take_number(it) || it->is_own) {
+        return it->number != 0;
+    }
+    do {
+        if (members > 1 && (uint32_t)__builtin_popcountll(held) + 1 >= members) {
+            return 0;
+        }
+    } while (!__atomic_compare_exchange_n(&it->queue->holders, &held, held | it->number, 0, SEQ, SEQ));
+    flatpq_hand_on(it->queue);
+    return 1;
 }
 
 static pq_code begin_listening(wait *it) {
@@ -138,7 +147,7 @@ pq_code pq_push_or_listen(pq_member *member, pq_item item, uint64_t *number, voi
 }
 
 static int listens(const pq_member *member) {
-    const own *mine = flatpq_own_of(member);
+    const own *mine = member->is_shared ? flatpq_own_of(member) : NULL; /* a record of a freed queue may have a member's address */
     return (mine != NULL ? mine->listens : member->listens) != 0;
 }
 

@@ -32,21 +32,25 @@ int flatpq_take_number(wait *it) {
         free = ~used & may_have(it);
         it->number = free & -free;
     } while (free != 0 && !__atomic_compare_exchange_n(&it->queue->numbers, &used, used | it->number, 0, SEQ, SEQ));
-    if (it->number != 0 && !it->is_own) {
+    if (it->number != 0 && !it->is_own && it->wants <= DUE) {
         __atomic_fetch_or(&it->queue->holders, it->number, SEQ);
         flatpq_hand_on(it->queue);
     }
     return it->number != 0;
 }
 
-void flatpq_give_numbers(pq_queue *queue, uint64_t numbers) {
-    __atomic_fetch_and(&queue->numbers, ~numbers, SEQ);
+void flatpq_call_unnumbered(pq_queue *queue, int most) {
     for (int kind = 0; kind < KINDS; kind++) {
         if (__atomic_load_n(&queue->unnumbered[kind], SEQ) > 0) {
             __atomic_fetch_add(&queue->given[kind], 1, SEQ);
-            flatpq_wake(&queue->given[kind], __builtin_popcountll(numbers));
+            flatpq_wake(&queue->given[kind], most);
         }
     }
+}
+
+void flatpq_give_numbers(pq_queue *queue, uint64_t numbers) {
+    __atomic_fetch_and(&queue->numbers, ~numbers, SEQ);
+    flatpq_call_unnumbered(queue, __builtin_popcountll(numbers));
 }
 
 /*
@@ -133,6 +137,9 @@ static pq_code get_number(wait *it) {
     __atomic_fetch_add(unnumbered, 1, SEQ);
     seen = __atomic_load_n(given, SEQ);
     if (!flatpq_take_number(it)) {
+        if (__atomic_load_n(&it->queue->gone, SEQ) != 0) {
+            flatpq_wake_after(it->member);
+        }
         give_up_member(it);
         flatpq_sleep(given, seen, it->until);
         flatpq_take_number(it);
@@ -266,7 +273,15 @@ pq_code pq_take_due(pq_member *member, pq_item *item, uint64_t until, uint64_t *
 pq_code flatpq_push_to_room(pq_member **member, own **mine, pq_item item, uint64_t until, core_answer *answer) {
     wait it = { .queue = (*member)->queue, .member = *member, .mine = *mine, .is_own = *mine != NULL, .item = item, .answer = answer,
         .until = until, .wants = ROOM };
-    pq_code code = wait_on(&it, PQ_FULL);
+    const uint64_t listens = it.is_own ? 0 : it.member->listens; /* meanwhile the member waits under one number alone */
+    pq_code code;
+    __atomic_fetch_and(&it.queue->holders, ~listens, SEQ);
+    code = wait_on(&it, PQ_FULL);
+    if (listens != 0) {
+        __atomic_fetch_or(&it.queue->holders, listens, SEQ);
+        flatpq_hand_on(it.queue);
+        flatpq_wake_after(it.member);
+    }
     *member = it.member;
     *mine = it.mine;
     return code;

@@ -16,6 +16,8 @@
  */
 #include "inside.h"
 
+#include <limits.h>
+
 #include <sys/syscall.h>
 #include <unistd.h>
 
@@ -85,24 +87,28 @@ void flatpq_hand_on(pq_queue *queue) {
     __atomic_fetch_or(&queue->gone, numbers, SEQ);
 }
 
-/* Without a member others take the entry out: all that sleep are woken for that. */
+/* One that has handed entries on may make no step after that, so it reads `gone` here. Without a member others take the entries out: all that
+   sleep are woken for that. */
 void flatpq_end_wait(wait *it) {
     pq_queue *queue = it->queue;
     const uint64_t number = it->number;
-    if (number == 0) {
+    if (number != 0) {
+        __atomic_fetch_and(&queue->holders, ~number, SEQ);
+        if (it->is_in) {
+            __atomic_fetch_or(&queue->gone, number, SEQ);
+        } else {
+            flatpq_give_numbers(queue, number);
+        }
+        it->number = 0;
+        it->is_in = 0;
+    }
+    if (__atomic_load_n(&queue->gone, SEQ) == 0) {
         return;
     }
-    it->number = 0;
-    __atomic_fetch_and(&queue->holders, ~number, SEQ);
-    if (!it->is_in) {
-        flatpq_give_numbers(queue, number);
-        return;
-    }
-    it->is_in = 0;
-    __atomic_fetch_or(&queue->gone, number, SEQ);
     if (it->member != NULL) {
         flatpq_wake_after(it->member);
     } else {
         flatpq_deliver(queue, __atomic_load_n(&queue->numbers, SEQ));
+        flatpq_call_unnumbered(queue, INT_MAX);
     }
 }

@@ -55,7 +55,8 @@ namespace flatpq {
 enum class keeping : std::uint32_t { forgets = PQ_FORGETS, refuses = PQ_REFUSES, fills = PQ_FILLS };
 
 /// How a queue is opened, as pq_options says: `options{8}`, `options().with_tickets()`. It has up to `members` members at once, 1 to 64. Its
-/// journal keeps `entries`, 0 for the usual number. It may have `most_items`, where 0 is no bound. With `tickets` items can be removed or moved.
+/// journal keeps `entries`, 0 for the usual number, but with `keeping::fills` 1 at least. It may have `most_items`, where 0 is no bound. With
+/// `tickets` items can be removed or moved.
 struct options {
     std::uint32_t members = 64;
     flatpq::keeping keeping = flatpq::keeping::forgets;
@@ -322,7 +323,12 @@ private:
     }
 
     result<std::uint64_t> pushed_or_listens(const key &priority, payload &value, void (*notify)(void *), void *context) noexcept {
-        return pushed(priority, value, [=](auto *by, pq_item in, auto *number) { return pq_push_or_listen(by, in, number, notify, context); });
+        const auto made =
+            pushed(priority, value, [=](auto *by, pq_item in, auto *number) { return pq_push_or_listen(by, in, number, notify, context); });
+        if (made.error() == code::no_memory) {
+            unlisten(); // of the payload's memory the library was not asked
+        }
+        return made;
     }
 
     template <class Call> found got(Call call, deadline until) noexcept {
@@ -430,7 +436,8 @@ private:
 
     found taken(std::uint64_t bound) noexcept {
         auto first = this->member_.due(bound, now);
-        if (first || this->fd_ < 0) {
+        if (first || this->fd_ < 0 || first.error() == code::forked) {
+            this->member_.unlisten(); // it has its item: the next one is another's
             return first;
         }
         eventfd_t count = 0;
@@ -466,12 +473,18 @@ public:
     using key = typename Items::key;
     using payload = typename Items::payload;
 
-    /// Puts a key and a value, or a payload, in, if there is room. Else it returns code::full, and the payload is where it was. Call it again when
-    /// the descriptor is readable: after a pop, a removal or a shut. It never waits.
+    /// Puts a key and a value, or a payload, in, if there is room. Else it returns code::full, and the payload is where it was. Call it when the
+    /// descriptor is readable, until it returns code::full. The descriptor is then readable after a pop, a removal or a shut. It never waits.
+    /// After code::shut, or a refusal, the descriptor stays readable.
     result<std::uint64_t> push_or_listen(const key &priority, payload &&value) noexcept {
         eventfd_t count = 0;
+        void *const context = reinterpret_cast<void *>(static_cast<std::intptr_t>(this->fd_));
         ::syscall(SYS_read, this->fd_, &count, sizeof count);
-        return this->member_.pushed_or_listens(priority, value, pq_notify_fd, reinterpret_cast<void *>(static_cast<std::intptr_t>(this->fd_)));
+        const auto made = this->member_.pushed_or_listens(priority, value, pq_notify_fd, context);
+        if (!made && made.error() != code::full) {
+            pq_notify_fd(context);
+        }
+        return made;
     }
     result<std::uint64_t> push_or_listen(const key &priority, const payload &value) { return push_or_listen(priority, payload(value)); }
     template <class Number, detail::if_signed_for<key, Number> = 0> void push_or_listen(Number, payload) = delete; // write 5u for 5

@@ -14,12 +14,13 @@ typedef struct {
 } listening;
 
 static listening listenings[MOST_FIBERS][2];
-static int last[MOST_FIBERS];
+static int last[MOST_FIBERS], count_refused;
 
 void listeners_begin(void) {
     memset(notified, 0, sizeof notified);
     memset(listenings, 0, sizeof listenings);
     memset(last, 0, sizeof last);
+    count_refused = 0;
 }
 
 static int is_notified(int which) {
@@ -154,6 +155,15 @@ static void listen_last(int which, const uint64_t *numbers) {
     check_call_begins(NO_CALL, PQ_FOREVER, 0);
 }
 
+/* Two begin to listen: the first may. */
+static void listen_unless_last(int which, const uint64_t *numbers) {
+    pq_item first = { 0, 0 };
+    if (begin_listening(which, numbers[0], &first) == PQ_ALL_JOINED && ++count_refused == 2) {
+        fail("both are refused, and none waits");
+    }
+    check_call_begins(NO_CALL, PQ_FOREVER, 0);
+}
+
 /* Listens no more, unless the call found the lock held for long, and so notified the member itself. */
 static void listen_held(int which, const uint64_t *numbers) {
     listen_once(which, numbers);
@@ -238,6 +248,7 @@ const word listener_words[] = {
     { "listen-once", listen_once },
     { "listen-surely", listen_surely },
     { "listen-last", listen_last },
+    { "listen-unless-last", listen_unless_last },
     { "listen-held", listen_held },
     { "listen-room", push_until },
     { "listen-room-once", push_once },

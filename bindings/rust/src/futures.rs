@@ -159,7 +159,8 @@ impl<K: Key, T: Send> TaskMember<K, T> {
             })
         });
         if !matches!(&pushed, Err(refused) if refused.error == Error::Full) {
-            drop(self.slot.take());
+            // Of the payload's memory the library was not asked, so the member may listen.
+            self.unlisten();
         }
         pushed
     }
@@ -334,8 +335,11 @@ impl<T> Future for WaitArchived<'_, T> {
 
 impl<T> Drop for WaitArchived<'_, T> {
     fn drop(&mut self) {
-        let waker = locked(&self.0.archives.0).remove(&self.1);
-        drop(waker);
+        // Another thread of the parent may have had the lock.
+        if !self.0.is_forked() {
+            let waker = locked(&self.0.archives.0).remove(&self.1);
+            drop(waker);
+        }
     }
 }
 
@@ -392,14 +396,13 @@ impl<K: Key, T: Send> Taker<'_, K, T> {
         }
     }
 
-    fn begin(&mut self) -> Result<(), Error> {
-        if let Taker::Queue(by) = self {
-            if by.queue.shared.is_forked() {
-                return Err(Error::Forked);
-            }
-            by.turn.begin();
+    // Whether it has a turn, or needs none.
+    fn begin(&mut self, waker: &Waker) -> Result<bool, Error> {
+        match self {
+            Taker::Member(_) => Ok(true),
+            Taker::Queue(by) if by.queue.shared.is_forked() => Err(Error::Forked),
+            Taker::Queue(by) => Ok(by.turn.begin(waker)),
         }
-        Ok(())
     }
 
     // Gives the member back that it joined, and waits until one is left, if another of its line has one.
@@ -419,7 +422,9 @@ impl<K: Key, T: Send> Taker<'_, K, T> {
         cx: &mut Context<'_>,
         mut poll: impl FnMut(&mut Self, &mut Context<'_>) -> Poll<Result<R, Error>>,
     ) -> Poll<Result<R, Error>> {
-        self.begin()?;
+        if !self.begin(cx.waker())? {
+            return Poll::Pending;
+        }
         let mut polled = poll(self, cx);
         for tries_again in [true, false] {
             if !matches!(polled, Poll::Ready(Err(Error::AllJoined))) {

@@ -415,7 +415,10 @@ impl<K, T> TaskMember<K, T> {
     pub fn unlisten(&mut self) -> bool {
         // SAFETY: the member is there, and in this call alone.
         let listened = after::calling(|| unsafe { raw::pq_unlisten(self.raw.inside()) } == 1);
-        drop(self.slot.take());
+        // Another thread of the parent may have had the slot's lock.
+        if self.unless_forked().is_ok() {
+            drop(self.slot.take());
+        }
         listened
     }
 }

@@ -25,6 +25,8 @@ pub struct Line(Mutex<Inside>);
 #[derive(Default)]
 struct Inside {
     turns: usize,
+    /// How many were woken for their turn, and have not come yet.
+    called: usize,
     waiting: BTreeMap<u64, Waker>,
     last: u64,
 }
@@ -33,6 +35,8 @@ struct Inside {
 pub struct Turn<'a> {
     line: &'a Line,
     has: Has,
+    /// Its place in the line, which it keeps until it ends.
+    place: Option<u64>,
 }
 
 #[derive(Clone, Copy, PartialEq)]
@@ -45,8 +49,12 @@ enum Has {
 
 impl Line {
     pub fn turn(&self) -> Turn<'_> {
-        let has = Has::Nothing;
-        Turn { line: self, has }
+        let (has, place) = (Has::Nothing, None);
+        Turn {
+            line: self,
+            has,
+            place,
+        }
     }
 }
 
@@ -59,6 +67,7 @@ impl Inside {
             Has::Number(number) => {
                 let waker = self.waiting.remove(&number);
                 let is_woken = waker.is_none();
+                self.called -= usize::from(is_woken);
                 (waker, is_woken)
             }
         }
@@ -67,20 +76,24 @@ impl Inside {
     // The waker of the first that waits, which has a turn from now on.
     fn next(&mut self) -> Option<Waker> {
         let first = *self.waiting.keys().next()?;
-        self.turns += 1;
+        (self.turns, self.called) = (self.turns + 1, self.called + 1);
         self.waiting.remove(&first)
     }
 }
 
 // No waker is copied, dropped or woken with the lock held.
 impl Turn<'_> {
-    pub fn begin(&mut self) {
+    /// Whether it has a turn. One that comes while others wait goes behind them.
+    pub fn begin(&mut self, waker: &Waker) -> bool {
         let mut line = locked(&self.line.0);
-        let (waker, has_turn) = line.take(self.has);
+        let others = line.called > 0 || !line.waiting.is_empty();
+        let comes_late = self.has == Has::Nothing && others;
+        let (own, has_turn) = line.take(self.has);
         line.turns += usize::from(!has_turn);
         self.has = Has::Turn;
         drop(line);
-        drop(waker);
+        drop(own);
+        !(comes_late && self.waits(waker))
     }
 
     /// Gives the turn up, and waits in the line, if another has a turn.
@@ -91,7 +104,7 @@ impl Turn<'_> {
         if may_wait {
             line.turns -= 1;
             line.last += 1;
-            let number = line.last;
+            let number = *self.place.get_or_insert(line.last);
             self.has = Has::Number(number);
             line.waiting.insert(number, waker);
         }
@@ -106,7 +119,7 @@ impl Turn<'_> {
         }
         let mut line = locked(&self.line.0);
         let (own, has_turn) = line.take(self.has);
-        self.has = Has::Nothing;
+        (self.has, self.place) = (Has::Nothing, None);
         line.turns -= usize::from(has_turn);
         let next = if has_turn { line.next() } else { None };
         drop(line);

@@ -104,6 +104,42 @@ static void a_new_queue_is_not_taken_for_a_freed_one(void) {
     ends(&other);
 }
 
+static pq_member *at_its_address;
+static int notifies;
+
+static void counts(void *context) {
+    (void)context;
+    notifies++;
+}
+
+static void listens_a_while(void) {
+    pq_item item;
+    CHECK(pq_take_or_listen(at_its_address, 9, &item, NULL, counts, NULL) == PQ_EMPTY && pq_unlisten(at_its_address) == 1);
+}
+
+/* The thread has called a queue, which then was freed, and a member of another was joined there. */
+static void a_joined_member_is_not_taken_for_a_freed_queue(void) {
+    pq_queue *kept = opened(64);
+    pq_member *members[60];
+    helper other;
+    begins(&other);
+    queue = opened(2);
+    const uintptr_t address = (uintptr_t)queue;
+    does(&other, pushes_one);
+    pq_free(queue, NULL, NULL);
+    for (size_t i = 0; i < 60; i++) {
+        members[i] = joined(kept);
+        at_its_address = i == 0 || (uintptr_t)members[i] == address ? members[i] : at_its_address;
+    }
+    does(&other, listens_a_while);
+    CHECK(pq_push(pq_own(kept), item_of(1, 2), PQ_FOREVER, NULL) == PQ_OK && notifies == 0);
+    for (size_t i = 0; i < 60; i++) {
+        pq_give_back(members[i]);
+    }
+    ends(&other);
+    pq_free(kept, NULL, NULL);
+}
+
 static pthread_key_t at_end;
 
 /* A thread's first call may come when it ends, after the library's own destructor. */
@@ -135,6 +171,7 @@ static void threads_call_while_they_end(void) {
 int main(void) {
     thousands_come_and_go();
     a_new_queue_is_not_taken_for_a_freed_one();
+    a_joined_member_is_not_taken_for_a_freed_queue();
     threads_call_while_they_end();
     return 0;
 }

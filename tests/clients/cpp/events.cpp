@@ -40,6 +40,14 @@ static void a_descriptor_is_readable_where_an_item_may_be() {
 }
 
 // One that is assigned has the other's descriptor, and none of its own from before.
+static void one_that_is_busy_keeps_no_item() {
+    auto queue = *flatpq::queue<>::open();
+    auto busy = *queue.listen(), idle = *queue.listen();
+    CHECK(busy.take_or_listen().error() == code::empty && idle.take_or_listen().error() == code::empty);
+    CHECK(queue.push(1u, 1) && is_readable(busy.fd(), 0) && !is_readable(idle.fd(), 0) && busy.take_or_listen()->value == 1);
+    CHECK(queue.push(1u, 2) && is_readable(idle.fd(), 0) && idle.take_or_listen()->value == 2);
+}
+
 static void one_is_assigned() {
     auto queue = *flatpq::queue<>::open();
     auto second = *queue.listen(), other = *queue.listen();
@@ -191,6 +199,7 @@ int main() {
     listeners_without_a_descriptor();
     a_member_is_given_back_before_its_descriptor();
     a_descriptor_is_readable_where_an_item_may_be();
+    one_that_is_busy_keeps_no_item();
     one_is_assigned();
     payloads_come_so();
     a_timer_is_readable_when_the_first_is_due();

@@ -19,6 +19,19 @@ struct shared {
     flatpq::task_queue<std::unique_ptr<int>> tasks;
 };
 
+// The parent's event stays, also where the child calls.
+static void a_child_takes_no_event() {
+    flatpq::queue<> queue(flatpq::options().with_most_items(1));
+    auto room = *queue.listen_room();
+    int status = 0;
+    CHECK(queue.push(1u, 1) && room.push_or_listen(2u, 2).error() == code::full && queue.pop() && is_readable(room.fd(), 0));
+    const pid_t pid = fork();
+    if (pid == 0) {
+        _exit(room.push_or_listen(2u, 2).error() != code::forked);
+    }
+    CHECK(pid > 0 && waitpid(pid, &status, 0) == pid && status == 0 && is_readable(room.fd(), 0));
+}
+
 static void child(shared &it) {
     CHECK(it.queue->push(1u, 1).error() == code::forked && it.own->take().error() == code::forked);
     CHECK(it.queue->join().error() == code::forked && it.queue->close().error() == code::forked && it.queue->shut() == code::forked);
@@ -33,6 +46,7 @@ static void child(shared &it) {
 }
 
 int main() {
+    a_child_takes_no_event();
     shared it;
     const int children = static_cast<int>(requests(20));
     std::atomic<bool> is_over{false};

@@ -40,6 +40,22 @@ using large = std::array<std::uint64_t, 2>;
 
 static int number_in(const std::unique_ptr<int> &it) { return *it; }
 
+// A push that listens, and gets no memory, ends the listening: another gets the place, and none is called any more.
+static void a_refused_push_ends_the_listening() {
+    flatpq::task_queue<large> queue(flatpq::options().with_most_items(1));
+    auto one = *queue.listen_room(), other = *queue.listen_room();
+    auto member = *queue.join();
+    int calls = 0;
+    const auto bell = [&calls] { ++calls; };
+    CHECK(queue.push(1u, large{}) && one.push_or_listen(2u, large{}).error() == code::full && other.push_or_listen(3u, large{}).error() == code::full);
+    CHECK(member.push_or_listen(4u, large{}, bell).error() == code::full);
+    CHECK(queue.pop() && is_readable(one.fd(), 0) && !is_readable(other.fd(), 0));
+    left_to_give = 0;
+    CHECK(member.push_or_listen(4u, large{}, bell).error() == code::no_memory && one.push_or_listen(2u, large{}).error() == code::no_memory);
+    left_to_give = SIZE_MAX;
+    CHECK(is_readable(one.fd(), 0) && is_readable(other.fd(), 0) && other.push_or_listen(3u, large{}) && queue.pop() && calls == 0);
+}
+
 int main() {
     auto queue = *flatpq::task_queue<large>::open();
     const std::size_t before = blocks;
@@ -62,6 +78,7 @@ int main() {
     left_to_give = SIZE_MAX;
     CHECK(done.error == code::no_memory && done.count == 70 && done.number != 0 && !batch[69].payload && *batch[70].payload == 70 && *batch[99].payload == 99);
     CHECK(*owners.clear() == 70);
+    a_refused_push_ends_the_listening();
     auto numbers = *flatpq::task_queue<double>::open();
     left_to_give = 0;
     CHECK(numbers.push(1u, 0.5) && numbers.pop()->payload == 0.5);

@@ -125,15 +125,13 @@ fn is_polled(take: &mut Take<'_, u64, u64>, polled: Poll<Result<(u64, u64), Erro
     Pin::new(take).poll(&mut Context::from_waker(&waker)) == polled
 }
 
-/// Futures of a queue share a lock, which another thread may have.
-#[test]
-fn a_child_waits_for_no_future() {
-    let (queue, is_over) = (Queue::new().unwrap(), AtomicBool::new(false));
-    let listens = || {
-        let mut take = queue.take_async();
-        assert!(is_polled(&mut take, Poll::Pending));
-        take
-    };
+/// Two threads make such futures and drop them, while children get one each: whether each came to its end.
+fn each_child_ends<F>(
+    children: usize,
+    listens: impl Fn() -> F + Sync,
+    child: impl Fn(F) -> bool,
+) -> bool {
+    let is_over = AtomicBool::new(false);
     thread::scope(|threads| {
         for _ in 0..2 {
             threads.spawn(|| {
@@ -142,13 +140,44 @@ fn a_child_waits_for_no_future() {
                 }
             });
         }
-        let each = (0..CHILDREN).all(|_| {
-            let mut take = listens();
-            forked(move || is_polled(&mut take, Poll::Ready(Err(Error::Forked))))
+        let each = (0..children).all(|_| {
+            let own = listens();
+            forked(|| child(own))
         });
         is_over.store(true, Relaxed);
-        assert!(each);
-    });
+        each
+    })
+}
+
+/// Futures of a queue share a lock, which another thread may have.
+#[test]
+fn a_child_waits_for_no_future() {
+    let queue = Queue::new().unwrap();
+    let listens = || {
+        let mut take = queue.take_async();
+        assert!(is_polled(&mut take, Poll::Pending));
+        take
+    };
+    let is_refused = |mut it: Take<'_, _, _>| is_polled(&mut it, Poll::Ready(Err(Error::Forked)));
+    assert!(each_child_ends(CHILDREN, listens, is_refused));
+}
+
+/// And so do those that wait for an archive.
+#[test]
+fn a_child_drops_what_waits_for_an_archive() {
+    let queue = Queue::<u64, u64>::new().unwrap();
+    let waker = Waker::from(Arc::new(Nobody));
+    let listens = || {
+        let mut it = queue.wait_archived_async(1 << 40);
+        assert!(Pin::new(&mut it)
+            .poll(&mut Context::from_waker(&waker))
+            .is_pending());
+        it
+    };
+    assert!(each_child_ends(5 * CHILDREN, listens, |it| {
+        drop(it);
+        true
+    }));
 }
 
 /// The child has the parent's descriptor too.

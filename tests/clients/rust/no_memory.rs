@@ -4,11 +4,14 @@
 use flatpq::{Error, NotPushed, TaskQueue};
 use std::alloc::{GlobalAlloc, Layout, System};
 use std::fs;
+use std::future::Future;
+use std::pin::Pin;
 use std::ptr;
 use std::sync::atomic::{AtomicUsize, Ordering::Relaxed};
 use std::sync::mpsc::{self, Sender};
 use std::sync::Arc;
-use std::task::{Context, Poll, Wake};
+use std::task::{Context, Poll, Wake, Waker};
+use std::time::Duration;
 
 /// Of these payloads so many get memory, and then none.
 type Large = [u64; 80];
@@ -37,6 +40,7 @@ unsafe impl GlobalAlloc for Refusing {
     }
 }
 
+const LONG: Duration = Duration::from_secs(60);
 const MORE: u64 = 16 << 20;
 const TOO_MANY_FILES: i32 = 24;
 const DESCRIPTORS: i32 = 7;
@@ -128,6 +132,29 @@ fn a_future_without_a_thread_is_refused() {
     hears.recv().unwrap();
 }
 
+/// A push that waited for room, and gets no memory for its payload, leaves the place to another.
+fn a_push_without_memory_leaves_its_place() {
+    let queue: TaskQueue<u64, Large> = flatpq::Options::new().most_items(1).open().unwrap();
+    let (mut one, mut other) = (queue.join().unwrap(), queue.join().unwrap());
+    queue.push(1, [1; 80]).unwrap();
+    let [(first, one_hears), (second, other_hears)] = [(); 2].map(|()| mpsc::channel());
+    let [first, second] = [first, second].map(|says| Waker::from(Arc::new(Says(says))));
+    let (mut pushes, mut waits) = (one.push_async(2, [2; 80]), other.push_async(3, [3; 80]));
+    assert!(Pin::new(&mut pushes)
+        .poll(&mut Context::from_waker(&first))
+        .is_pending());
+    assert!(Pin::new(&mut waits)
+        .poll(&mut Context::from_waker(&second))
+        .is_pending());
+    queue.pop().unwrap();
+    assert!(one_hears.recv_timeout(LONG).is_ok() && other_hears.try_recv().is_err());
+    LEFT.store(0, Relaxed);
+    let refused = Pin::new(&mut pushes).poll(&mut Context::from_waker(&first));
+    LEFT.store(usize::MAX, Relaxed);
+    assert!(matches!(refused, Poll::Ready(Err(it)) if it.error == Error::NoMemory));
+    assert!(other_hears.recv_timeout(LONG).is_ok());
+}
+
 /// And gives its member back.
 fn a_listener_without_a_descriptor_is_refused() {
     let queue: TaskQueue<u64, u64> = flatpq::Options::new().members(1).open().unwrap();
@@ -142,6 +169,7 @@ fn a_listener_without_a_descriptor_is_refused() {
 #[test]
 fn a_push_without_memory_is_refused() {
     a_future_without_a_thread_is_refused();
+    a_push_without_memory_leaves_its_place();
     a_listener_without_a_descriptor_is_refused();
     a_batch_asks_for_little();
     a_batch_comes_back();

@@ -162,6 +162,31 @@ fn where_none_of_its_kind_has_a_member_a_future_is_refused() {
     assert_eq!((refused.error, refused.payload), (Error::AllJoined, 2));
 }
 
+/// One of two members may listen. Each task takes in a loop: one that is ready comes again at once, and goes behind the other.
+#[test]
+fn one_that_waits_in_the_line_is_served() {
+    let queue = opened(2);
+    let counted = [Counted::new(), Counted::new()];
+    let mut takes = [queue.take_async(), queue.take_async()];
+    let (mut seen, mut taken) = ([0; 2], [0; 2]);
+    for (take, counted) in takes.iter_mut().zip(&counted) {
+        assert!(polled(take, counted).is_pending());
+    }
+    for value in 0..10 {
+        queue.push(1, value).unwrap();
+        for at in [0, 1, 0, 1] {
+            if counted[at].wakes() != seen[at] {
+                seen[at] = counted[at].wakes();
+                while polled(&mut takes[at], &counted[at]).is_ready() {
+                    taken[at] += 1;
+                    takes[at] = queue.take_async();
+                }
+            }
+        }
+    }
+    assert_eq!(taken, [5, 5]);
+}
+
 /// Threads run tasks that take in loops, and drop some of their futures, while others push.
 #[test]
 fn no_payload_is_lost() {

@@ -18,7 +18,7 @@
 enum { TRIES = 1000, SPINS = 10000 };
 /* How far apart a thread's calls are at least, where it spins; where it is served soon; and where it then tries the lock before it posts, while more
    than so many members are in use. */
-enum { APART = 400, APART_IF_SERVED = 320, APART_TO_TRY = 1100, PAIR = 2 };
+enum { APART = 400, APART_IF_SERVED = 270, APART_TO_TRY = 1100, PAIR = 2 };
 /* So many members may be of threads that don't call, as one that opened the queue. */
 enum { IDLE = 1 };
 /* How long a nap is: at least, and with a part for each member in use, so that fewer threads wake at a time; and for each where it is served soon. */

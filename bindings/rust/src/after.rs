@@ -76,9 +76,19 @@ pub fn wake(waker: Waker) {
     after.get_or_insert_with(Box::default).wakers.push(waker);
 }
 
-/// A panic ends here, and so does that of its payload's drop, and of that one's.
 pub fn wake_caught(waker: Waker) {
-    let mut panic = catch_unwind(AssertUnwindSafe(|| waker.wake())).err();
+    caught(|| waker.wake());
+}
+
+pub fn drop_caught(waker: Option<Waker>) {
+    if waker.is_some() {
+        caught(|| drop(waker));
+    }
+}
+
+/// A panic ends here, and so does that of its payload's drop, and of that one's.
+fn caught(run: impl FnOnce()) {
+    let mut panic = catch_unwind(AssertUnwindSafe(run)).err();
     for _ in 0..2 {
         panic = panic.and_then(|it| catch_unwind(AssertUnwindSafe(|| drop(it))).err());
     }

@@ -32,7 +32,7 @@ impl Slot {
         if !locked(&self.0).as_ref().map_or(false, is_same) {
             let waker = waker.clone();
             let before = locked(&self.0).replace(waker);
-            drop(before);
+            after::drop_caught(before);
         }
     }
 
@@ -198,7 +198,7 @@ impl<K: Key, T: Send> TaskMember<K, T> {
         // SAFETY: the member has the slot until it was given back.
         let found = unsafe { self.taken_or_listens(priority, notify) };
         if !matches!(found, Ok(Due::Later(_) | Due::Empty)) {
-            drop(self.slot.take());
+            after::drop_caught(self.slot.take());
         }
         found
     }
@@ -370,7 +370,10 @@ impl<'a, K, T> Taker<'a, K, T> {
 
 impl<K, T> ByQueue<'_, K, T> {
     fn end(&mut self) {
-        drop(self.joined.take());
+        if let Some(mut joined) = self.joined.take() {
+            // A waker whose drop panics keeps no turn.
+            joined.unlisten();
+        }
         // Another thread of the parent may have had the line's lock.
         if !self.queue.shared.is_forked() {
             self.turn.end();

@@ -417,7 +417,7 @@ impl<K, T> TaskMember<K, T> {
         let listened = after::calling(|| unsafe { raw::pq_unlisten(self.raw.inside()) } == 1);
         // Another thread of the parent may have had the slot's lock.
         if self.unless_forked().is_ok() {
-            drop(self.slot.take());
+            after::drop_caught(self.slot.take());
         }
         listened
     }

@@ -6,7 +6,10 @@ use executor::{polled, run, run_all, Counted, LONG};
 use flatpq::{Error, Options, Queue, Take};
 use std::cell::RefCell;
 use std::future::Future;
+use std::mem::ManuallyDrop;
+use std::panic::{catch_unwind, AssertUnwindSafe};
 use std::pin::Pin;
+use std::ptr;
 use std::sync::atomic::{AtomicUsize, Ordering};
 use std::sync::Arc;
 use std::task::{Context, Poll, RawWaker, RawWakerVTable, Waker};
@@ -132,6 +135,37 @@ fn a_member_that_is_given_back_in_the_midst_of_a_poll_is_had() {
     let polled = Pin::new(&mut waits).poll(&mut Context::from_waker(&waker));
     assert!(polled.is_pending() && other.borrow().is_none());
     assert!(queue.join().is_err());
+}
+
+static PANICKING: RawWakerVTable = RawWakerVTable::new(
+    |it| RawWaker::new(it, &PANICKING),
+    |_| (),
+    |_| (),
+    |_| panic!("the drop of a waker panics"),
+);
+
+/// Neither a turn nor a payload is lost where the drop of a waker panics.
+#[test]
+fn a_waker_whose_drop_panics_stops_no_other() {
+    // SAFETY: the functions take what this is.
+    let waker = unsafe { Waker::from_raw(RawWaker::new(ptr::null(), &PANICKING)) };
+    let waker = ManuallyDrop::new(waker);
+    let poll = |take: &mut Take<'_, u64, u64>| {
+        let poll = || Pin::new(take).poll(&mut Context::from_waker(&waker));
+        catch_unwind(AssertUnwindSafe(poll)).ok()
+    };
+    let (queue, counted) = (opened(2), Counted::new());
+    let (mut listens, mut waits) = (queue.take_async(), queue.take_async());
+    assert_eq!(poll(&mut listens), Some(Poll::Pending));
+    assert!(polled(&mut waits, &counted).is_pending());
+    let _ = catch_unwind(AssertUnwindSafe(|| drop(listens)));
+    assert_eq!(counted.wakes(), 1);
+    assert_eq!(poll(&mut waits), Some(Poll::Pending));
+    queue.push(1, 2).unwrap();
+    assert_eq!(poll(&mut waits), Some(Poll::Ready(Ok((1, 2)))));
+    // A copy that takes the place of another.
+    assert_eq!(poll(&mut waits), Some(Poll::Pending));
+    assert!(polled(&mut waits, &counted).is_pending());
 }
 
 /// Futures by members, and those that wait for what else there is, hand no turn on.

@@ -479,6 +479,9 @@ public:
     result<std::uint64_t> push_or_listen(const key &priority, payload &&value) noexcept {
         eventfd_t count = 0;
         void *const context = reinterpret_cast<void *>(static_cast<std::intptr_t>(this->fd_));
+        if (this->member_.place() == UINT32_MAX) { // in a forked child, which has the parent's descriptor
+            return this->member_.push(priority, std::move(value), now);
+        }
         ::syscall(SYS_read, this->fd_, &count, sizeof count);
         const auto made = this->member_.pushed_or_listens(priority, value, pq_notify_fd, context);
         if (!made && made.error() != code::full) {

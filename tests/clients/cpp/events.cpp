@@ -39,7 +39,7 @@ static void a_descriptor_is_readable_where_an_item_may_be() {
     CHECK(!is_readable(fd, 0) && queue.close());
 }
 
-// One that is assigned has the other's descriptor, and none of its own from before.
+// What comes while it has an item is another's.
 static void one_that_is_busy_keeps_no_item() {
     auto queue = *flatpq::queue<>::open();
     auto busy = *queue.listen(), idle = *queue.listen();
@@ -48,6 +48,7 @@ static void one_that_is_busy_keeps_no_item() {
     CHECK(queue.push(1u, 2) && is_readable(idle.fd(), 0) && idle.take_or_listen()->value == 2);
 }
 
+// One that is assigned has the other's descriptor, and none of its own from before.
 static void one_is_assigned() {
     auto queue = *flatpq::queue<>::open();
     auto second = *queue.listen(), other = *queue.listen();

@@ -19,17 +19,20 @@ struct shared {
     flatpq::task_queue<std::unique_ptr<int>> tasks;
 };
 
-// The parent's event stays, also where the child calls.
+// The parent's event stays, also where the child calls, and it makes none.
 static void a_child_takes_no_event() {
     flatpq::queue<> queue(flatpq::options().with_most_items(1));
     auto room = *queue.listen_room();
-    int status = 0;
-    CHECK(queue.push(1u, 1) && room.push_or_listen(2u, 2).error() == code::full && queue.pop() && is_readable(room.fd(), 0));
-    const pid_t pid = fork();
-    if (pid == 0) {
-        _exit(room.push_or_listen(2u, 2).error() != code::forked);
+    CHECK(queue.push(1u, 1) && room.push_or_listen(2u, 2).error() == code::full);
+    for (const bool has_room : {false, true}) {
+        CHECK((!has_room || queue.pop()) && is_readable(room.fd(), 0) == has_room);
+        int status = 0;
+        const pid_t pid = fork();
+        if (pid == 0) {
+            _exit(room.push_or_listen(2u, 2).error() != code::forked);
+        }
+        CHECK(pid > 0 && waitpid(pid, &status, 0) == pid && status == 0 && is_readable(room.fd(), 0) == has_room);
     }
-    CHECK(pid > 0 && waitpid(pid, &status, 0) == pid && status == 0 && is_readable(room.fd(), 0));
 }
 
 static void child(shared &it) {

@@ -93,7 +93,8 @@ macro_rules! integers {
             }
 
             fn from_number(number: u64) -> $Number {
-                (number ^ $zero) as $Number
+                // A number that is greater than all of them is the last one's.
+                (number.min($Number::MAX.to_number()) ^ $zero) as $Number
             }
         }
 

@@ -1,6 +1,6 @@
 //! Payloads come out in the order of their keys, and each key as it was pushed: of integers and floating-point numbers, durations and
 //! moments, and of types of a program's own.
-use flatpq::{Due, Key, TaskQueue, TickKey, TimeKey};
+use flatpq::{Due, Key, Options, TaskQueue, TickKey, TimeKey};
 use std::cmp::{Ordering, Reverse};
 use std::fmt::Debug;
 use std::marker::PhantomData;
@@ -268,4 +268,23 @@ fn only_integers_and_moments_are_times() {
         has!(TickKey: f32, f64, Duration, Reverse<u32>, Reverse<Instant>, bool, (u32, u32), NonZeroU32, Version),
         none
     );
+}
+
+/// Keys that would be later than the last priority count as the last key.
+#[test]
+fn keys_beyond_the_last_time_are_the_last() {
+    fn last<K: TickKey + Debug + PartialEq>(start: Instant, keys: [K; 2], last: K) {
+        let unit = Duration::from_nanos(1);
+        let queue = Options::new().times(start, unit).open().unwrap();
+        queue.push_many(keys.map(|key| (key, ()))).unwrap();
+        for _ in keys {
+            assert_eq!(queue.pop(), Ok(Some((last, ()))));
+        }
+    }
+    let start = Instant::now() + Duration::from_secs(600 * 366 * 24 * 3600);
+    last(start, [5, u64::MAX], u64::MAX);
+    last(start, [5, u8::MAX], u8::MAX);
+    last(start, [5, i64::MAX], i64::MAX);
+    last(start, [-5, i32::MAX], i32::MAX);
+    last(start, [-5, i8::MAX], i8::MAX);
 }

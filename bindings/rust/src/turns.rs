@@ -83,11 +83,10 @@ impl Inside {
 
 // No waker is copied, dropped or woken with the lock held.
 impl Turn<'_> {
-    /// Whether it has a turn. One that comes while others wait goes behind them.
+    /// Whether it has a turn. One that comes before another that was woken for its turn goes behind it.
     pub fn begin(&mut self, waker: &Waker) -> bool {
         let mut line = locked(&self.line.0);
-        let others = line.called > 0 || !line.waiting.is_empty();
-        let comes_late = self.has == Has::Nothing && others;
+        let comes_late = self.has == Has::Nothing && line.called > 0;
         let (own, has_turn) = line.take(self.has);
         line.turns += usize::from(!has_turn);
         self.has = Has::Turn;

@@ -221,6 +221,25 @@ fn one_that_waits_in_the_line_is_served() {
     assert_eq!(taken, [5, 5]);
 }
 
+/// One that comes once there are members again has one, and listens beside those that wait in the line.
+#[test]
+fn members_that_are_back_are_had() {
+    let queue = opened(4);
+    let held = [queue.join().unwrap(), queue.join().unwrap()];
+    let counted = [(); 4].map(|()| Counted::new());
+    let mut takes = [(); 4].map(|()| queue.take_async());
+    let [first, second, waits, comes] = &mut takes;
+    for (take, counted) in [first, second, waits].into_iter().zip(&counted) {
+        assert!(polled(take, counted).is_pending());
+    }
+    drop(held);
+    assert!(polled(comes, &counted[3]).is_pending());
+    for value in 0..3 {
+        queue.push(1, value).unwrap();
+    }
+    assert_eq!(counted.map(|it| it.wakes()), [1, 1, 0, 1]);
+}
+
 /// Threads run tasks that take in loops, and drop some of their futures, while others push.
 #[test]
 fn no_payload_is_lost() {

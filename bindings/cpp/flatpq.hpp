@@ -473,9 +473,9 @@ public:
     using key = typename Items::key;
     using payload = typename Items::payload;
 
-    /// Puts a key and a value, or a payload, in, if there is room. Else it returns code::full, and the payload is where it was. Call it when the
-    /// descriptor is readable, until it returns code::full. The descriptor is then readable after a pop, a removal or a shut. It never waits.
-    /// After code::shut, or a refusal, the descriptor stays readable.
+    /// Puts a key and a value, or a payload, in, if there is room. Else it returns code::full, and the payload is where it was. Call it when there
+    /// is something to push, and after code::full once the descriptor is readable: after a pop, a removal or a shut. It never waits. After a push
+    /// the descriptor is not readable, also if there is room. After code::shut, or a refusal, it stays readable.
     result<std::uint64_t> push_or_listen(const key &priority, payload &&value) noexcept {
         eventfd_t count = 0;
         void *const context = reinterpret_cast<void *>(static_cast<std::intptr_t>(this->fd_));

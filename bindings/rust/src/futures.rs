@@ -246,8 +246,9 @@ impl<K: Key, T: Send> TaskMember<K, T> {
 
 impl<K: Key, T: Send> TaskQueue<K, T> {
     /// Waits for a payload by a future, as [`TaskMember::take_async`] does. A future that is polled joins, and gives that member back when
-    /// it is ready or dropped. One that gets none waits until another such future gives its own back, so any number may wait. If a task
-    /// takes in a loop, join once and await by that member: it takes half the time.
+    /// it is ready or dropped. One that gets none waits until another such future gives its own back, so any number may wait. Poll one that is
+    /// woken for that, or drop it: those that come later wait until then. If a task takes in a loop, join once and await by that member: it
+    /// takes half the time.
     ///
     /// # Errors
     ///

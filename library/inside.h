@@ -237,7 +237,6 @@ INLINE pq_code flatpq_try(attempt *tries, void *asked, const pq_queue *queue, ui
  * shutting.c
  */
 HIDDEN pq_code flatpq_shut_first(pq_member *member);
-HIDDEN void flatpq_end_shut(pq_queue *queue);
 
 /* Before each try of a request: where a shut waits it comes first. LOCK_HELD, PQ_UNARCHIVED: it still waits, and so does the request. */
 INLINE pq_code flatpq_before(pq_member *member) {

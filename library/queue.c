@@ -294,6 +294,15 @@ void pq_give_back(pq_member *member) {
     flatpq_unlock(queue);
 }
 
+/* Carries out a shut that waits. All members are in, so nobody has the queue's lock. */
+static void end_shut(pq_queue *queue) {
+    pq_member *member;
+    if (__atomic_load_n(&queue->is_shut, SEQ) == SHUT_WAITS && join(queue, &member) == PQ_OK) {
+        (void)!flatpq_before(member);
+        give_back(queue, member);
+    }
+}
+
 /* Under the lock. */
 static pq_code close_proved(pq_queue *queue, core *journal) {
     pq_code code;
@@ -304,6 +313,7 @@ static pq_code close_proved(pq_queue *queue, core *journal) {
     if (queue->out > 0 || __atomic_load_n(&queue->waiting, SEQ) > 0) {
         return PQ_MEMBERS_LEFT;
     }
+    end_shut(queue);
     code = LEAVE_OUT(pq_core_close(&queue->proved, journal));
     if (code == PQ_OK) {
         __atomic_store_n(&queue->is_closed, 1, SEQ);
@@ -326,7 +336,6 @@ pq_code pq_close(pq_queue *queue, pq_journal **journal) {
     if (journal != NULL && (made = flatpq_new_journal()) == NULL) {
         return PQ_NO_MEMORY;
     }
-    flatpq_end_shut(queue);
     pthread_mutex_lock(&flatpq_members);
     code = close_proved(queue, &closed);
     flatpq_unlock(queue);

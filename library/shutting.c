@@ -29,7 +29,7 @@ static pq_code try_shut(void *member) {
 }
 
 /* Carries out a shut that waits, where the thread has a member, or gets one without waiting. */
-void flatpq_end_shut(pq_queue *queue) {
+static void shut_now(pq_queue *queue) {
     pq_member *member = &queue->own;
     own *mine;
     if (__atomic_load_n(&queue->is_shut, SEQ) == SHUT_WAITS && flatpq_begin(&member, PQ_NOW, &mine) == PQ_OK) {
@@ -51,7 +51,7 @@ pq_code pq_shut(pq_queue *queue) {
     pthread_mutex_unlock(&flatpq_members);
     if (code == PQ_OK) {
         __atomic_compare_exchange_n(&queue->is_shut, &is_open, SHUT_WAITS, 0, SEQ, SEQ);
-        flatpq_end_shut(queue);
+        shut_now(queue);
         flatpq_deliver(queue, __atomic_load_n(&queue->numbers, SEQ));
         flatpq_count(queue, &queue->staying, UINT32_MAX);
     }

@@ -49,10 +49,12 @@ static void check_use(const void *handle) {
     uses[i].call[mine] = me->calls;
 }
 
-/* No thread carries out a request by a member that another took over from it. */
+/* No thread carries out a request by a member that another took over from it. A thread that closes the queue, under the lock of members, may join
+   one that has the same memory. */
 static void check_own(const void *handle) {
     const own *last = flatpq_thread.last;
-    if (last != NULL && last->shared != NULL && last->taken == TAKEN && (const void *)&last->member->proved == handle) {
+    const int closes = *(const int *)&flatpq_members == 1 + index_of(me);
+    if (!closes && last != NULL && last->shared != NULL && last->taken == TAKEN && (const void *)&last->member->proved == handle) {
         fail("thread %d uses a member that was taken over", index_of(me));
     }
 }

@@ -266,6 +266,7 @@ enum { AWAKE = 0, SLEEPING = 1, LISTENS = 2, WOKEN = 3, NOTIFYING = 4, AWAITED =
 HIDDEN void flatpq_deliver(pq_queue *queue, uint64_t wakes); /* these numbers are woken */
 HIDDEN void flatpq_wake_after(pq_member *member);
 HIDDEN int flatpq_claim(waiter *it); /* no thread notifies it from now on. 1: none has */
+HIDDEN void flatpq_hold(pq_queue *queue, uint64_t no_more, uint64_t number);
 HIDDEN void flatpq_hand_on(pq_queue *queue);
 
 /* Copies an item that a proved call has just written, by its two numbers: one load of 16 bytes would wait for both stores. */
@@ -296,6 +297,7 @@ typedef struct wait {
     core_answer *answer;
     uint64_t until;
     uint64_t number;       /* under which it waits; 0: it has none */
+    uint64_t listening;    /* under which its joined member listens meanwhile; 0: it does not */
     int is_in;             /* its entry may be in the list */
     int watches;           /* it is to come back by itself once the first item is due */
     uint64_t *listens;     /* where it stands that it listens, */

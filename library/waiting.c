@@ -33,7 +33,7 @@ int flatpq_take_number(wait *it) {
         it->number = free & -free;
     } while (free != 0 && !__atomic_compare_exchange_n(&it->queue->numbers, &used, used | it->number, 0, SEQ, SEQ));
     if (it->number != 0 && !it->is_own && it->wants <= DUE) {
-        __atomic_fetch_or(&it->queue->holders, it->number, SEQ);
+        flatpq_hold(it->queue, it->listening, it->number);
         flatpq_hand_on(it->queue);
     }
     return it->number != 0;
@@ -272,16 +272,8 @@ pq_code pq_take_due(pq_member *member, pq_item *item, uint64_t until, uint64_t *
 /* Goes on with a push that found the queue full. The thread may have another member after this, or none: then the queue may be gone. */
 pq_code flatpq_push_to_room(pq_member **member, own **mine, pq_item item, uint64_t until, core_answer *answer) {
     wait it = { .queue = (*member)->queue, .member = *member, .mine = *mine, .is_own = *mine != NULL, .item = item, .answer = answer,
-        .until = until, .wants = ROOM };
-    const uint64_t listens = it.is_own ? 0 : it.member->listens; /* meanwhile the member waits under one number alone */
-    pq_code code;
-    __atomic_fetch_and(&it.queue->holders, ~listens, SEQ);
-    code = wait_on(&it, PQ_FULL);
-    if (listens != 0) {
-        __atomic_fetch_or(&it.queue->holders, listens, SEQ);
-        flatpq_hand_on(it.queue);
-        flatpq_wake_after(it.member);
-    }
+        .until = until, .wants = ROOM, .listening = *mine != NULL ? 0 : (*member)->listens };
+    pq_code code = wait_on(&it, PQ_FULL);
     *member = it.member;
     *mine = it.mine;
     return code;

@@ -82,6 +82,13 @@ COLD void flatpq_wake_after(pq_member *member) {
     }
 }
 
+/* One that waits by a joined member, which may listen meanwhile, is among the holders under one number at each moment. */
+void flatpq_hold(pq_queue *queue, uint64_t no_more, uint64_t number) {
+    uint64_t held = __atomic_load_n(&queue->holders, SEQ);
+    while (!__atomic_compare_exchange_n(&queue->holders, &held, (held & ~no_more) | number, 0, SEQ, SEQ)) {
+    }
+}
+
 void flatpq_hand_on(pq_queue *queue) {
     const uint64_t numbers = __atomic_exchange_n(&queue->stranded, 0, SEQ);
     __atomic_fetch_or(&queue->gone, numbers, SEQ);
@@ -93,7 +100,7 @@ void flatpq_end_wait(wait *it) {
     pq_queue *queue = it->queue;
     const uint64_t number = it->number;
     if (number != 0) {
-        __atomic_fetch_and(&queue->holders, ~number, SEQ);
+        flatpq_hold(queue, number, it->listening);
         if (it->is_in) {
             __atomic_fetch_or(&queue->gone, number, SEQ);
         } else {

@@ -78,6 +78,7 @@ struct pq_queue {
     /* Those that wait, without a lock. Numbers in use, and of them those by which a joined member waits, and those whose threads get no member. */
     uint64_t numbers __attribute__((aligned(64))), holders, stranded;
     uint32_t unnumbered[KINDS], given[KINDS]; /* threads of each kind that have no number, and at what they sleep */
+    uint32_t unheld; /* of them those that sleep by joined members, and are no holders */
     waiter waiters[64];
 
     /* What is archived, without a lock (durable.c). */

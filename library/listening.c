@@ -32,7 +32,8 @@ static int may_listen(wait *it) {
         return it->number != 0;
     }
     do {
-        if (members > 1 && (uint32_t)__builtin_popcountll(held) + 1 >= members) {
+        const uint32_t waiting = (uint32_t)__builtin_popcountll(held) + __atomic_load_n(&it->queue->unheld, SEQ);
+        if (members > 1 && waiting + 1 >= members) {
             return 0;
         }
     } while (!__atomic_compare_exchange_n(&it->queue->holders, &held, held | it->number, 0, SEQ, SEQ));

@@ -134,6 +134,7 @@ static pq_code get_member(wait *it) {
 /* Gets a number. Where none is free it sleeps until one is given back, and may find none then. */
 static pq_code get_number(wait *it) {
     uint32_t *unnumbered = &it->queue->unnumbered[kind_of(it)], *given = &it->queue->given[kind_of(it)], seen;
+    const uint32_t is_unheld = !it->is_own && it->listening == 0;
     __atomic_fetch_add(unnumbered, 1, SEQ);
     seen = __atomic_load_n(given, SEQ);
     if (!flatpq_take_number(it)) {
@@ -141,8 +142,10 @@ static pq_code get_number(wait *it) {
             flatpq_wake_after(it->member);
         }
         give_up_member(it);
+        __atomic_fetch_add(&it->queue->unheld, is_unheld, SEQ);
         flatpq_sleep(given, seen, it->until);
         flatpq_take_number(it);
+        __atomic_fetch_sub(&it->queue->unheld, is_unheld, SEQ);
     }
     __atomic_fetch_sub(unnumbered, 1, SEQ);
     return get_member(it);

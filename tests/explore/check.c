@@ -272,7 +272,7 @@ void check_end(void) {
     }
     /* A thread that could not get a member leaves its entry to others. */
     if ((queue->numbers & ~queue->gone) != numbers_at_first || queue->waiting != 0 || queue->staying != 0 || queue->wanted != NULL
-        || (queue->holders | queue->stranded | waiting_without_a_number()) != 0) {
+        || (queue->holders | queue->stranded | queue->unheld | waiting_without_a_number()) != 0) {
         fail("threads have ended, and something of them is left in the queue: numbers %llx, gone %llx, waiting %u, staying %u",
              (unsigned long long)queue->numbers, (unsigned long long)queue->gone, queue->waiting, queue->staying);
     }

@@ -1,6 +1,6 @@
 -- What a call tells by an item or a number alone, told with the reply.
 use Rattle.std.proofs.Common.{◌≡◌, ◌∙◌, ℕ, ⊎_elim, sym, ap, subst}
-use Rattle.std.specs.Prelude.{Result, Ok}
+use Rattle.std.specs.Prelude.{Result, Ok, Err, IsErrOf}
 use Rattle.pq_types.specs.Asked.{Request}
 use Rattle.pq_types.specs.declared.request.Request.TheVariants.{Pop, Least}
 use Rattle.pq_types.specs.Asked.{Reply}
@@ -24,6 +24,26 @@ tells Turns told has_room before after request result line a is e {first_room} h
       turns = λ few. subst (λ l. Turns before request (Ok l) after) (sym e) (k.turns few);
       never_gives_up = λ f. cc f;
       memory = λ room f. cc f;
+    }
+
+-- an error is one of these whichever value there might have been
+same_error : {A B : Type 0} (x y : CallError) → IsErrOf {T = A} (Err x) y → IsErrOf {T = B} (Err x) y
+same_error x y is = let same : x ≡ y = cc is in ap (λ e. Err e) same
+
+-- a call that is refused is refused too where it tells by what its line and reply follow from
+pub refuses : {A : Type 0} (Turns : Joined → Request → Result (ℕ × Reply) CallError → Joined → Type 0) (told : A → ℕ × Reply) (has_room : Type 0) (before after : Joined) (request : Request)
+    (result : Result (ℕ × Reply) CallError) (error : CallError) → result ≡ Err error
+    → MakesCall Turns (λ t. t) has_room before request result after → MakesCall {A = A} Turns told has_room before request (Err error) after
+refuses Turns told has_room before after request result error is h =
+    let k : MakesCall Turns (λ t. t) has_room before request (Err error) after = subst (λ r. MakesCall Turns (λ t. t) has_room before request r after) is h in
+    record {
+      ok = tt;
+      err = k.err;
+      full = λ f. k.full (same_error error _ f);
+      spent = (λ f. k.spent.0 (same_error error _ f), λ le. same_error error _ (k.spent.1 le));
+      turns = k.turns;
+      never_gives_up = λ f. k.never_gives_up (same_error error _ f);
+      memory = λ room f. k.memory room (same_error error _ f);
     }
 
 -- the reply to a pop, and to a least, has the item that it tells

@@ -1,5 +1,5 @@
 // The text of an item, out and in.
-ghost use Rattle.std.specs.Prelude.{◌≡◌, ◌+◌, ◌<◌, ◌≤◌, ◌↔◌, ◌++◌, ◌∷◌, IfOk, IfSome, IfNone, Err};
+ghost use Rattle.std.specs.Prelude.{◌≡◌, ◌+◌, ◌<◌, ◌≤◌, ◌↔◌, ◌++◌, ◌∷◌, take, length, get_or, IfOk, IfSome, IfNone, Err};
 ghost use Rattle.std.specs.Str.Parse.{IsNumeral, digits_value};
 ghost use Rattle.pq_types.specs.Item.{bound_of};
 ghost use Rattle.queue_texts.specs.ItemText.{space, item_text, SpellsNumber, HasNoSpace, ArePair, IsReadAs};
@@ -52,12 +52,20 @@ fn read_part<P: Part>(text: &[u8]) -> Result<u64, NumberError>
     Ok(number)
 }
 
+// Where the first space stands.
+fn first_space(text: &[u8]) -> Option<usize>
+    ensures some { IfSome result (λ n. (n < length text.now) × (get_or text.now n 0 ≡ space) × HasNoSpace (take n text.now)) }
+    ensures none { IfNone result (HasNoSpace text.now) }
+{
+    text.iter().position(|byte| *byte == b' ')
+}
+
 // The text before the first space, and the text behind it.
 pub(crate) fn split_at_space(text: &[u8]) -> Option<(&[u8], &[u8])>
     ensures some { IfSome result (λ parts. (text.now ≡ parts.0.now ++ space ∷ parts.1.now) × HasNoSpace parts.0.now) }
     ensures none { IfNone result (HasNoSpace text.now) }
 {
-    let space = text.iter().position(|byte| *byte == b' ')?;
+    let space = first_space(text)?;
     Some((&text[..space], &text[space + 1..]))
 }
 

@@ -1,7 +1,9 @@
 // The lines of `flatpq walk`.
 ghost use Rattle.std.specs.Prelude.{◌≡◌, ℕ, List, IfOk, IfErr, IfSome, IfNone};
 ghost use Rattle.queue_texts.specs.Orders.{BeginsWith, SpellsOrder, IsNoOrderFor, order_code};
+ghost use Rattle.queue_texts.specs.declared.orders.Move.{Move};
 ghost use Rattle.queue_texts.specs.declared.orders.Verb.{Verb};
+ghost use Rattle.queue_texts.specs.declared.orders.Verb.TheVariants.{Make};
 
 use crate::number::{NumberError, read_number};
 use thiserror::Error;
@@ -67,17 +69,28 @@ impl OrderError {
     }
 }
 
+// The move that the line begins with, and the text behind it.
+fn move_of(line: &[u8]) -> Option<(Move, &[u8])>
+    ensures some { IfSome result (λ found. BeginsWith line.now (Make found.0) found.1.now) }
+    ensures none { IfNone result ((made : Move) (text : List ℕ) → ¬ (BeginsWith line.now (Make made) text)) }
+{
+    match line {
+        [b's', b't', b'e', b'p', b' ', text @ ..] => Some((Move::Step, text)),
+        [b's', b'c', b'a', b'n', b' ', text @ ..] => Some((Move::Scan, text)),
+        _ => None,
+    }
+}
+
 // The verb that the line begins with, and the text behind it.
 fn verb_of(line: &[u8]) -> Option<(Verb, &[u8])>
     ensures some { IfSome result (λ found. BeginsWith line.now found.0 found.1.now) }
     ensures none { IfNone result ((verb : Verb) (text : List ℕ) → ¬ (BeginsWith line.now verb text)) }
 {
-    match line {
-        [b'c', b'o', b'm', b'e', b'r', b' ', text @ ..] => Some((Verb::Comer, text)),
-        [b's', b't', b'e', b'p', b' ', text @ ..] => Some((Verb::Make(Move::Step), text)),
-        [b's', b'c', b'a', b'n', b' ', text @ ..] => Some((Verb::Make(Move::Scan), text)),
-        _ => None,
+    if let [b'c', b'o', b'm', b'e', b'r', b' ', text @ ..] = line {
+        return Some((Verb::Comer, text));
     }
+    let (made, text) = move_of(line)?;
+    Some((Verb::Make(made), text))
 }
 
 /// The order that a line without its line end spells: `comer ID`, `step ID` or `scan ID`, the id

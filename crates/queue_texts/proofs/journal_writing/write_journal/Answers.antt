@@ -1,5 +1,7 @@
-use Rattle.std.proofs.Common.{◌+◌, OnErr, arith, sym, take, drop, subst}
+use Rattle.std.proofs.Common.{◌+◌, OnErr, arith, rules, sym, take, drop, subst}
+use Rattle.std.proofs.KnownBytes.{Appends-nil}
 use Rattle.std.proofs.lemmas.List.{take-append-drop}
+use Rattle.std.specs.Prelude.{[]}
 use Rattle.byte_writer.specs.Bytes.{AppendsPart}
 use Rattle.queue_texts.proofs.Writing.{next_put_of, part_written, on_err, err_so}
 use Rattle.queue_texts.proofs.journal_writing.write_journal.Goals as goal
@@ -10,6 +12,9 @@ returns-in_err-put_line-clause-err g c =
     (part_written _ _ _ _ (take c.loop-line.line-index c.args.lines.now) (drop c.loop-line.line-index c.args.lines.now) c.args.lines.now
     (sym (take-append-drop c.loop-line.line-index c.args.lines.now))
     c.loop-line.invariant.1 c.in_err-put_line.ensures.err)
+
+pub loop-line-init : goal.loop-line-init
+loop-line-init g c = (search rules, ([], Appends-nil _, search rules))
 
 pub loop-line-preserved : goal.loop-line-preserved
 loop-line-preserved g c = (

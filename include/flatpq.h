@@ -11,8 +11,8 @@
  * A call goes through a member of the queue. That of pq_own(queue) is the calling thread's own, so any number of threads may call through it.
  * A program that wants to move a member between threads joins one itself (pq_join).
  *
- * Most calls take `until`, the time until which they may wait for the queue's lock, a member or an item. It is a time of pq_now, PQ_NOW
- * (never), or PQ_FOREVER. PQ_TIMED_OUT: nothing was done or will be, but for *done pushes of pq_push_many. Only pq_write is a cancellation
+ * Most calls take `until`, the time until which they may wait for the queue's lock, a member, an item or room. It is a time of pq_now,
+ * PQ_NOW (never), or PQ_FOREVER. PQ_TIMED_OUT: nothing was done or will be, but for *done pushes of pq_push_many. Only pq_write is a cancellation
  * point.
  *
  * All that a thread does before it pushes or moves an item happens before what another does after a call that returned it. So a value may be
@@ -160,7 +160,7 @@ uint32_t pq_place(pq_member *member);
 /* Requests. Each of these calls may also return PQ_NO_MEMBER, PQ_FORKED, PQ_EXHAUSTED, PQ_JOURNAL_FULL or PQ_UNARCHIVED. It may return
    PQ_TIMED_OUT unless `until` is PQ_FOREVER; a call by pq_own also PQ_CLOSED or PQ_NO_MEMORY. A call without `until` doesn't wait. number
    may be NULL; else *number is the number of the journal entry, if there is one. The first that is true refuses a request: PQ_JOURNAL_FULL,
-   PQ_SHUT, PQ_UNARCHIVED, PQ_FULL, PQ_NO_MEMORY. If nothing is there to take, a take is refused only for PQ_JOURNAL_FULL, or for PQ_UNARCHIVED
+   PQ_SHUT (a push), PQ_UNARCHIVED, PQ_FULL (a push), PQ_NO_MEMORY. If nothing is there to take, a take is refused only for PQ_JOURNAL_FULL, or for PQ_UNARCHIVED
    while a shut waits for the archive. */
 
 /* Puts an item in. If the queue has as many items as pq_options allow, the call waits until one goes out.
@@ -210,7 +210,7 @@ PQ_CHECKED pq_code pq_reschedule(pq_member *member, uint64_t ticket, uint64_t pr
    meanwhile. 32 may listen at once, and up to 58 while few threads wait. If all other members are joined and wait or
    listen, the last one may not listen. A call that may not listen returns PQ_ALL_JOINED.
    An item wakes one thread in pq_take. If no thread waits there, as many listeners of pq_take_or_listen are notified as there are items that
-   they can take, first come first served. Then one thread in pq_take_due is woken too, unless one of these wakes by itself in time. */
+   they can take, first come first served. Then one thread in pq_take_due is woken too, unless one there wakes in time by itself. */
 
 /* Takes the first item out if it is due (pq_take_due); else the member listens by `timer`, a timerfd of CLOCK_MONOTONIC that no other member
    has. It is readable once the first item is due, when an earlier one comes, on a shut, or sometimes for nothing. Then call again, while this

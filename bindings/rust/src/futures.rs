@@ -80,7 +80,7 @@ impl<K: Key, T: Send> TaskMember<K, T> {
     /// none leaves no journal entry.
     ///
     /// Wakers run after the call of the library that wakes, in the thread that pushes. If that waits in a call, or pushes by the library for C,
-    /// a thread of this crate runs them. The first poll starts it. So they may call the queue. If a waker panics, the call goes
+    /// a thread of this crate runs them. The first poll starts that thread. So they may call the queue. If a waker panics, the call goes
     /// on all the same.
     ///
     /// # Errors
@@ -246,9 +246,9 @@ impl<K: Key, T: Send> TaskMember<K, T> {
 
 impl<K: Key, T: Send> TaskQueue<K, T> {
     /// Waits for a payload by a future, as [`TaskMember::take_async`] does. A future that is polled joins, and gives that member back when
-    /// it is ready or dropped. One that gets none waits until another such future gives its own back, so any number may wait. Poll one that is
-    /// woken for that, or drop it: those that come later wait until then. If a task takes in a loop, join once and await by that member: it
-    /// takes half the time.
+    /// it is ready or dropped. One that gets none waits until another such future gives its own back, so any number may wait. Poll or
+    /// drop one that is woken for a member: later ones wait for it. If a task takes in a loop, join once and await by that member: it takes
+    /// half the time.
     ///
     /// # Errors
     ///

@@ -167,7 +167,7 @@ impl<K: Key, T: Send> TaskQueue<K, T> {
         })
     }
 
-    /// Joins the queue, if a member is left, or an idle one that it takes over. Leave one unjoined: else calls by the queue itself wait.
+    /// Joins the queue by a free member, or by an idle one that it takes over. Leave one unjoined: else calls by the queue itself wait.
     ///
     /// # Errors
     ///
@@ -176,7 +176,7 @@ impl<K: Key, T: Send> TaskQueue<K, T> {
         self.join_until(Until::NOW)
     }
 
-    /// Joins the queue as [`TaskQueue::join`] does, or waits until then for a member that another thread gives back.
+    /// Joins the queue as [`TaskQueue::join`] does, or waits until the deadline for a member that another thread gives back.
     ///
     /// # Errors
     ///

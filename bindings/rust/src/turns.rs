@@ -83,7 +83,7 @@ impl Inside {
 
 // No waker is copied, dropped or woken with the lock held.
 impl Turn<'_> {
-    /// Whether it has a turn. One that comes before another that was woken for its turn goes behind it.
+    /// Whether it has a turn. If another was woken for its turn and has yet to come, this one waits until then.
     pub fn begin(&mut self, waker: &Waker) -> bool {
         let mut line = locked(&self.line.0);
         let comes_late = self.has == Has::Nothing && line.called > 0;

@@ -144,8 +144,8 @@ static pq_code get_number(wait *it) {
         give_up_member(it);
         __atomic_fetch_add(&it->queue->unheld, is_unheld, SEQ);
         flatpq_sleep(given, seen, it->until);
-        flatpq_take_number(it);
         __atomic_fetch_sub(&it->queue->unheld, is_unheld, SEQ);
+        flatpq_take_number(it);
     }
     __atomic_fetch_sub(unnumbered, 1, SEQ);
     return get_member(it);

@@ -46,11 +46,14 @@ pq_code pq_shut(pq_queue *queue) {
     }
     pthread_mutex_lock(&flatpq_members);
     code = queue->is_closed ? PQ_CLOSED : PQ_OK;
-    /* A thread that finds the end may free the queue. Its memory stays until this call is done with it. */
-    __atomic_fetch_add(&queue->staying, code == PQ_OK, SEQ);
+    if (code == PQ_OK) {
+        /* A thread that finds the end may free the queue. Its memory stays until this call is done with it. */
+        __atomic_fetch_add(&queue->staying, 1, SEQ);
+        /* Under the lock: a close that comes next makes the shut. */
+        __atomic_compare_exchange_n(&queue->is_shut, &is_open, SHUT_WAITS, 0, SEQ, SEQ);
+    }
     pthread_mutex_unlock(&flatpq_members);
     if (code == PQ_OK) {
-        __atomic_compare_exchange_n(&queue->is_shut, &is_open, SHUT_WAITS, 0, SEQ, SEQ);
         shut_now(queue);
         flatpq_deliver(queue, __atomic_load_n(&queue->numbers, SEQ));
         flatpq_count(queue, &queue->staying, UINT32_MAX);

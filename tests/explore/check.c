@@ -267,6 +267,9 @@ void check_end(void) {
     }
     pq_give_back(observer);
     if (ending == CLOSED) {
+        if (has_shut && queue->is_shut != IS_SHUT && !waits_for_archive) {
+            fail("a shut returned, and the close made none");
+        }
         free_queue();
         return;
     }

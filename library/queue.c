@@ -295,12 +295,14 @@ void pq_give_back(pq_member *member) {
 }
 
 /* Carries out a shut that waits. All members are in, so nobody has the queue's lock. */
-static void end_shut(pq_queue *queue) {
+static pq_code end_shut(pq_queue *queue) {
     pq_member *member;
-    if (__atomic_load_n(&queue->is_shut, SEQ) == SHUT_WAITS && join(queue, &member) == PQ_OK) {
+    pq_code code = PQ_OK;
+    if (__atomic_load_n(&queue->is_shut, SEQ) == SHUT_WAITS && (code = join(queue, &member)) == PQ_OK) {
         (void)!flatpq_before(member);
         give_back(queue, member);
     }
+    return code;
 }
 
 /* Under the lock. */
@@ -313,8 +315,10 @@ static pq_code close_proved(pq_queue *queue, core *journal) {
     if (queue->out > 0 || __atomic_load_n(&queue->waiting, SEQ) > 0) {
         return PQ_MEMBERS_LEFT;
     }
-    end_shut(queue);
-    code = LEAVE_OUT(pq_core_close(&queue->proved, journal));
+    code = end_shut(queue);
+    if (code == PQ_OK) {
+        code = LEAVE_OUT(pq_core_close(&queue->proved, journal));
+    }
     if (code == PQ_OK) {
         __atomic_store_n(&queue->is_closed, 1, SEQ);
         refuse_all(queue);

@@ -256,6 +256,22 @@ static void *has_own_members(void *unused) {
     return unused;
 }
 
+/* A shut that found all members in use waits for a close, which makes it or is refused. */
+static void *closes_while_a_shut_waits(void *unused) {
+    pq_queue *queue = opened(1);
+    pq_member *member = joined(queue);
+    pq_journal *journal = NULL;
+    pq_entry entry;
+    long asked;
+    CHECK(pq_shut(queue) == PQ_OK);
+    pq_give_back(member);
+    AT_LAST(asked, pq_close(queue, &journal), journal == NULL && out == had);
+    CHECK(asked > 1 && pq_count(journal, NULL) == 1 && pq_read(journal, 0, &entry) == PQ_OK && entry.request == PQ_SHUTS);
+    pq_free(queue, NULL, NULL);
+    pq_journal_free(journal);
+    return unused;
+}
+
 /* Where a push is refused, so is a move, and the item stays where it is. */
 static void a_refused_move_leaves_the_item(uint32_t keeping, uint32_t entries, uint64_t most_items) {
     const pq_options options = { 1, keeping, entries, 1, 0, 0, most_items };
@@ -308,6 +324,7 @@ int main(void) {
         goes_on_without_memory(PQ_FORGETS, 0);
         goes_on_without_memory(PQ_REFUSES, 0);
         ended(started(has_own_members, NULL));
+        ended(started(closes_while_a_shut_waits, NULL));
         CHECK(out == 0);
     }
     return 0;

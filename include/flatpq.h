@@ -259,7 +259,8 @@ typedef struct pq_entry {
 } pq_entry;
 
 /* Copies the entries after the first `archived`, and counts those first ones as archived from now on. PQ_OK; PQ_BAD_OPTION: the journal has fewer
-   entries than that; PQ_FORGOTTEN, PQ_NO_MEMORY, PQ_TIMED_OUT, PQ_NO_MEMBER, PQ_CLOSED, PQ_FORKED: *journal is NULL. */
+   entries than that; PQ_FORGOTTEN, PQ_NO_MEMORY, PQ_TIMED_OUT, PQ_NO_MEMBER, PQ_CLOSED, PQ_FORKED: *journal is NULL. After PQ_NO_MEMORY requests
+   that those first entries kept back (PQ_UNARCHIVED) may go on, and threads in pq_wait_archived don't. */
 PQ_CHECKED pq_code pq_archive(pq_member *member, uint64_t archived, uint64_t until, pq_journal **journal);
 
 /* Waits until a pq_archive of the queue has counted the entry of this number as archived. An archiver passes `archived` on once these entries

@@ -3,7 +3,7 @@ use Rattle.std.proofs.Common.{◌≡◌, ℕ, ◌+◌, Bool, true, false, List, 
 use Rattle.std.proofs.lemmas.List.{take_more}
 use Rattle.std.specs.Io.KnownBytes.{Appends}
 use Rattle.std.proofs.KnownBytes.{Appends-nil, Appends-trans}
-use Rattle.std.specs.Prelude.{Result, Ok, Err, OnOk, is_err, Some, None, IfSome, IfNone}
+use Rattle.std.specs.Prelude.{Result, Ok, Err, Some, None, IfSome, IfNone}
 use Rattle.pq_types.specs.Asked.{Line}
 use Rattle.flat_queue.specs.declared.error.ArchiveError.{ArchiveError}
 use Rattle.flat_queue.specs.declared.error.ArchiveError.TheVariants.{Forgotten, NoMemory, Ahead}
@@ -209,8 +209,3 @@ idle_trans a b c g h =
       mine = h.mine ∙ g.mine;
       known = starts_trans c.pen.known b.pen.known a.pen.known h.known g.known;
     }
-
--- what holds where a call succeeds holds where it has no error
-pub on_ok : {A E X : Type 0} (r : Result A E) → OnOk r X → is_err r ≡ false → X
-on_ok (Ok a) h e = h
-on_ok (Err e) h off = absurd (cc)

@@ -62,12 +62,12 @@ fn put<W: Write, P: Part>(
     let Ok(text) = text_of_lines(alloc, written + 1, page) else {
         return failed;
     };
-    if write_bytes(writer, text.as_slice()).is_err() {
-        return failed;
-    }
-    JournalWriter {
-        written: lines,
-        failed: false,
+    match write_bytes(writer, text.as_slice()) {
+        Ok(()) => JournalWriter {
+            written: lines,
+            failed: false,
+        },
+        Err(_) => failed,
     }
 }
 

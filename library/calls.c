@@ -127,11 +127,11 @@ static pq_code try_again(void *asked) {
 
 static pq_code try_until(uint32_t request, call *it) {
     trying again = { request, it };
-    return flatpq_try_again(try_again, &again, it->member->queue, it->until);
+    return flatpq_try_again(try_again, &again, it->member->queue, it->until, CALL);
 }
 
 static pq_code try_and_post(uint32_t request, call *it) {
-    rest resting = flatpq_rest_of(it->member->queue, PQ_FOREVER, 1);
+    rest resting = flatpq_rest_of(it->member->queue, PQ_FOREVER, MAY_POST);
     pq_code code = LOCK_HELD;
     while (code == LOCK_HELD && resting.now < resting.posts && flatpq_spins(&resting)) {
         code = try_call(request, it);

@@ -216,9 +216,11 @@ static inline void flatpq_end(own *mine) {
 typedef struct rest {
     uint64_t until, nap; /* how long a nap is */
     uint64_t now, posts, ends; /* the time that it last read; until when it only tries the lock; until when it spins, 0: it spins no more */
-    uint32_t pauses, tries;
+    uint32_t pauses, tries, is_late;
 } rest;
-HIDDEN rest flatpq_rest_of(const pq_queue *queue, uint64_t until, int may_post);
+/* What finds the lock held: a call, one that may post its request, or a look for an item that is due. */
+enum { CALL, MAY_POST, LOOK };
+HIDDEN rest flatpq_rest_of(const pq_queue *queue, uint64_t until, uint32_t kind);
 HIDDEN int flatpq_spins(rest *it); /* pauses: 0 where the spin is over */
 HIDDEN int flatpq_rests(rest *it); /* pauses or naps: 0 where the time has come */
 HIDDEN void flatpq_rested(const rest *it);
@@ -228,10 +230,10 @@ HIDDEN void flatpq_rested(const rest *it);
 
 /* Tries until the lock is free, or until then: PQ_TIMED_OUT. */
 typedef pq_code attempt(void *asked);
-HIDDEN pq_code flatpq_try_again(attempt *tries, void *asked, const pq_queue *queue, uint64_t until);
+HIDDEN pq_code flatpq_try_again(attempt *tries, void *asked, const pq_queue *queue, uint64_t until, uint32_t kind);
 INLINE pq_code flatpq_try(attempt *tries, void *asked, const pq_queue *queue, uint64_t until) {
     pq_code code = tries(asked);
-    return LIKELY(code != LOCK_HELD) ? code : flatpq_try_again(tries, asked, queue, until);
+    return LIKELY(code != LOCK_HELD) ? code : flatpq_try_again(tries, asked, queue, until, CALL);
 }
 
 /*

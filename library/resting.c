@@ -9,13 +9,15 @@
  * works between its calls, naps short while each member may have a processor: then another serves it soon. It posts at once where calls come so
  * often that the thread which has the lock is to carry out many. Nor does a thread spin for some calls after spins that ended before the lock was
  * free, as where the thread that has the lock has no processor.
+ *
+ * A look for an item that is due is served by nobody, and the item is late already. So it tries often, and for long.
  */
 #include "inside.h"
 
 #include <sched.h>
 
-/* For how long a call only tries the lock, and for how long it spins in all. */
-enum { TRIES = 1000, SPINS = 10000 };
+/* For how long a call only tries the lock, and for how long it spins in all; and where an item is late. */
+enum { TRIES = 1000, SPINS = 10000, SPINS_IF_LATE = 40000 };
 /* How far apart a thread's calls are at least, where it spins; where it is served soon; and where it then tries the lock before it posts, while more
    than so many members are in use. */
 enum { APART = 400, APART_IF_SERVED = 270, APART_TO_TRY = 1100, PAIR = 2 };
@@ -37,12 +39,12 @@ static uint64_t apart(pace *it, uint64_t now) {
     return it->apart;
 }
 
-rest flatpq_rest_of(const pq_queue *queue, uint64_t until, int may_post) {
+rest flatpq_rest_of(const pq_queue *queue, uint64_t until, uint32_t kind) {
     const uint64_t members = __atomic_load_n(&queue->out, __ATOMIC_RELAXED);
     const uint64_t nap = NAP_OF_ALL + members * NAP_OF_EACH;
-    const int is_served = may_post && members <= flatpq_processors + IDLE;
+    const int is_served = kind == MAY_POST && members <= flatpq_processors + IDLE;
     pace *calls = &flatpq_pace;
-    rest made = { .until = until, .nap = nap > NAP ? nap : NAP, .pauses = 1 };
+    rest made = { .until = until, .nap = nap > NAP ? nap : NAP, .pauses = 1, .is_late = kind == LOOK };
     if (flatpq_processors == 1 || until == PQ_NOW) {
         return made;
     }
@@ -50,19 +52,20 @@ rest flatpq_rest_of(const pq_queue *queue, uint64_t until, int may_post) {
     if (until <= made.now || apart(calls, made.now) < (is_served ? APART_IF_SERVED : APART)) {
         return made;
     }
-    made.nap = is_served ? members * SHORT_NAP_OF_EACH : made.nap;
-    if (calls->skips > 0) {
+    made.nap = is_served || made.is_late ? members * SHORT_NAP_OF_EACH : made.nap;
+    if (calls->skips > 0 && !made.is_late) {
         calls->skips--;
         return made;
     }
     made.posts = made.now + (is_served && members > PAIR && calls->apart < APART_TO_TRY ? 0 : TRIES);
-    made.ends = until < made.now + SPINS ? until : made.now + SPINS;
+    made.ends = made.now + (made.is_late ? SPINS_IF_LATE : SPINS);
+    made.ends = until < made.ends ? until : made.ends;
     return made;
 }
 
 /* Pauses before the next try of a spin: 0 where that is over. */
 int flatpq_spins(rest *it) {
-    const uint32_t most_pauses = 32, most_fails = 6;
+    const uint32_t most_pauses = it->is_late ? 4 : 32, most_fails = 6;
     if (it->ends == 0) {
         return 0;
     }
@@ -70,8 +73,10 @@ int flatpq_spins(rest *it) {
     if (it->now >= it->ends) {
         pace *calls = &flatpq_pace;
         it->ends = 0;
-        calls->fails += calls->fails < most_fails;
-        calls->skips = (1u << calls->fails) - 1;
+        if (!it->is_late) {
+            calls->fails += calls->fails < most_fails;
+            calls->skips = (1u << calls->fails) - 1;
+        }
         return 0;
     }
     for (uint32_t i = 0; i < it->pauses; i++) {
@@ -108,14 +113,14 @@ int flatpq_rests(rest *it) {
 void flatpq_rested(const rest *it) {
     if (flatpq_processors > 1) {
         pace *calls = &flatpq_pace;
-        calls->fails = it->ends != 0 ? 0 : calls->fails;
+        calls->fails = it->ends != 0 && !it->is_late ? 0 : calls->fails;
         calls->calls = 0;
         calls->waited = pq_now();
     }
 }
 
-pq_code flatpq_try_again(attempt *tries, void *asked, const pq_queue *queue, uint64_t until) {
-    rest resting = flatpq_rest_of(queue, until, 0);
+pq_code flatpq_try_again(attempt *tries, void *asked, const pq_queue *queue, uint64_t until, uint32_t kind) {
+    rest resting = flatpq_rest_of(queue, until, kind);
     pq_code code = LOCK_HELD;
     while (code == LOCK_HELD && flatpq_rests(&resting)) {
         code = tries(asked);

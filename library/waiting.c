@@ -184,7 +184,8 @@ pq_code flatpq_step(wait *it, uint32_t word, uint64_t until) {
                           : flatpq_take_first(it->member, it->item.priority, until, it->answer);
     }
     __atomic_store_n(&flatpq_waiter_of(it)->word, word, SEQ);
-    code = flatpq_try(try_step, it, it->queue, until);
+    code = try_step(it);
+    code = code == LOCK_HELD ? flatpq_try_again(try_step, it, it->queue, until, it->wants == DUE ? LOOK : CALL) : code;
     if (code != PQ_OK && code != ENTERED && code != WATCHES) {
         return code;
     }

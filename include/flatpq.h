@@ -19,8 +19,9 @@
  * a pointer.
  *
  * Unchecked preconditions: pointers are valid. A joined member is in one call at a time. No call is made from a signal handler, or left by
- * longjmp. Nothing is used after it was freed, but joined members until they are given back. A queue, and pq_own(queue), may be in calls of many threads. A thread that dies in a call may
- * keep the queue's lock: then calls with a deadline time out, and others hang. If it keeps another lock, any call may hang.
+ * longjmp. Nothing is used after it was freed, except joined members that are not yet given back. A queue, and pq_own(queue), may be in calls of
+ * many threads. A thread that dies in a call may keep the queue's lock: then calls with a deadline time out, and others hang. If it keeps another
+ * lock, any call may hang.
  */
 #ifndef FLATPQ_H
 #define FLATPQ_H
@@ -125,7 +126,7 @@ PQ_CHECKED pq_code pq_open(const pq_options *options, pq_queue **queue);
    soon as more has been archived. Until then each request is refused (PQ_UNARCHIVED). It may be called again. PQ_OK; PQ_CLOSED, PQ_FORKED. */
 pq_code pq_shut(pq_queue *queue);
 
-/* 1: the queue is shut, so each push that begins from now on is refused. 0: none was refused for that before this call; or in a forked child. */
+/* 1: the queue is shut, so each push that begins from now on is refused. 0: it was not shut when the call began; or in a forked child. */
 int pq_is_shut(pq_queue *queue);
 
 /* Closes the queue. *journal gets its journal and the items that are left in it; journal may be NULL. The call takes back the own members
@@ -160,8 +161,8 @@ uint32_t pq_place(pq_member *member);
 /* Requests. Each of these calls may also return PQ_NO_MEMBER, PQ_FORKED, PQ_EXHAUSTED, PQ_JOURNAL_FULL or PQ_UNARCHIVED. It may return
    PQ_TIMED_OUT unless `until` is PQ_FOREVER; a call by pq_own also PQ_CLOSED or PQ_NO_MEMORY. A call without `until` doesn't wait. number
    may be NULL; else *number is the number of the journal entry, if there is one. The first that is true refuses a request: PQ_JOURNAL_FULL,
-   PQ_SHUT (a push), PQ_UNARCHIVED, PQ_FULL (a push), PQ_NO_MEMORY. If nothing is there to take, a take is refused only for PQ_JOURNAL_FULL, or for PQ_UNARCHIVED
-   while a shut waits for the archive. */
+   PQ_SHUT (a push), PQ_UNARCHIVED, PQ_FULL (a push), PQ_NO_MEMORY. If nothing is there to take, a take is refused only for PQ_JOURNAL_FULL, or for
+   PQ_UNARCHIVED while a shut waits for the archive. */
 
 /* Puts an item in. If the queue has as many items as pq_options allow, the call waits until one goes out.
    PQ_OK; PQ_FULL: there was no room until then; PQ_SHUT, PQ_NO_MEMORY. */
@@ -210,27 +211,27 @@ PQ_CHECKED pq_code pq_reschedule(pq_member *member, uint64_t ticket, uint64_t pr
    meanwhile. 32 may listen at once, and up to 58 while few threads wait. If all other members are joined and wait or
    listen, the last one may not listen. A call that may not listen returns PQ_ALL_JOINED.
    An item wakes one thread in pq_take. If no thread waits there, as many listeners of pq_take_or_listen are notified as there are items that
-   they can take, first come first served. Then one thread in pq_take_due is woken too, unless one there wakes in time by itself. */
+   they can take, first come first served. If no thread in pq_take was woken, one in pq_take_due is, unless one there wakes in time by itself. */
 
 /* Takes the first item out if it is due (pq_take_due); else the member listens by `timer`, a timerfd of CLOCK_MONOTONIC that no other member
    has. It is readable once the first item is due, when an earlier one comes, on a shut, or sometimes for nothing. Then call again, while this
    returns PQ_OK. All such timers are readable for an item, which one member gets. The program neither sets nor reads the timer, and closes it
-   after pq_unlisten. The call does not wait for the queue's lock. If others have that, or all members, for long, it returns PQ_EMPTY, and the
+   after pq_unlisten. The call tries the lock some times, and never sleeps. If others still have it, or all members, it returns PQ_EMPTY, and the
    timer is readable within 0.1 ms. PQ_OK; PQ_NOT_DUE, PQ_EMPTY: wait for the timer; after PQ_NOT_DUE *item is the first item, which stays;
    PQ_SHUT; PQ_NO_TIMER; or a refusal. */
 PQ_CHECKED pq_code pq_take_due_or_listen(pq_member *member, int timer, pq_item *item, uint64_t *number);
 
-/* Takes the first item out if its priority is at most this one; else the member listens. It does not wait for the queue's lock.
+/* Takes the first item out if its priority is at most this one; else the member listens. It tries the lock some times, and never sleeps.
    PQ_OK; PQ_EMPTY: it listens; PQ_NOT_DUE: it listens, and *item is the first item, and stays; PQ_SHUT; or a refusal. After PQ_NOT_DUE call
    again once *item is within the bound: nothing notifies of that. While the member listens, notify(context) is called at most once, after a
-   push, move or shut, or for nothing. Any thread that calls the queue may call it. If others have the lock, or all members, for long, this call does,
-   and returns PQ_EMPTY although items may be there. After notify call again. notify must not wait or call this library. Of a first item that no
-   listener can take yet one is notified, if it is earlier than those which they saw. */
+   push, move or shut, or for nothing. Any thread that calls the queue may call it. If others still have the lock, or all members, this call does,
+   and returns PQ_EMPTY although items may be there. After notify call again. notify must not wait or call this library. If no listener can take
+   the new first item, and it is earlier than those that they saw, one is notified. */
 PQ_CHECKED pq_code pq_take_or_listen(pq_member *member, uint64_t priority, pq_item *item, uint64_t *number,
                                      void (*notify)(void *context), void *context);
 
 /* Puts an item in, if there is room; else the member listens for room as by pq_take_or_listen. After notify call again, or pq_unlisten: others
-   that listen for room may rely on that. If others have the lock, or all members, for long, this call notifies, and returns PQ_FULL although there
+   that listen for room may rely on that. If others still have the lock, or all members, this call notifies, and returns PQ_FULL although there
    may be room. PQ_OK; PQ_FULL: it listens; PQ_SHUT, PQ_NO_MEMORY; or a refusal. */
 PQ_CHECKED pq_code pq_push_or_listen(pq_member *member, pq_item item, uint64_t *number, void (*notify)(void *context), void *context);
 
@@ -259,8 +260,8 @@ typedef struct pq_entry {
 } pq_entry;
 
 /* Copies the entries after the first `archived`, and counts those first ones as archived from now on. PQ_OK; PQ_BAD_OPTION: the journal has fewer
-   entries than that; PQ_FORGOTTEN, PQ_NO_MEMORY, PQ_TIMED_OUT, PQ_NO_MEMBER, PQ_CLOSED, PQ_FORKED: *journal is NULL. After PQ_NO_MEMORY requests
-   that those first entries kept back (PQ_UNARCHIVED) may go on, and threads in pq_wait_archived don't. */
+   entries than that; PQ_FORGOTTEN, PQ_NO_MEMORY, PQ_TIMED_OUT, PQ_NO_MEMBER, PQ_CLOSED, PQ_FORKED: *journal is NULL. After PQ_NO_MEMORY those
+   first entries hold up no more requests (PQ_UNARCHIVED), but threads in pq_wait_archived wait on. */
 PQ_CHECKED pq_code pq_archive(pq_member *member, uint64_t archived, uint64_t until, pq_journal **journal);
 
 /* Waits until a pq_archive of the queue has counted the entry of this number as archived. An archiver passes `archived` on once these entries

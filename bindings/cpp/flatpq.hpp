@@ -162,8 +162,8 @@ public:
     }
 
     /// Puts a range of items in, and moves their payloads, up to the first that is refused. Its items are those of the queue, types of the
-    /// program with the same members, or pairs, as of a std::map. Of values braces will do: `queue.push_many({{1, 2}, {3, 4}})`. The range can be
-    /// gone through twice, as a vector: what a drain or an input iterator gives is collected first.
+    /// program with the same members, or pairs, as of a std::map. Of values braces will do: `queue.push_many({{1, 2}, {3, 4}})`. The range must
+    /// allow two passes, as a vector does. Collect what a drain or an input iterator gives into a vector first.
     template <class Range = std::initializer_list<item>> pushed_many push_many(Range &&items, deadline until = {}) noexcept {
         using one = decltype(*std::begin(items));
         static_assert(!is_single_pass<decltype(std::begin(items))>, "a batch is a range that can be gone through twice");
@@ -391,7 +391,8 @@ public:
     using key = typename Items::key;
     using found = typename calls<Items>::found;
 
-    /// The descriptor. It is readable from the first, and whenever an item may be there or be due, there may be room, or the queue is shut.
+    /// The descriptor. It is readable from the first. After a call that found nothing it is once an item may be there or be due, there may be
+    /// room, or the queue is shut.
     [[nodiscard]] int fd() const noexcept { return fd_; }
 
 protected:
@@ -424,8 +425,8 @@ public:
 
     /// Takes the first item out, or the first one whose key is at most this one. Call it when the descriptor is readable, until it returns
     /// code::empty, or code::not_due with found::first(), which stays. The descriptor is then readable once an item comes that may be for it, or
-    /// the queue is shut, or at once if other threads had the lock for long. After code::not_due call it again once first() is within the bound.
-    /// It never waits. After code::shut, or a refusal, the descriptor stays readable.
+    /// the queue is shut. If other threads still have the lock, it is readable at once. After code::not_due call it again once first() is within
+    /// the bound. It never waits. After code::shut, or a refusal, the descriptor stays readable.
     found take_or_listen() noexcept { return taken(UINT64_MAX); }
     found take_or_listen(const key &bound) noexcept { return taken(key_order<key>::number(bound)); }
     template <class Number, detail::if_signed_for<key, Number> = 0> void take_or_listen(Number) = delete; // write 5u for 5

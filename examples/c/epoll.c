@@ -1,4 +1,4 @@
-/* An event loop by epoll that runs timers. One descriptor, a timer, stands for the queue: it is readable once the first item is due, another
+/* An event loop by epoll that runs timers. One descriptor, a timer, stands for the queue. It is readable once the first item is due, another
    thread has pushed an earlier one, or the queue is shut. The other is a pipe, whose end says that no more items come. */
 #define _POSIX_C_SOURCE 200809L
 #include "flatpq.h"

@@ -1,4 +1,4 @@
-/* A pipeline whose reader can't run ahead. A reader hands lines to a writer through a queue that holds 4 of them at most: where it is full the
+/* A pipeline whose reader can't run ahead. A reader hands lines to a writer through a queue that holds 4 of them at most. If it is full, the
    reader waits until the writer has taken one. An item's value is a pointer to its line, and its priority is the line's number. */
 #include "flatpq.h"
 

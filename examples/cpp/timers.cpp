@@ -1,5 +1,5 @@
 // A timer service. Two threads run each function once its time has come, to the nanosecond. A heart beats by pushing its next beat, and
-// its last one shuts the service: what is left runs in its time, and then the threads end.
+// its last one shuts the service. What is left runs in its time, and then the threads end.
 #include "flatpq_tasks.hpp"
 
 #include <algorithm>

@@ -1,5 +1,5 @@
 //! Timers in an asynchronous task, over an executor of a few lines. The task takes what is due, and else waits until the listener's descriptor
-//! is readable: once the first timer is due, another thread has pushed an earlier one, or the queue is shut. The task itself is as for tokio.
+//! is readable. It is once the first timer is due, another thread has pushed an earlier one, or the queue is shut. The task itself is as for tokio.
 use flatpq::{Due, Error, TaskQueue};
 use std::cell::Cell;
 use std::future::Future;

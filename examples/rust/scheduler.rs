@@ -1,5 +1,5 @@
 //! A scheduler. Threads share tasks, each with the hour at which it is due. A worker runs the task that is due first, and puts it in again
-//! for its next hour, for as long as one is due today. At the end the journal shows when each task ran.
+//! for its next hour. It ends once none is due today. At the end the journal shows when each task ran.
 use flatpq::{Due, Error, Queue, Request};
 use std::thread;
 

@@ -86,7 +86,7 @@ impl<K: Key, T: Send> TaskMember<K, T> {
     /// # Errors
     ///
     /// Those of [`TaskMember::take`], and [`Error::NoMemory`] if that thread can't start. [`Error::AllJoined`] if as many listen as may: 32, and up
-    /// to 58 while few threads wait. So too if all other members are joined and wait, as calls need the last one.
+    /// to 58 while few threads wait. So too if all other members are joined and wait or listen: calls need the last one.
     ///
     /// ```
     /// use std::future::Future;
@@ -246,8 +246,8 @@ impl<K: Key, T: Send> TaskMember<K, T> {
 
 impl<K: Key, T: Send> TaskQueue<K, T> {
     /// Waits for a payload by a future, as [`TaskMember::take_async`] does. A future that is polled joins, and gives that member back when
-    /// it is ready or dropped. One that gets none waits until another such future gives its own back, so any number may wait. Poll or
-    /// drop one that is woken for a member: later ones wait for it. If a task takes in a loop, join once and await by that member: it takes
+    /// it is ready or dropped. One that gets none waits until another such future gives its own back, so any number may wait. Once
+    /// woken, poll or drop a future promptly: later ones wait for it. If a task takes in a loop, join once and await by that member: it takes
     /// half the time.
     ///
     /// # Errors

@@ -105,7 +105,7 @@ impl<T> Drop for Shared<T> {
 ///
 /// # Errors
 ///
-/// Each call may return
+/// Unless its own text says otherwise, a call may return
 ///
 /// - [`Error::JournalFull`] and [`Error::Unarchived`], if the queue was opened so ([`Options::keeping`]), and [`Error::Exhausted`];
 /// - [`Error::NoMemory`], by the queue itself, for its thread's member;

@@ -76,7 +76,7 @@ typedef enum pq_code {
     PQ_NO_TICKETS = 59,   /* the queue was not opened with tickets */
     PQ_FORKED = 60,       /* this process is a forked child of one that had opened a queue */
     PQ_PROCESSOR = 61,    /* the processor has no SSE4.1 */
-    PQ_TIMED_OUT = 62,    /* other threads had the lock, or all members, until then */
+    PQ_TIMED_OUT = 62,    /* other threads had the lock, or all members, until then; or the entry was not archived (pq_wait_archived) */
     PQ_CLOSED = 63        /* the queue is closed */
 } pq_code;
 
@@ -123,7 +123,7 @@ PQ_CHECKED pq_code pq_open(const pq_options *options, pq_queue **queue);
    for an item take what is left, and return PQ_SHUT once nothing is left; no item comes after that. The shut has an entry (PQ_SHUTS), but in a
    full journal, which refuses pushes as before. The call waits for nothing. If it finds all members in use, or the lock held, the next call by
    a member makes the shut first, with that call's deadline. If the shut's entry could make memory forget an unarchived one, it is added as
-   soon as more has been archived. Until then each request is refused (PQ_UNARCHIVED). It may be called again. PQ_OK; PQ_CLOSED, PQ_FORKED. */
+   soon as more has been archived. Until then each request, also a push, is refused (PQ_UNARCHIVED). It may be called again. PQ_OK; PQ_CLOSED, PQ_FORKED. */
 pq_code pq_shut(pq_queue *queue);
 
 /* 1: the queue is shut, so each push that begins from now on is refused. 0: it was not shut when the call began; or in a forked child. */
@@ -147,7 +147,7 @@ pq_member *pq_own(pq_queue *queue);
 /* Gives the calling thread's own member back now, if the thread has one, and ends its listening. */
 void pq_leave(pq_queue *queue);
 
-/* Joins the queue. If all members are in use, it takes over one that its thread does not use (pq_own). Else it waits until then for one that
+/* Joins the queue. If all members are in use, it takes over one that its thread does not use (pq_own). Else it waits until `until` for one that
    is given back. The member may move between threads. PQ_OK; PQ_ALL_JOINED, PQ_NO_MEMORY, PQ_CLOSED, PQ_FORKED: *member is NULL. */
 PQ_CHECKED pq_code pq_join(pq_queue *queue, uint64_t until, pq_member **member);
 
@@ -224,9 +224,9 @@ PQ_CHECKED pq_code pq_take_due_or_listen(pq_member *member, int timer, pq_item *
 /* Takes the first item out if its priority is at most this one; else the member listens. It tries the lock some times, and never sleeps.
    PQ_OK; PQ_EMPTY: it listens; PQ_NOT_DUE: it listens, and *item is the first item, and stays; PQ_SHUT; or a refusal. After PQ_NOT_DUE call
    again once *item is within the bound: nothing notifies of that. While the member listens, notify(context) is called at most once, after a
-   push, move or shut, or for nothing. Any thread that calls the queue may call it. If others still have the lock, or all members, this call does,
-   and returns PQ_EMPTY although items may be there. After notify call again. notify must not wait or call this library. If no listener can take
-   the new first item, and it is earlier than those that they saw, one is notified. */
+   push, move or shut, or for nothing. Any thread that calls the queue may call it. If others still have the lock, or all members, this call itself
+   calls notify, and returns PQ_EMPTY although items may be there. After notify call again. notify must not wait or call this library. If no listener can take
+   the new first item, as it is above their bounds, and it is earlier than what they saw, one is notified. */
 PQ_CHECKED pq_code pq_take_or_listen(pq_member *member, uint64_t priority, pq_item *item, uint64_t *number,
                                      void (*notify)(void *context), void *context);
 
@@ -238,8 +238,8 @@ PQ_CHECKED pq_code pq_push_or_listen(pq_member *member, pq_item item, uint64_t *
 /* Ends the listening, as a take or a refused call does: notify neither runs nor is called again. 1: the member listened, and was not notified. */
 int pq_unlisten(pq_member *member);
 
-/* A notify that writes to an eventfd. context is its number: pq_notify_fd, (void *)(intptr_t)fd. Take until there is no item before the event
-   loop first waits, and whenever the descriptor is readable, after a read of it. */
+/* A notify that writes to an eventfd. context is its number: pq_notify_fd, (void *)(intptr_t)fd. Before the event loop first waits, and
+   after each read of the readable descriptor, take until no item is left. */
 void pq_notify_fd(void *context);
 
 /* Journals: of a closed queue, copied from an open one, or read back from text. Many threads may read one. */

@@ -391,8 +391,8 @@ public:
     using key = typename Items::key;
     using found = typename calls<Items>::found;
 
-    /// The descriptor. It is readable from the first. After a call that found nothing it is once an item may be there or be due, there may be
-    /// room, or the queue is shut.
+    /// The descriptor. It is readable from the first. After a call that found nothing it becomes readable once an item may be there or be due,
+    /// or there may be room. It also does on a shut.
     [[nodiscard]] int fd() const noexcept { return fd_; }
 
 protected:
@@ -476,7 +476,7 @@ public:
 
     /// Puts a key and a value, or a payload, in, if there is room. Else it returns code::full, and the payload is where it was. Call it when there
     /// is something to push, and after code::full once the descriptor is readable: after a pop, a removal or a shut. It never waits. After a push
-    /// the descriptor is not readable, also if there is room. After code::shut, or a refusal, it stays readable.
+    /// the descriptor stays unreadable, even if there is room. After code::shut, or a refusal, it stays readable.
     result<std::uint64_t> push_or_listen(const key &priority, payload &&value) noexcept {
         eventfd_t count = 0;
         void *const context = reinterpret_cast<void *>(static_cast<std::intptr_t>(this->fd_));

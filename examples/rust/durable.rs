@@ -1,7 +1,7 @@
 //! A job queue that survives a crash. The queue's journal is a file. At the start the file is read back, and the jobs that are left go into
 //! a new queue, which begins a new file. An archiver appends what is new to the file, and syncs once for all of it. A job is acknowledged
-//! once its entry is on disk: as pushed, and as taken out and done. So a job that was acknowledged as pushed is not lost, and one that was
-//! acknowledged as done doesn't come back. One that is taken out when the program crashes comes back unless its pop is on disk.
+//! once its entry is on disk: as pushed, and as taken out and done. So a job that was acknowledged as pushed is not lost before its pop
+//! is on disk. One that was acknowledged as done doesn't come back. After its pop is on disk a crash loses a job, even unfinished.
 //!
 //! `durable [FILE [FIRST [JOBS]]]`: pushes so many jobs, with numbers from FIRST on, and does all that there are. FILE is in this folder.
 use flatpq::{Error, Keeping, Options, Queue, ReadBack, TaskJournal};

@@ -43,8 +43,8 @@
 //!
 //! In a forked child of a process that has opened a queue each call is refused ([`Error::Forked`]), and payloads are not dropped.
 //!
-//! The crate links the static library in the folder `FLATPQ_LIB_DIR`. Without that it takes the first of these: `lib/` of its own folder,
-//! `out/` of the clone that it is in, what `pkg-config` knows. If `FLATPQ_DYNAMIC` is 1, it links the shared library of `pkg-config`. It
+//! The crate links the static library in the folder `FLATPQ_LIB_DIR`. Without that it takes the first of these: that of the package that
+//! holds the crate, `out/` of the clone that it is in, what `pkg-config` knows. If `FLATPQ_DYNAMIC` is 1, it links the shared library of `pkg-config`. It
 //! compares versions only where it asks `pkg-config`; else compare [`library_version`].
 #![deny(missing_docs)]
 #![deny(missing_debug_implementations)]

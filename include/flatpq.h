@@ -123,7 +123,8 @@ PQ_CHECKED pq_code pq_open(const pq_options *options, pq_queue **queue);
    for an item take what is left, and return PQ_SHUT once nothing is left; no item comes after that. The shut has an entry (PQ_SHUTS), but in a
    full journal, which refuses pushes as before. The call waits for nothing. If it finds all members in use, or the lock held, the next call by
    a member makes the shut first, with that call's deadline. If the shut's entry could make memory forget an unarchived one, it is added as
-   soon as more has been archived. Until then each request, also a push, is refused (PQ_UNARCHIVED). It may be called again. PQ_OK; PQ_CLOSED, PQ_FORKED. */
+   soon as more has been archived. Until then each request, also a push, is refused (PQ_UNARCHIVED). It may be called again.
+   PQ_OK; PQ_CLOSED, PQ_FORKED. */
 pq_code pq_shut(pq_queue *queue);
 
 /* 1: the queue is shut, so each push that begins from now on is refused. 0: it was not shut when the call began; or in a forked child. */
@@ -216,17 +217,17 @@ PQ_CHECKED pq_code pq_reschedule(pq_member *member, uint64_t ticket, uint64_t pr
 /* Takes the first item out if it is due (pq_take_due); else the member listens by `timer`, a timerfd of CLOCK_MONOTONIC that no other member
    has. It is readable once the first item is due, when an earlier one comes, on a shut, or sometimes for nothing. Then call again, while this
    returns PQ_OK. All such timers are readable for an item, which one member gets. The program neither sets nor reads the timer, and closes it
-   after pq_unlisten. The call tries the lock some times, and never sleeps. If others still have it, or all members, it returns PQ_EMPTY, and the
+   after pq_unlisten. The call tries the lock some times, and does not sleep for it. If others still have it, or all members, it returns PQ_EMPTY, and the
    timer is readable within 0.1 ms. PQ_OK; PQ_NOT_DUE, PQ_EMPTY: wait for the timer; after PQ_NOT_DUE *item is the first item, which stays;
    PQ_SHUT; PQ_NO_TIMER; or a refusal. */
 PQ_CHECKED pq_code pq_take_due_or_listen(pq_member *member, int timer, pq_item *item, uint64_t *number);
 
-/* Takes the first item out if its priority is at most this one; else the member listens. It tries the lock some times, and never sleeps.
+/* Takes the first item out if its priority is at most this one; else the member listens. It tries the lock some times, and does not sleep for it.
    PQ_OK; PQ_EMPTY: it listens; PQ_NOT_DUE: it listens, and *item is the first item, and stays; PQ_SHUT; or a refusal. After PQ_NOT_DUE call
    again once *item is within the bound: nothing notifies of that. While the member listens, notify(context) is called at most once, after a
    push, move or shut, or for nothing. Any thread that calls the queue may call it. If others still have the lock, or all members, this call itself
-   calls notify, and returns PQ_EMPTY although items may be there. After notify call again. notify must not wait or call this library. If no listener can take
-   the new first item, as it is above their bounds, and it is earlier than what they saw, one is notified. */
+   calls notify, and returns PQ_EMPTY although items may be there. After notify call again. notify must not wait or call this library. If no
+   listener can take the new first item, as it is above their bounds, and it is earlier than what they saw, one is notified. */
 PQ_CHECKED pq_code pq_take_or_listen(pq_member *member, uint64_t priority, pq_item *item, uint64_t *number,
                                      void (*notify)(void *context), void *context);
 

@@ -217,9 +217,9 @@ PQ_CHECKED pq_code pq_reschedule(pq_member *member, uint64_t ticket, uint64_t pr
 /* Takes the first item out if it is due (pq_take_due); else the member listens by `timer`, a timerfd of CLOCK_MONOTONIC that no other member
    has. It is readable once the first item is due, when an earlier one comes, on a shut, or sometimes for nothing. Then call again, while this
    returns PQ_OK. All such timers are readable for an item, which one member gets. The program neither sets nor reads the timer, and closes it
-   after pq_unlisten. The call tries the lock some times, and does not sleep for it. If others still have it, or all members, it returns PQ_EMPTY, and the
-   timer is readable within 0.1 ms. PQ_OK; PQ_NOT_DUE, PQ_EMPTY: wait for the timer; after PQ_NOT_DUE *item is the first item, which stays;
-   PQ_SHUT; PQ_NO_TIMER; or a refusal. */
+   after pq_unlisten. The call tries the lock some times, and does not sleep for it. If others still have it, or all members, it returns PQ_EMPTY,
+   and the timer is readable within 0.1 ms. PQ_OK; PQ_NOT_DUE, PQ_EMPTY: wait for the timer; after PQ_NOT_DUE *item is the first item, which
+   stays; PQ_SHUT; PQ_NO_TIMER; or a refusal. */
 PQ_CHECKED pq_code pq_take_due_or_listen(pq_member *member, int timer, pq_item *item, uint64_t *number);
 
 /* Takes the first item out if its priority is at most this one; else the member listens. It tries the lock some times, and does not sleep for it.

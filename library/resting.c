@@ -113,7 +113,7 @@ int flatpq_rests(rest *it) {
 void flatpq_rested(const rest *it) {
     if (flatpq_processors > 1) {
         pace *calls = &flatpq_pace;
-        calls->fails = it->ends != 0 && !it->is_late ? 0 : calls->fails;
+        calls->fails = it->ends != 0 ? 0 : calls->fails;
         calls->calls = 0;
         calls->waited = pq_now();
     }

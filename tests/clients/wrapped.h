@@ -20,7 +20,8 @@ enum holds { HOLDS_NOTHING = 0, HOLDS_AND_STOPS = 1 };
 static __thread enum holds wrapped_next;
 static int wrapped_holds, wrapped_lets_go;
 
-void *__wrap_malloc(size_t size) {
+/* The thread asks for memory. */
+static inline void wrapped_asks(void) {
     enum holds next = wrapped_next;
     wrapped_next = HOLDS_NOTHING;
     if (next != HOLDS_NOTHING) {
@@ -29,6 +30,10 @@ void *__wrap_malloc(size_t size) {
     while (next == HOLDS_AND_STOPS && !__atomic_load_n(&wrapped_lets_go, __ATOMIC_ACQUIRE)) {
         sleep_ms(1);
     }
+}
+
+void *__wrap_malloc(size_t size) {
+    wrapped_asks();
     return __real_malloc(size);
 }
 

@@ -1,12 +1,14 @@
 /* Waits, spins and naps to the nanosecond: over a clock and sleeps of the test's own, each of which takes exactly as long as it was asked for. No
-   wait ends before its deadline or goes on after it; a nap is as long as it should be; and calls spin at first, where time passes with each look
-   at the clock, but on one processor. The linker puts the functions __wrap_.. in place of the system's. Another thread has the lock where one is to have it. */
+   wait ends before its deadline or goes on after it, with a signal or without; nor does a call that finds the lock held, and it does nothing. A nap is
+   as long as it should be; and calls spin at first, where time passes with each look at the clock, but on one processor. The linker puts the functions __wrap_.. in place of the system's. Another thread has the lock where one is to have it. */
 #include "../wrapped.h"
 #include "system_calls.h"
 
 #include <errno.h>
 #include <sched.h>
 
+void *__real_realloc(void *old, size_t size);
+void *__wrap_realloc(void *old, size_t size);
 int __wrap_clock_gettime(clockid_t clock, struct timespec *time);
 int __wrap_sched_getaffinity(pid_t process, size_t size, cpu_set_t *set);
 
@@ -17,11 +19,19 @@ static uint64_t now = 5000000000000;
 static __thread int is_here;
 static uint64_t ticks, naps[MOST_NAPS];
 static int napped, slept;
+/* So many sleeps end by a signal. */
+static int signals;
 /* What happens when, in a sleep or at its end, and after how many naps the lock is free. */
 static uint64_t comes_at;
 static pq_member *pushing;
-static int free_after;
+static int free_after, holds_in_sleep;
 static holder own;
+static pq_queue *queue;
+
+void *__wrap_realloc(void *old, size_t size) {
+    wrapped_asks();
+    return __real_realloc(old, size);
+}
 
 static struct timespec time_of(uint64_t nanoseconds) {
     struct timespec time = { 0, 0 };
@@ -64,7 +74,10 @@ static void nap(uint64_t longest) {
 
 static void sleep_until(uint64_t time) {
     slept++;
-    if (pushing != NULL && comes_at <= time) {
+    if (holds_in_sleep) {
+        holds_in_sleep = 0;
+        hold(&own, queue, HOLDS_AND_STOPS);
+    } else if (pushing != NULL && comes_at <= time) {
         pq_member *member = pushing;
         now = comes_at > now ? comes_at : now;
         pushing = NULL;
@@ -97,6 +110,12 @@ long __wrap_syscall(long number, ...) {
         }
         return -1;
     }
+    if (is_here && number == SYS_futex && operation == FUTEX_WAIT_BITSET && signals > 0) {
+        signals--;
+        slept++;
+        errno = EINTR;
+        return -1;
+    }
     if (is_here && number == SYS_futex && operation != FUTEX_WAKE) {
         operation == FUTEX_WAIT ? nap(nanoseconds_of(words[3])) : sleep_until(nanoseconds_of(words[3]));
         return 0;
@@ -104,7 +123,6 @@ long __wrap_syscall(long number, ...) {
     return __real_syscall(number, words[0], words[1], words[2], words[3], words[4], words[5]);
 }
 
-static pq_queue *queue;
 static pq_member *member, *other;
 
 /* A queue whose lock is held until so many naps are over; 0: until the test lets it go. */
@@ -130,9 +148,11 @@ static pq_item item;
 static void a_wait_ends_at_its_deadline(void) {
     const uint64_t longest[] = { 1, 999, 1000, 50000, 50001, 30000000, SECOND - 1, SECOND, 2 * SECOND + 3000, 900 * SECOND };
     for (size_t i = 0; i < sizeof longest / sizeof *longest; i++) {
-        uint64_t until = now + longest[i];
+        uint64_t until = now + longest[i], number = 9;
         slept = napped = 0;
-        CHECK(pq_take(member, &item, until, NULL) == PQ_EMPTY && now == until && slept == 1 && napped == 0);
+        item = item_of(9, 9);
+        CHECK(pq_take(member, &item, until, &number) == PQ_EMPTY && now == until && slept == 1 && napped == 0);
+        CHECK(is_item(item, 9, 9) && number == 9);
         until += longest[i];
         CHECK(pq_take_due(member, &item, until, NULL) == PQ_EMPTY && now == until && slept == 2);
         CHECK(pq_take(member, &item, now, NULL) == PQ_EMPTY && pq_take(member, &item, PQ_NOW, NULL) == PQ_EMPTY && slept == 2);
@@ -152,6 +172,16 @@ static void what_comes_in_a_sleep_is_taken_at_once(void) {
         slept = 0;
         CHECK((i % 2 == 0 ? pq_take : pq_take_due)(member, &item, i < 8 ? now + 30000000 : PQ_FOREVER, NULL) == PQ_OK);
         CHECK(is_item(item, 7, 8) && now == when && slept == 1);
+    }
+}
+
+static void signals_do_not_end_a_wait(void) {
+    for (int i = 0; i < 2; i++) {
+        comes_at = now + 30000000;
+        pushing = other;
+        slept = 0;
+        signals = 5;
+        CHECK((i == 0 ? pq_take : pq_take_due)(member, &item, PQ_FOREVER, NULL) == PQ_OK && now == comes_at && slept == 6);
     }
 }
 
@@ -176,29 +206,71 @@ static void what_is_there_is_taken_at_once(void) {
     ticks = 0;
 }
 
-/* Each call that finds the lock held until its deadline naps until exactly then. The clock stands still, so it doesn't spin longer. */
-static void a_call_times_out_at_its_deadline(void) {
-    const uint64_t longest[] = { 1, 100 * US - 1, 100 * US, 100 * US + 1, 2000 * US };
-    begin_held(0);
-    ticks = 100;
-    for (size_t i = 0; i < 4 * sizeof longest / sizeof *longest; i++) {
-        uint64_t begun = now, until = begun + longest[i / 4], most = 0;
-        pq_code code = PQ_OK;
-        napped = slept = 0;
-        switch (i % 4) {
-        case 0: code = pq_push(member, item_of(1, 2), until, NULL); break;
-        case 1: code = pq_pop_due(member, 9, &item, until, NULL); break;
-        case 2: code = pq_take(member, &item, until, NULL); break;
-        default: code = pq_take_due(member, &item, until, NULL);
-        }
-        CHECK(code == PQ_TIMED_OUT && now >= until && now < until + 30 * ticks && slept == 0);
+enum { CALLS_WITH_DEADLINES = 10 };
+
+/* A call that has a deadline, and does nothing. */
+static pq_code ask(int which, pq_member *by, uint64_t until) {
+    pq_item one = item_of(9, 9), many[2] = { { 9, 9 }, { 9, 9 } };
+    uint64_t number = 9, size = 9;
+    size_t done = 0;
+    pq_journal *journal = NULL;
+    pq_code code = PQ_OK;
+    switch (which) {
+    case 0: code = pq_push(by, one, until, &number); break;
+    case 1: code = pq_pop(by, &one, until, &number); break;
+    case 2: code = pq_peek(by, &one, until, &number); break;
+    case 3: code = pq_pop_due(by, 9, &one, until, &number); break;
+    case 4: code = pq_take(by, &one, until, &number); break;
+    case 5: code = pq_take_due(by, &one, until, &number); break;
+    case 6: code = pq_push_many(by, many, 2, until, &done, &number); break;
+    case 7: code = pq_pop_due_many(by, 9, many, 2, until, &done, &number); break;
+    case 8: code = pq_size(by, until, &size, NULL); break;
+    default: code = pq_archive(by, 0, until, &journal);
+    }
+    CHECK(is_item(one, 9, 9) && is_item(many[0], 9, 9) && is_item(many[1], 9, 9));
+    CHECK(number == 9 && size == 9 && done == 0 && journal == NULL);
+    return code;
+}
+
+static void times_out_at_its_deadline(int which, pq_member *by) {
+    const uint64_t past[] = { PQ_NOW, 1, now - 1, now }, longest[] = { 1, 100 * US - 1, 100 * US, 100 * US + 1, 2000 * US };
+    napped = slept = 0;
+    for (size_t i = 0; i < sizeof past / sizeof *past; i++) {
+        CHECK(ask(which, by, past[i]) == PQ_TIMED_OUT && napped == 0 && slept == 0);
+    }
+    for (size_t i = 0; i < sizeof longest / sizeof *longest; i++) {
+        uint64_t until = (now += SECOND) + longest[i], most = 0;
+        napped = 0;
+        CHECK(ask(which, by, until) == PQ_TIMED_OUT && now >= until && now < until + 30 * ticks && slept == 0);
         for (int k = 0; k < napped; k++) {
             most = naps[k] > most ? naps[k] : most;
         }
-        CHECK(most <= 100 * US && (longest[i / 4] < 2000 * US || (most == 100 * US && napped >= 19 && napped <= 21)));
+        CHECK(most <= 100 * US && (longest[i] < 2000 * US || (most == 100 * US && napped >= 19 && napped <= 21)));
     }
+}
+
+static void notify(void *context) {
+    ++*(int *)context;
+}
+
+/* Each call that finds the lock held until its deadline naps until exactly then, and nothing of it comes later. The clock stands still, so it doesn't
+   spin longer. One that listens is notified at once. */
+static void a_call_times_out_at_its_deadline(void) {
+    pq_journal *journal;
+    int notified = 0;
+    begin_held(0);
+    ticks = 100;
+    for (int which = 0; which < CALLS_WITH_DEADLINES; which++) {
+        times_out_at_its_deadline(which, member);
+        times_out_at_its_deadline(which, pq_own(queue));
+    }
+    CHECK(pq_take_or_listen(member, 9, &item, NULL, notify, &notified) == PQ_EMPTY && notified == 1);
     ticks = 0;
-    end_held();
+    let_go(&own);
+    pq_give_back(member);
+    journal = closed(queue);
+    CHECK(own.pushed == 1 && pq_count(journal, NULL) == 1);
+    pq_journal_free(journal);
 }
 
 /* While there are no more members than processors, but for one, a call that posts, of a thread that works between its calls, naps 1.25 microseconds for each
@@ -248,13 +320,10 @@ static void calls_do_not_spin_on_one_processor(void) {
     CHECK(barriers == 1);
 }
 
-/* In a thread of its own, which has not waited before: how long it spins before its first nap, and whether it spins the next times. */
-static void *spin(void *unused) {
-    uint64_t begun;
-    (void)unused;
-    is_here = 1;
+/* How long a call spins before its first nap, and whether it spins the next times. */
+static void spin(void) {
+    const uint64_t begun = now;
     ticks = 100;
-    begun = now;
     napped = 0;
     CHECK(pq_pop(member, &item, begun + 1000 * US, NULL) == PQ_TIMED_OUT);
     CHECK(now - begun >= 1000 * US && naps[0] == 100 * US);
@@ -264,7 +333,38 @@ static void *spin(void *unused) {
         napped = 0;
         CHECK(pq_pop(member, &item, now + 9 * US, NULL) == PQ_TIMED_OUT && napped == (wait != 1 && wait != 5));
     }
-    return NULL;
+    ticks = 0;
+}
+
+/* A thread that is woken for what is due, and finds the lock held, spins for 40 microseconds each time, and then its naps are short. */
+static void wait_for_what_is_due(void) {
+    const uint64_t longest[] = { 39 * US, 43 * US, 1000 * US };
+    for (int wait = 0; wait < 9; wait++) {
+        now += SECOND;
+        queue = opened(4);
+        member = joined(queue);
+        CHECK(pq_push(member, item_of(now + SECOND, 1), PQ_NOW, NULL) == PQ_OK);
+        holds_in_sleep = 1;
+        napped = slept = 0;
+        ticks = 100;
+        CHECK(pq_take_due(member, &item, now + longest[wait % 3], NULL) == PQ_TIMED_OUT && slept == 1);
+        CHECK(wait % 3 == 2 ? napped > 2 && naps[0] == 2 * 1250 && naps[1] == 2 * naps[0] : napped == wait % 3);
+        ticks = 0;
+        let_go(&own);
+        pq_give_back(member);
+        close_and_free(queue);
+    }
+}
+
+/* In a thread of its own, which has not waited before. What is due does not count for other calls, nor these for it. */
+static void *spin_by_turns(void *unused) {
+    is_here = 1;
+    wait_for_what_is_due();
+    begin_held(0);
+    spin();
+    end_held();
+    wait_for_what_is_due();
+    return unused;
 }
 
 /* A thread that makes one call after another naps at once. */
@@ -292,10 +392,9 @@ static void *call_all_the_time(void *unused) {
 }
 
 static void calls_spin_at_first(void) {
+    ended(started(spin_by_turns, NULL));
     begin_held(0);
-    ended(started(spin, NULL));
     ended(started(call_all_the_time, NULL));
-    ticks = 0;
     end_held();
 }
 
@@ -344,6 +443,7 @@ int main(void) {
     other = joined(queue);
     a_wait_ends_at_its_deadline();
     what_comes_in_a_sleep_is_taken_at_once();
+    signals_do_not_end_a_wait();
     what_is_due_comes_at_its_time();
     what_is_there_is_taken_at_once();
     pq_give_back(member);

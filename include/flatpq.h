@@ -12,8 +12,8 @@
  * A program that wants to move a member between threads joins one itself (pq_join).
  *
  * Most calls take `until`, the time until which they may wait for the queue's lock, a member, an item or room. It is a time of pq_now,
- * PQ_NOW (never), or PQ_FOREVER. PQ_TIMED_OUT: nothing was done or will be, but for *done pushes of pq_push_many. Only pq_write is a cancellation
- * point.
+ * PQ_NOW (never), or PQ_FOREVER. PQ_TIMED_OUT: the call did nothing, and will do nothing; of pq_push_many the first *done pushes stay. Only pq_write
+ * is a cancellation point.
  *
  * All that a thread does before it pushes or moves an item happens before what another does after a call that returned it. So a value may be
  * a pointer.
@@ -120,8 +120,8 @@ typedef struct pq_options {
 PQ_CHECKED pq_code pq_open(const pq_options *options, pq_queue **queue);
 
 /* Shuts the queue down for good: each push that begins from now on is refused (PQ_SHUT), and so are those that wait for room. Threads that wait
-   for an item take what is left, and return PQ_SHUT once nothing is left; no item comes after that. The shut has an entry (PQ_SHUTS), but in a
-   full journal, which refuses pushes as before. The call waits for nothing. If it finds all members in use, or the lock held, the next call by
+   for an item take what is left, and return PQ_SHUT once nothing is left; no item comes after that. The shut has an entry (PQ_SHUTS). A full
+   journal gets none, and refuses pushes as before. The call waits for nothing. If it finds all members in use, or the lock held, the next call by
    a member makes the shut first, with that call's deadline. If the shut's entry could make memory forget an unarchived one, it is added as
    soon as more has been archived. Until then each request, also a push, is refused (PQ_UNARCHIVED). It may be called again.
    PQ_OK; PQ_CLOSED, PQ_FORKED. */
@@ -137,19 +137,19 @@ PQ_CHECKED pq_code pq_close(pq_queue *queue, pq_journal **journal);
 
 /* Frees the queue, closed or not, or NULL. The program must not use it any more. Memory is freed once joined members are given back, calls have
    returned, and threads that listen by pq_own have ended. Then the thread that frees it calls `left`, unless that is NULL, with each item that
-   was left. Calls that `left` makes by `queue` return PQ_CLOSED. No thread that waits is woken: shut the queue first. */
+   was left. Calls that `left` makes by `queue` return PQ_CLOSED. No thread that waits for an item or room is woken: shut the queue first. */
 void pq_free(pq_queue *queue, void (*left)(void *context, pq_item item), void *context);
 
 /* The calling thread's own member, as a pointer that all threads may share. A thread gets its member at its first call, and gives it back when
-   it ends. If all members are in use, a call takes over one that its thread does not use, or waits for one until its `until`. A thread that
+   it ends. If all members are taken, a call takes over one whose thread is in no call, or waits for one until its `until`. A thread that
    waits for an item or for room, or listens, holds none meanwhile. So any number of threads may call, and wait. */
 pq_member *pq_own(pq_queue *queue);
 
 /* Gives the calling thread's own member back now, if the thread has one, and ends its listening. */
 void pq_leave(pq_queue *queue);
 
-/* Joins the queue. If all members are in use, it takes over one that its thread does not use (pq_own). Else it waits until `until` for one that
-   is given back. The member may move between threads. PQ_OK; PQ_ALL_JOINED, PQ_NO_MEMORY, PQ_CLOSED, PQ_FORKED: *member is NULL. */
+/* Joins the queue. If all members are taken, it takes over one whose thread is in no call (pq_own). Else it waits until `until` for one that is
+   given back. The member may move between threads. PQ_OK; PQ_ALL_JOINED, PQ_NO_MEMORY, PQ_CLOSED, PQ_FORKED: *member is NULL. */
 PQ_CHECKED pq_code pq_join(pq_queue *queue, uint64_t until, pq_member **member);
 
 /* Gives a joined member back, in any thread. member may be NULL. */
@@ -159,11 +159,11 @@ void pq_give_back(pq_member *member);
    the thread's member, or UINT32_MAX if the thread has none at the moment. */
 uint32_t pq_place(pq_member *member);
 
-/* Requests. Each of these calls may also return PQ_NO_MEMBER, PQ_FORKED, PQ_EXHAUSTED, PQ_JOURNAL_FULL or PQ_UNARCHIVED. It may return
-   PQ_TIMED_OUT unless `until` is PQ_FOREVER; a call by pq_own also PQ_CLOSED or PQ_NO_MEMORY. A call without `until` doesn't wait. number
-   may be NULL; else *number is the number of the journal entry, if there is one. The first that is true refuses a request: PQ_JOURNAL_FULL,
-   PQ_SHUT (a push), PQ_UNARCHIVED, PQ_FULL (a push), PQ_NO_MEMORY. If nothing is there to take, a take is refused only for PQ_JOURNAL_FULL, or for
-   PQ_UNARCHIVED while a shut waits for the archive. */
+/* Requests, peeks and counts. Each of these calls may also return PQ_NO_MEMBER, PQ_FORKED, PQ_EXHAUSTED, PQ_JOURNAL_FULL or PQ_UNARCHIVED. It may
+   return PQ_TIMED_OUT unless `until` is PQ_FOREVER; a call by pq_own also PQ_CLOSED or PQ_NO_MEMORY. A call without `until` doesn't wait. number may
+   be NULL; else *number is the number of the journal entry, if there is one. The first that is true refuses a request: PQ_JOURNAL_FULL, PQ_SHUT (a
+   push), PQ_UNARCHIVED, PQ_FULL (a push), PQ_NO_MEMORY. If nothing is there to take, a take is refused only for PQ_JOURNAL_FULL, or for PQ_UNARCHIVED
+   while a shut waits for the archive. */
 
 /* Puts an item in. If the queue has as many items as pq_options allow, the call waits until one goes out.
    PQ_OK; PQ_FULL: there was no room until then; PQ_SHUT, PQ_NO_MEMORY. */
@@ -212,22 +212,22 @@ PQ_CHECKED pq_code pq_reschedule(pq_member *member, uint64_t ticket, uint64_t pr
    meanwhile. 32 may listen at once, and up to 58 while few threads wait. If all other members are joined and wait or
    listen, the last one may not listen. A call that may not listen returns PQ_ALL_JOINED.
    An item wakes one thread in pq_take. If no thread waits there, as many listeners of pq_take_or_listen are notified as there are items that
-   they can take, first come first served. If no thread in pq_take was woken, one in pq_take_due is, unless one there wakes in time by itself. */
+   they can take, first come first served. If no thread in pq_take was woken, one in pq_take_due is. None is if one there wakes in time by itself. */
 
-/* Takes the first item out if it is due (pq_take_due); else the member listens by `timer`, a timerfd of CLOCK_MONOTONIC that no other member
-   has. It is readable once the first item is due, when an earlier one comes, on a shut, or sometimes for nothing. Then call again, while this
-   returns PQ_OK. All such timers are readable for an item, which one member gets. The program neither sets nor reads the timer, and closes it
-   after pq_unlisten. The call tries the lock some times, and does not sleep for it. If others still have it, or all members, it returns PQ_EMPTY,
-   and the timer is readable within 0.1 ms. PQ_OK; PQ_NOT_DUE, PQ_EMPTY: wait for the timer; after PQ_NOT_DUE *item is the first item, which
-   stays; PQ_SHUT; PQ_NO_TIMER; or a refusal. */
+/* Takes the first item out if it is due (pq_take_due); else the member listens by `timer`, a timerfd of CLOCK_MONOTONIC that no other member has. It
+   is readable once the first item is due, when an earlier one comes, on a shut, or sometimes for nothing. Then call again, while this returns PQ_OK.
+   Once an item is due all such timers are readable, and one member gets it. The program neither sets nor reads the timer, and closes it after
+   pq_unlisten. The call tries the lock some times, and does not sleep for it. If others still have it, or all members, it returns PQ_EMPTY, and the
+   timer is readable within 0.1 ms. PQ_OK; PQ_NOT_DUE, PQ_EMPTY: wait for the timer; after PQ_NOT_DUE *item is the first item, which stays; PQ_SHUT;
+   PQ_NO_TIMER; or a refusal. */
 PQ_CHECKED pq_code pq_take_due_or_listen(pq_member *member, int timer, pq_item *item, uint64_t *number);
 
 /* Takes the first item out if its priority is at most this one; else the member listens. It tries the lock some times, and does not sleep for it.
    PQ_OK; PQ_EMPTY: it listens; PQ_NOT_DUE: it listens, and *item is the first item, and stays; PQ_SHUT; or a refusal. After PQ_NOT_DUE call
    again once *item is within the bound: nothing notifies of that. While the member listens, notify(context) is called at most once, after a
    push, move or shut, or for nothing. Any thread that calls the queue may call it. If others still have the lock, or all members, this call itself
-   calls notify, and returns PQ_EMPTY although items may be there. After notify call again. notify must not wait or call this library. If no
-   listener can take the new first item, as it is above their bounds, and it is earlier than what they saw, one is notified. */
+   calls notify, and returns PQ_EMPTY although items may be there. After notify call again. notify must not wait or call this library. The
+   new first item may be above all bounds, but earlier than what the listeners saw. Then one of them is notified. */
 PQ_CHECKED pq_code pq_take_or_listen(pq_member *member, uint64_t priority, pq_item *item, uint64_t *number,
                                      void (*notify)(void *context), void *context);
 
@@ -262,7 +262,7 @@ typedef struct pq_entry {
 
 /* Copies the entries after the first `archived`, and counts those first ones as archived from now on. PQ_OK; PQ_BAD_OPTION: the journal has fewer
    entries than that; PQ_FORGOTTEN, PQ_NO_MEMORY, PQ_TIMED_OUT, PQ_NO_MEMBER, PQ_CLOSED, PQ_FORKED: *journal is NULL. After PQ_NO_MEMORY those
-   first entries hold up no more requests (PQ_UNARCHIVED), but threads in pq_wait_archived wait on. */
+   first entries count as archived for requests (PQ_UNARCHIVED), but not for pq_wait_archived. */
 PQ_CHECKED pq_code pq_archive(pq_member *member, uint64_t archived, uint64_t until, pq_journal **journal);
 
 /* Waits until a pq_archive of the queue has counted the entry of this number as archived. An archiver passes `archived` on once these entries
@@ -289,7 +289,7 @@ PQ_CHECKED pq_code pq_write(const pq_journal *journal, int file);
    is checked: its checksum, that its number is the next one, and that its reply follows from the entries before. A text of an earlier version
    has no checksums. The journal is as that of a closed queue, and keeps the last 65536 entries. line and bytes may be NULL. Else *line is how many
    lines are read, and *bytes the length of those before a torn or refused one. PQ_OK; PQ_TORN: the last line has no line feed, and is left out.
-   *journal is NULL of PQ_NOT_LAWFUL: line *line is refused; and of PQ_NOT_READ, PQ_NO_MEMORY and PQ_PROCESSOR. */
+   *journal is NULL after PQ_NOT_LAWFUL (line *line is refused), PQ_NOT_READ, PQ_NO_MEMORY and PQ_PROCESSOR. */
 PQ_CHECKED pq_code pq_journal_read(int file, pq_journal **journal, uint64_t *line, uint64_t *bytes);
 
 /* Takes the first item out that is left in a closed queue. PQ_OK; PQ_EMPTY. */

@@ -116,8 +116,8 @@ public:
     using journal = basic_journal<Items>;
 
     /// Puts a key and a value, or a payload, in, and returns the number of the journal entry: with tickets the item's ticket. If the call is
-    /// refused the payload is where it was. One that was made from an argument of another type is dropped, as a std::unique_ptr<base> from one
-    /// to a derived class: convert that before. At a queue with a bound the call waits for room: code::full, if there was none until then.
+    /// refused the payload is where it was. One that was made from an argument of another type is dropped: convert that before, as a
+    /// std::unique_ptr<derived>. At a queue with a bound the call waits for room: code::full, if there was none until then.
     result<std::uint64_t> push(const key &priority, payload &&value, deadline until = {}) noexcept {
         return pushed(priority, value, [=](auto *by, pq_item in, auto *number) { return pq_push(by, in, until.at(), number); });
     }
@@ -391,7 +391,7 @@ public:
     using key = typename Items::key;
     using found = typename calls<Items>::found;
 
-    /// The descriptor. It is readable from the first. After a call that found nothing it becomes readable once an item may be there or be due,
+    /// The descriptor. It is readable from the start. After a call that found nothing it becomes readable once an item may be there or be due,
     /// or there may be room. It also does on a shut.
     [[nodiscard]] int fd() const noexcept { return fd_; }
 

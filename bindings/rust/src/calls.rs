@@ -395,7 +395,7 @@ macro_rules! calls {
             ///
             /// # Errors
             ///
-            /// Those of [`Self::push`], which end the batch. All that were not pushed come back, with what was pushed before them.
+            /// Those of [`Self::push`], which end the batch. All that were not pushed come back, with the count of those that were.
             ///
             /// ```
             /// let queue = flatpq::TaskQueue::new()?;
@@ -415,7 +415,8 @@ macro_rules! calls {
             ///
             /// # Errors
             ///
-            /// Those of [each call](crate::TaskQueue#errors), if it took none out. A refusal after some is hidden: the next call returns it.
+            /// Those of [each call](crate::TaskQueue#errors), if it took none out. If some were taken before a refusal, they are returned; the next
+            /// call returns the refusal.
             pub fn pop_due_many(&$($mutable)? self, key: K, most: usize) -> Result<Vec<(K, T)>, Error> {
                 self.call().pop_due_many(key, most)
             }
@@ -505,8 +506,8 @@ macro_rules! takes {
 pub(crate) use {calls, takes};
 
 /// Calls that wait until a deadline at most: [`TaskQueue::until`](crate::TaskQueue::until), [`TaskMember::until`](crate::TaskMember::until).
-/// The time counts from `until`, not from each call. One that returns [`Error::TimedOut`] has done nothing but what [`NotAllPushed`] says
-/// of a batch, and nothing of it happens later.
+/// The time counts from `until`, not from each call. One that returns [`Error::TimedOut`] has done nothing, and does nothing later. Of
+/// a batch the pushes that [`NotAllPushed`] counts stay.
 ///
 /// ```
 /// use flatpq::{TaskQueue, Until};

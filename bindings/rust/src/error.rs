@@ -58,7 +58,7 @@ errors! {
     Forked = 60,
     /// The processor has no SSE4.1.
     Processor = 61,
-    /// Other threads had the lock, or all members, until the deadline. A join returns [`Error::AllJoined`] then.
+    /// Other threads had the lock, or all members, until the deadline; or the entry was not archived. A join returns [`Error::AllJoined`] then.
     TimedOut = 62,
 }
 
@@ -203,7 +203,7 @@ pub enum Due<K, T> {
     Got(K, T),
     /// The first payload has this key, and stays.
     Later(K),
-    /// There is none.
+    /// There is none; of a listener also: other threads had the lock, or all members.
     Empty,
 }
 

@@ -79,9 +79,9 @@ impl<K: Key, T: Send> TaskMember<K, T> {
     /// come first served. The future is cancel-safe: dropped when it was woken, it wakes another, and no payload is lost with it. A poll that finds
     /// none leaves no journal entry.
     ///
-    /// Wakers run after the call of the library that wakes, in the thread that pushes. If that waits in a call, or pushes by the library for C,
-    /// a thread of this crate runs them. The first poll starts that thread. So they may call the queue. If a waker panics, the call goes
-    /// on all the same.
+    /// Wakers run after the call of the library that wakes, so they may call the queue: in the thread that pushes. If that waits in a call, or
+    /// pushes by the library for C, a thread of this crate runs them. The first poll starts that thread. If a waker panics, the call goes on all
+    /// the same. A poll doesn't sleep for the queue's lock: if others have it, the task is woken again.
     ///
     /// # Errors
     ///
@@ -247,8 +247,8 @@ impl<K: Key, T: Send> TaskMember<K, T> {
 impl<K: Key, T: Send> TaskQueue<K, T> {
     /// Waits for a payload by a future, as [`TaskMember::take_async`] does. A future that is polled joins, and gives that member back when
     /// it is ready or dropped. One that gets none waits until another such future gives its own back, so any number may wait. Once
-    /// woken, poll or drop a future promptly: later ones wait for it. If a task takes in a loop, join once and await by that member: it takes
-    /// half the time.
+    /// woken, poll or drop a future promptly: later ones wait for it. If a task takes in a loop, join once and await by that member: each
+    /// take then takes half the time.
     ///
     /// # Errors
     ///
@@ -257,8 +257,8 @@ impl<K: Key, T: Send> TaskQueue<K, T> {
         Take(Taker::by_queue(self, &self.shared.lines.any))
     }
 
-    /// Puts a payload in, and waits by a future while the queue has no room, as [`TaskMember::push_async`] does. Only if it finds none it
-    /// joins, and waits so as [`TaskQueue::take_async`] does, for other futures that push.
+    /// Puts a payload in, and waits by a future while the queue has no room, as [`TaskMember::push_async`] does. It joins only if there
+    /// is none, and then waits for its turn as [`TaskQueue::take_async`] does.
     ///
     /// # Errors
     ///

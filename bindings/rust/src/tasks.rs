@@ -234,8 +234,8 @@ impl<K: Key, T: Send> TaskQueue<K, T> {
 }
 
 impl<K, T> TaskQueue<K, T> {
-    /// Shuts the queue down for good: from now on each push is refused. Threads that wait for a payload take what is left, and then return
-    /// [`Error::Shut`]. The call waits for nothing, and the queue stays, until [`TaskQueue::close`] ends it.
+    /// Shuts the queue down for good: each push that begins from now on is refused. Threads that wait for a payload take what is left, and then
+    /// return [`Error::Shut`]. The call waits for nothing, and the queue stays, until [`TaskQueue::close`] ends it.
     ///
     /// # Errors
     ///
@@ -244,7 +244,7 @@ impl<K, T> TaskQueue<K, T> {
         self.shared.shut()
     }
 
-    /// Whether the queue is shut: each push that begins from now on is refused. If `false`, no push has been refused as shut so far.
+    /// Whether the queue is shut: each push that begins from now on is refused. `false`: it was not shut when the call began.
     ///
     /// ```
     /// let queue = flatpq::TaskQueue::new()?;

@@ -185,15 +185,62 @@ static void signals_do_not_end_a_wait(void) {
     }
 }
 
-/* An item is due at its time, neither before nor after. */
+/* Items of one time come out in the order of their pushes, at that time, neither before nor after; what is late comes out at once. */
 static void what_is_due_comes_at_its_time(void) {
     const uint64_t due = now + 3 * SECOND;
     slept = 0;
-    CHECK(pq_push(other, item_of(due, 1), PQ_NOW, NULL) == PQ_OK);
-    CHECK(pq_take_due(member, &item, due - 1, NULL) == PQ_NOT_DUE && now == due - 1 && slept == 1);
-    CHECK(pq_take_due(member, &item, PQ_FOREVER, NULL) == PQ_OK && now == due && slept == 2);
-    CHECK(pq_push(other, item_of(now, 1), PQ_NOW, NULL) == PQ_OK);
-    CHECK(pq_take_due(member, &item, PQ_FOREVER, NULL) == PQ_OK && now == due && slept == 2);
+    CHECK(pq_push(other, item_of(due, 1), PQ_NOW, NULL) == PQ_OK && pq_push(other, item_of(due, 2), PQ_NOW, NULL) == PQ_OK);
+    CHECK(pq_take_due(member, &item, due - 1, NULL) == PQ_NOT_DUE && is_item(item, due, 1) && now == due - 1 && slept == 1);
+    CHECK(pq_take_due(member, &item, PQ_FOREVER, NULL) == PQ_OK && is_item(item, due, 1) && now == due && slept == 2);
+    CHECK(pq_take_due(member, &item, PQ_NOW, NULL) == PQ_OK && is_item(item, due, 2) && slept == 2);
+    CHECK(pq_push(other, item_of(now - 1, 3), PQ_NOW, NULL) == PQ_OK);
+    CHECK(pq_take_due(member, &item, PQ_FOREVER, NULL) == PQ_OK && is_item(item, due - 1, 3) && now == due && slept == 2);
+}
+
+/* By these times of a queue's options the item of this priority is due at this time; PQ_FOREVER: never. */
+static void is_due_at(uint64_t zero, uint64_t unit, uint64_t priority, uint64_t time) {
+    const uint64_t begun = now;
+    pq_options options = { 2, PQ_FORGETS, 0, 0, 0, 0, 0 };
+    pq_member *by;
+    pq_queue *of_times;
+    options.time_zero = zero;
+    options.time_unit = unit;
+    CHECK(pq_open(&options, &of_times) == PQ_OK);
+    by = pq_own(of_times);
+    CHECK(pq_push(by, item_of(priority, 1), PQ_NOW, NULL) == PQ_OK);
+    if (time > begun) {
+        uint64_t number = 9;
+        CHECK(pq_take_due(by, &item, PQ_NOW, &number) == PQ_NOT_DUE && is_item(item, priority, 1) && number == 9);
+        CHECK(pq_take_due(by, &item, time == PQ_FOREVER ? now + SECOND : time - 1, &number) == PQ_NOT_DUE && number == 9);
+    }
+    if (time != PQ_FOREVER) {
+        CHECK(pq_take_due(by, &item, PQ_FOREVER, NULL) == PQ_OK && is_item(item, priority, 1) && now == (time > begun ? time : begun));
+    }
+    pq_leave(of_times);
+    close_and_free(of_times);
+}
+
+static void times_are_those_of_the_options(void) {
+    const uint64_t ms = 1000 * US, units = now / ms + 1, upper = (uint64_t)1 << 32, half = (uint64_t)1 << 63;
+    is_due_at(0, 0, now + 30, now + 30);
+    is_due_at(upper, 1, upper + now + 60, now + 60);
+    is_due_at(0, ms, units, units * ms);
+    is_due_at(1000, 7 * ms, 1000 + units / 7 + 20, (units / 7 + 20) * 7 * ms);
+    is_due_at(half, 1, half + now + 150, now + 150);
+    /* Priorities of the past, and before the zero. */
+    is_due_at(0, 1, 0, now);
+    is_due_at(upper, ms, upper - 1, now);
+    is_due_at(upper, ms, 0, now);
+    is_due_at(UINT64_MAX, UINT64_MAX, UINT64_MAX, now);
+    is_due_at(UINT64_MAX - 5, 1, UINT64_MAX, now);
+    is_due_at(UINT64_MAX - 5, UINT64_MAX, UINT64_MAX - 5, now);
+    /* Times that never come. */
+    is_due_at(0, 1, UINT64_MAX, PQ_FOREVER);
+    is_due_at(0, UINT64_MAX, 1, PQ_FOREVER);
+    is_due_at(0, UINT64_MAX, UINT64_MAX, PQ_FOREVER);
+    is_due_at(5, UINT64_MAX / 2, 8, PQ_FOREVER);
+    is_due_at(UINT64_MAX - 5, half, UINT64_MAX, PQ_FOREVER);
+    is_due_at(0, 3, UINT64_MAX / 3 + 1, PQ_FOREVER);
 }
 
 /* What is there is taken without a look at the clock, and what is due by one. */
@@ -445,6 +492,7 @@ int main(void) {
     what_comes_in_a_sleep_is_taken_at_once();
     signals_do_not_end_a_wait();
     what_is_due_comes_at_its_time();
+    times_are_those_of_the_options();
     what_is_there_is_taken_at_once();
     pq_give_back(member);
     pq_give_back(other);

@@ -4,7 +4,7 @@
 //     queue.push(3u, 7).value();
 //     while (const auto first = queue.pop()) std::cout << first->priority << ' ' << first->value << '\n';
 //
-// A queue<Key> holds items of a key and a 64-bit value; a task_queue<T, Key> (flatpq_tasks.hpp) holds payloads of any type. Keys are numbers,
+// A queue<Key> holds items of a key and a 64-bit value; a task_queue<T, Key> (flatpq_tasks.hpp) holds payloads of a type of yours. Keys are numbers,
 // times, or a type of the program (flatpq_keys.hpp). The item with the smallest key comes out first. Items of equal keys come out in the
 // order in which they were pushed or moved there. flatpq.h says what each call does and what it asks of the program; this file adds types and
 // ownership.
@@ -154,8 +154,7 @@ public:
     /// queue itself a thread that waits holds no member, so any number of threads may wait.
     found take(deadline until = {}) noexcept { return got<pq_take>(until); }
 
-    /// The same once the first item is due: it waits for that in a shut queue too, and sleeps as a take does. Keys are times. code::not_due:
-    /// found::first() stays.
+    /// Waits until the first item is due, also in a shut queue, and takes it out. Keys are times. code::not_due: found::first() stays.
     found take_due(deadline until = {}) noexcept {
         static_assert(are_times<key>, "keys are times of std::chrono::steady_clock");
         return got<pq_take_due>(until);
@@ -459,7 +458,7 @@ public:
 
     /// Takes the first item out if it is due. Call it when the descriptor is readable, until it returns code::empty, or code::not_due with
     /// found::first(), which stays. The descriptor is then readable once the first item is due, an earlier one comes, or the queue is shut. If
-    /// another thread had the lock for long, it is so within 0.1 ms. It never waits. If it returns code::shut or a refusal the descriptor
+    /// another thread had the lock for long, it becomes readable within 0.1 ms. It never waits. If it returns code::shut or a refusal the descriptor
     /// stays as it was. The program does not read it.
     found take_or_listen() noexcept { return this->member_.take_due_or_listen(this->fd_); }
 

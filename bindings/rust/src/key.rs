@@ -44,7 +44,7 @@ pub trait Key: Copy {
     /// The number of the key that is due at time 0. Only a [`TimeKey`] has a use for it.
     const TIME_ZERO: u64 = 0;
 
-    /// How many nanoseconds a key is due later than the one before, unless [`Options::times`](crate::Options::times) says another unit. Only a
+    /// How many nanoseconds two successive keys are due apart, unless [`Options::times`](crate::Options::times) says another unit. Only a
     /// [`TimeKey`] has a use for it.
     const TIME_UNIT: u64 = 1;
 
@@ -224,7 +224,7 @@ impl Key for Duration {
 }
 
 /// By its nanoseconds: what has the key of a moment is due then. One that is 292 years or more from the clock's time 0, which are 2^63
-/// nanoseconds, counts as 2^63 - 1 away, and comes out so.
+/// nanoseconds, is clamped to 2^63 - 1, and comes out clamped.
 impl Key for Instant {
     const TIME_ZERO: u64 = TOP;
 

@@ -34,8 +34,8 @@
 //!   due.
 //! - Each request that takes effect has an entry in the queue's [`Journal`]. Memory keeps the last ones, which
 //!   [`archive`](TaskQueue::archive) copies, and [`close`](TaskQueue::close).
-//! - [`shut`](TaskQueue::shut) ends those that wait, once nothing is left.
-//! - A program that writes archives to a file survives a crash: [`wait_archived`](TaskQueue::wait_archived) waits until it has written a push,
+//! - After [`shut`](TaskQueue::shut) pushes are refused; takes return what is left, and then [`Error::Shut`].
+//! - A program that writes archives to a file survives a crash: [`wait_archived`](TaskQueue::wait_archived) waits until it has stored a push,
 //!   and [`read_from`](TaskJournal::read_from) reads the file back. A journal has payloads as numbers, so that is for numbers alone.
 //! - A [`Queue`] is one of integers.
 //!
@@ -43,9 +43,9 @@
 //!
 //! In a forked child of a process that has opened a queue each call is refused ([`Error::Forked`]), and payloads are not dropped.
 //!
-//! The crate links the static library in the folder `FLATPQ_LIB_DIR`. Without that it takes the first of these: that of the package that
-//! holds the crate, `out/` of the clone that it is in, what `pkg-config` knows. If `FLATPQ_DYNAMIC` is 1, it links the shared library of `pkg-config`. It
-//! compares versions only where it asks `pkg-config`; else compare [`library_version`].
+//! The crate links the static library in the folder `FLATPQ_LIB_DIR`. Without that it takes the first that is there: of the package that holds
+//! the crate, of `out/` in its clone, of `pkg-config`. If `FLATPQ_DYNAMIC` is 1, it links the shared library of `pkg-config`. It compares
+//! versions only where it asks `pkg-config`; else compare [`library_version`].
 #![deny(missing_docs)]
 #![deny(missing_debug_implementations)]
 #![deny(unsafe_op_in_unsafe_fn)]

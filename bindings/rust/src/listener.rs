@@ -82,7 +82,7 @@ impl<K: Key, T: Send> TaskQueue<K, T> {
 
 impl<K: Key, T: Send> Listener<K, T> {
     /// Takes the first payload out, with its key, if there is one. Else the descriptor becomes readable once there may be one, or the queue
-    /// is shut. The call never waits. After an error the member doesn't listen: call it again.
+    /// is shut. The call never waits. After an error the member no longer listens until the next call.
     ///
     /// # Errors
     ///

@@ -42,7 +42,7 @@ impl Options {
         Options::default()
     }
 
-    /// Keys are times: the key 0 is due at `start`, and each later key by a unit later, of 1 to 2^64 - 1 nanoseconds. The clock counts whole
+    /// Keys are times: the key 0 is due at `start`, and each next key one unit later. A unit has 1 to 2^64 - 1 nanoseconds. The clock counts whole
     /// units, so items are due less than a unit later than that. Only a [`TickKey`] counts so: an [`Instant`] is a moment by itself. Unsigned
     /// keys above `u64::MAX - uptime / unit`, of the time since the machine was started until `start`, all count as `u64::MAX`.
     ///

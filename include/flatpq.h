@@ -21,7 +21,7 @@
  * Unchecked preconditions: pointers are valid. A joined member is in one call at a time. No call is made from a signal handler, or left by
  * longjmp. Nothing is used after it was freed, except joined members that are not yet given back. A queue, and pq_own(queue), may be in calls of
  * many threads. A thread that dies in a call may keep the queue's lock: then calls with a deadline time out, and others hang. If it keeps another
- * lock, any call may hang.
+ * lock of the library, any call may hang.
  */
 #ifndef FLATPQ_H
 #define FLATPQ_H
@@ -54,7 +54,7 @@ typedef struct pq_journal pq_journal;
 typedef enum pq_code {
     PQ_OK = 0,
     PQ_BAD_OPTION = 5,    /* an option, or a number of entries, is out of its range */
-    PQ_NO_MEMORY = 6,     /* memory was refused */
+    PQ_NO_MEMORY = 6,     /* memory was refused, or the queue has 4,294,967,295 items */
     PQ_JOURNAL_FULL = 10, /* the journal is full, and stays full */
     PQ_EXHAUSTED = 11,    /* the member has made all its requests: 2^56, or 2^24 - 1 if the journal fills */
     PQ_NOT_WRITTEN = 31,  /* a write failed */
@@ -149,7 +149,7 @@ pq_member *pq_own(pq_queue *queue);
 void pq_leave(pq_queue *queue);
 
 /* Joins the queue. If all members are taken, it takes over one whose thread is in no call (pq_own). Else it waits until `until` for one that is
-   given back. The member may move between threads. PQ_OK; PQ_ALL_JOINED, PQ_NO_MEMORY, PQ_CLOSED, PQ_FORKED: *member is NULL. */
+   given back. The member may move between threads. PQ_OK; PQ_ALL_JOINED, PQ_NO_MEMBER, PQ_NO_MEMORY, PQ_CLOSED, PQ_FORKED: *member is NULL. */
 PQ_CHECKED pq_code pq_join(pq_queue *queue, uint64_t until, pq_member **member);
 
 /* Gives a joined member back, in any thread. member may be NULL. */
@@ -226,8 +226,8 @@ PQ_CHECKED pq_code pq_take_due_or_listen(pq_member *member, int timer, pq_item *
    PQ_OK; PQ_EMPTY: it listens; PQ_NOT_DUE: it listens, and *item is the first item, and stays; PQ_SHUT; or a refusal. After PQ_NOT_DUE call
    again once *item is within the bound: nothing notifies of that. While the member listens, notify(context) is called at most once, after a
    push, move or shut, or for nothing. Any thread that calls the queue may call it. If others still have the lock, or all members, this call itself
-   calls notify, and returns PQ_EMPTY although items may be there. After notify call again. notify must not wait or call this library. The
-   new first item may be above all bounds, but earlier than what the listeners saw. Then one of them is notified. */
+   calls notify, and returns PQ_EMPTY although items may be there. After notify call again. notify must not wait or call this library. If a
+   new first item precedes the one that the listeners saw, one is notified, even if the item is above each bound. */
 PQ_CHECKED pq_code pq_take_or_listen(pq_member *member, uint64_t priority, pq_item *item, uint64_t *number,
                                      void (*notify)(void *context), void *context);
 

@@ -25,7 +25,8 @@
 // items as they are.
 //
 // The constructors of a queue and result::value() throw flatpq::error. Containers and streams throw what they throw (std::bad_alloc), and so
-// does a copy of a payload; nothing has changed then. All else is noexcept. Without exceptions a queue is opened by open().
+// does a copy of a payload; nothing has changed then. All else is noexcept, but a journal's write,
+// in which a thread may be cancelled. Without exceptions a queue is opened by open().
 #ifndef FLATPQ_HPP
 #define FLATPQ_HPP
 

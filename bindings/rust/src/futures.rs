@@ -79,8 +79,8 @@ impl<K: Key, T: Send> TaskMember<K, T> {
     /// come first served. The future is cancel-safe: dropped when it was woken, it wakes another, and no payload is lost with it. A poll that finds
     /// none leaves no journal entry.
     ///
-    /// Wakers run after the call of the library that wakes, so they may call the queue: in the thread that pushes. If that waits in a call, or
-    /// pushes by the library for C, a thread of this crate runs them. The first poll starts that thread. If a waker panics, the call goes on all
+    /// A waker runs in the thread that pushes, after its call, so it may call the queue. If that thread waits in its call, or pushes from C, a
+    /// thread of this crate runs the waker. The first poll starts that thread. If a waker panics, the call goes on all
     /// the same. A poll doesn't sleep for the queue's lock: if others have it, the task is woken again.
     ///
     /// # Errors

@@ -41,7 +41,8 @@
 //!
 //! All that a thread does before it pushes or moves a payload happens before whatever a thread does after a call that returned this payload.
 //!
-//! In a forked child of a process that has opened a queue each call is refused ([`Error::Forked`]), and payloads are not dropped.
+//! In a forked child of a process that has opened a queue calls, but of journals, are refused ([`Error::Forked`]) or do nothing, and payloads
+//! are not dropped.
 //!
 //! The crate links the static library in the folder `FLATPQ_LIB_DIR`. Without that it takes the first that is there: of the package that holds
 //! the crate, of `out/` in its clone, of `pkg-config`. If `FLATPQ_DYNAMIC` is 1, it links the shared library of `pkg-config`. It compares

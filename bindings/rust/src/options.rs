@@ -106,7 +106,7 @@ impl<S> Options<S> {
         self
     }
 
-    /// How many items the queue may have; 0, the default, is no bound. A push to a queue that has so many waits until a payload is taken out,
+    /// How many items the queue may have; 0, the default, is no bound. A push to a queue that has so many waits for room,
     /// or until its deadline: [`Error::Full`]. A thread that waits so by the queue holds no member meanwhile, so any number may wait.
     ///
     /// ```

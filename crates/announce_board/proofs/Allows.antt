@@ -43,7 +43,7 @@ use Rattle.desk_core.specs.declared.model.Due.{Due}
 use Rattle.desk_core.specs.declared.model.PenState.{PenState}
 use Rattle.desk_core.specs.declared.model.View.{View}
 use Rattle.desk_core.specs.declared.model.View.TheVariants.{Holder}
-use Rattle.announce_board.specs.Allowed.{AsMove, AsLook, Plainly, desk_in}
+use Rattle.announce_board.specs.Allowed.{AsTo, AsMove, AsLook, StepsOrStays, Plainly, desk_in}
 use Rattle.announce_board.specs.Rule.{Keeps, Seated, desk_of, book_in, book_at_home}
 use Rattle.announce_board.specs.declared.terms.Terms.{Terms}
 use Rattle.announce_board.specs.Slots.{MeetsTerms, Slotted, with_book, says, first_limits}
@@ -587,6 +587,10 @@ module _ (laws : Laws) (wide : Bool) (roomy : ℕ → Type 0) (room : ℕ) (term
       ))
 
 -- what is allowed as a move is allowed as the table asks
+pub plainly_of : (R : ℕ → Seated → Desk → Desk → Type 0) (wide : Bool) (roomy : ℕ → Type 0) (room : ℕ) (terms : Terms) (places slots id : ℕ) (m : Seated) (i : ℕ) (f : ℕ → ℕ) (then : ℕ → Seated → Type 0)
+    → AsTo R wide roomy room terms places slots id m i f then → Plainly wide roomy room terms places slots id m i f then
+plainly_of R wide roomy room terms places slots id m i f then h s k long at small = let t = h s k long at small in (t.0, t.1, t.2, t.3, t.5)
+
 pub plainly : (wide : Bool) (roomy : ℕ → Type 0) (room : ℕ) (terms : Terms) (places slots id : ℕ) (m : Seated) (i : ℕ) (f : ℕ → ℕ) (then : ℕ → Seated → Type 0)
     → AsMove wide roomy room terms places slots id m i f then → Plainly wide roomy room terms places slots id m i f then
-plainly wide roomy room terms places slots id m i f then h s k long at small = let t = h s k long at small in (t.0, t.1, t.2, t.3, t.5)
+plainly = plainly_of StepsOrStays

@@ -23,7 +23,8 @@ use Rattle.announce_board.specs.Rule.{Keeps, Seated, desk_of, book_at_home}
 use Rattle.announce_board.specs.declared.terms.Terms.{Terms}
 use Rattle.announce_board.specs.Slots.{MeetsTerms, Slotted, with_book, book_of, first_limits}
 use Rattle.announce_board.specs.Steps.{pen_at}
-use Rattle.announce_board.specs.Opening.{OpeningKept, DealingAllowed, EndsAreTold, IsHomeBook, IsHomeWith, IsHeldWith, HasAll, ClosedByAll}
+use Rattle.announce_board.specs.Allowed.{CutAsMove}
+use Rattle.announce_board.specs.Opening.{OpeningIsTheDealers, DealingAllowedBy, EndsAreTold, IsHomeBook, IsHomeWith, IsHeldWith, HasAll, ClosedByAll}
 use Rattle.announce_board.proofs.StepLaws.{book_there, book_bounded}
 use Rattle.announce_board.proofs.Homes.{same_volume}
 use Rattle.announce_board.proofs.Lines.{lines_are_of}
@@ -32,39 +33,44 @@ use Rattle.announce_board.proofs.Duties.{none_yet, quiet_set, quiet_more, pen_qu
 use Rattle.announce_board.proofs.Weights.{weighs_more, weighs_dealt}
 use Rattle.announce_board.proofs.Same.{not_true}
 
-pub opening_kept : (wide : Bool) (roomy : ℕ → Type 0) → OpeningsMeetRule → ZerosAreFresh → OpeningKept wide roomy
+pub opening_kept : (wide : Bool) (roomy : ℕ → Type 0) → OpeningsMeetRule → ZerosAreFresh → OpeningIsTheDealers wide roomy
 opening_kept wide roomy opens zeros room terms places book small sized empty none is =
     let first : Some (volume (first_limits room terms) []) ≡ Some book =
     ap Some (same_volume (volume (first_limits room terms) []) book (sym sized) (ap (λ (t : Terms). t.bound) is) (ap (λ (t : Terms). t.allowed) is) (sym empty) (sym none)) in
-    let d : Desk = dealer_opening places (first_limits room terms) in
-    record {
-      held = false;
-      control = λ _. Nothing;
-      cells = λ _. item 0 0;
-      words = zeros wide places;
-      slots = refl;
-      reached = subst (λ h. IsReached places (first_limits room terms) (record d { home = h })) first ([], refl);
-      meets = subst (λ h. MeetsRule (record d { home = h })) first (opens.dealer places (first_limits room terms) small);
-      duties = quiet_more [] (Dealer 0 room) none_yet (dealer_quiet 0 room);
-      weight = (let a = weighs_more places [] (Dealer 0 room) in omega (arith, a));
-      memory = λ all place e. absurd (cc e);
-    }
+    let d : Desk = dealer_opening places (first_limits room terms) in (
+      record {
+        held = false;
+        control = λ _. Nothing;
+        cells = λ _. item 0 0;
+        words = zeros wide places;
+        slots = refl;
+        reached = subst (λ h. IsReached places (first_limits room terms) (record d { home = h })) first ([], refl);
+        meets = subst (λ h. MeetsRule (record d { home = h })) first (opens.dealer places (first_limits room terms) small);
+        duties = quiet_more [] (Dealer 0 room) none_yet (dealer_quiet 0 room);
+        weight = (let a = weighs_more places [] (Dealer 0 room) in omega (arith, a));
+        memory = λ all place e. absurd (cc e);
+      },
+      ap (λ h. record d { home = h }) (sym first),
+    )
 
-pub dealing_allowed : (wide : Bool) (roomy : ℕ → Type 0) → MovesReach → DealingKeepsRule → DealingAllowed wide roomy
-dealing_allowed wide roomy goes deals room terms places id place known lt s k at = record {
-  held = k.held;
-  control = k.control;
-  cells = k.cells;
-  words = k.words;
-  slots = k.slots;
-  reached = goes places (first_limits room terms) (desk_of room places k.held k.control k.cells s.homes s.views) _ (Deals id) k.reached (place, known, at, lt, refl);
-  meets = deals (desk_of room places k.held k.control k.cells s.homes s.views) id place known k.meets at lt;
-  duties = quiet_more (set s.views id (Dealer (place + 1) known)) (Holder (new_pen known place))
-      (quiet_set s.views id (Dealer place known) (Dealer (place + 1) known) k.duties at (dealer_quiet place known) (dealer_quiet (place + 1) known))
-      (pen_quiet (new_pen known place) refl);
-  weight = (let same = weighs_dealt places s.views id place known at lt in let within = k.weight in omega (arith, same, within));
-  memory = k.memory;
-}
+pub dealing_allowed : (wide : Bool) (roomy : ℕ → Type 0) → MovesReach → DealingKeepsRule → DealingAllowedBy CutAsMove wide roomy
+dealing_allowed wide roomy goes deals room terms places id place known lt s k at = (
+  record {
+    held = k.held;
+    control = k.control;
+    cells = k.cells;
+    words = k.words;
+    slots = k.slots;
+    reached = goes places (first_limits room terms) (desk_of room places k.held k.control k.cells s.homes s.views) _ (Deals id) k.reached (place, known, at, lt, refl);
+    meets = deals (desk_of room places k.held k.control k.cells s.homes s.views) id place known k.meets at lt;
+    duties = quiet_more (set s.views id (Dealer (place + 1) known)) (Holder (new_pen known place))
+        (quiet_set s.views id (Dealer place known) (Dealer (place + 1) known) k.duties at (dealer_quiet place known) (dealer_quiet (place + 1) known))
+        (pen_quiet (new_pen known place) refl);
+    weight = (let same = weighs_dealt places s.views id place known at lt in let within = k.weight in omega (arith, same, within));
+    memory = k.memory;
+  },
+  (place, known, at, lt, refl),
+)
 
 -- with one place alone, the pen that leads is any that has a seat
 leads_alone : (d : Desk) (chief seat : ℕ) (p : PenState) → Places d → d.places ≡ 1 → Has d.views seat p

@@ -26,3 +26,4 @@ mod Dealing
 mod Lines
 mod Lent
 mod Batched
+mod Traces

@@ -15,15 +15,16 @@ use Rattle.desk_core.specs.Dealing.{IsReached, CatchesUp as MovesUp, Writes, Hea
 use Rattle.desk_core.specs.Desk.{Desk, with_pen}
 use Rattle.desk_core.specs.Knows.{Knows}
 use Rattle.desk_core.specs.Layout.{lock_at, Loaded}
-use Rattle.desk_core.specs.Notes.{after_catch_up, after_writing, after_hearing, CatchUpKeeps, WritingKeeps, HearingKeeps}
+use Rattle.desk_core.specs.Notes.{after_catch_up, after_writing, after_hearing, StepsCatchUp, StepsWrite, StepsHear, CatchUpKeeps, WritingKeeps, HearingKeeps}
 use Rattle.desk_core.specs.Rule.{MeetsRule, StartsWith}
 use Rattle.desk_core.specs.Duties.{DutiesAreKept, weight_of}
 use Rattle.desk_core.specs.declared.model.Call.{Call}
 use Rattle.desk_core.specs.declared.model.View.{View}
 use Rattle.desk_core.specs.declared.model.View.TheVariants.{Holder, Note}
+use Rattle.announce_board.specs.Allowed.{AsCatchUp, CutAsMove, JoinAsMove}
 use Rattle.announce_board.specs.Rule.{Keeps, Seated, desk_of}
 use Rattle.announce_board.specs.Steps.{pen_at, Becomes}
-use Rattle.announce_board.specs.Notes.{told_of, told_in, IsNote, CatchesUp, after_note, while_hearing, after_hearing_all, CatchUpAllowed, WritingAllowed, HearingAllowed, CallsAreFound}
+use Rattle.announce_board.specs.Notes.{told_of, told_in, IsNote, CatchesUp, after_note, while_hearing, after_hearing_all, CatchUpAllowedBy, WritingAllowedBy, HearingAllowedBy, CallsAreFound}
 use Rattle.announce_board.proofs.Agreeing.{longer_in_common, both_begin}
 use Rattle.announce_board.proofs.Duties.{acts_on, quiet_set, quiet_more, note_quiet}
 use Rattle.announce_board.proofs.Weights.{weighs_set, weighs_more, weighs_on}
@@ -33,16 +34,17 @@ module _ (wide : Bool) (roomy : ℕ → Type 0) (room : ℕ) (terms : Terms) (pl
   d = desk_of room places k.held k.control k.cells s.homes s.views
 
   -- the views alone have changed
-  viewed : (views : List View) → IsReached places (first_limits room terms) (record d { views = views }) → MeetsRule (record d { views = views }) → DutiesAreKept views → weight_of places views ≤ places
+  abbrev viewed : (views : List View) → IsReached places (first_limits room terms) (record d { views = views }) → MeetsRule (record d { views = views }) → DutiesAreKept views → weight_of places views ≤ places
       → Keeps wide roomy room terms places record { words = s.words; homes = s.homes; views = views }
   viewed views reached meets duties weight =
       record { held = k.held; control = k.control; cells = k.cells; words = k.words; slots = k.slots; reached = reached; meets = meets; duties = duties; weight = weight; memory = k.memory }
 
-pub catch_up_allowed : (wide : Bool) (roomy : ℕ → Type 0) → MovesReach → CatchUpKeeps → Loaded → CatchUpAllowed wide roomy
+pub catch_up_allowed : (wide : Bool) (roomy : ℕ → Type 0) → MovesReach → CatchUpKeeps → Loaded → CatchUpAllowedBy AsCatchUp wide roomy
 catch_up_allowed wide roomy goes kept loaded room terms places slots id m is s k long at small =
     let p = pen_at m in
     let now = d wide roomy room terms places s k in
-    let t = kept (d wide roomy room terms places s k) id p k.meets (at ∙ ap some is) in (
+    let t = kept (d wide roomy room terms places s k) id p k.meets (at ∙ ap some is) in
+    let moved : StepsCatchUp now id (with_pen now id (after_catch_up p t.0)) = (p, t.0, at ∙ ap some is, t.1, refl) in (
       Holder (after_catch_up p t.0),
       keeps,
       tt,
@@ -52,16 +54,17 @@ catch_up_allowed wide roomy goes kept loaded room terms places slots id m is s k
         cells = k.cells;
         words = loaded wide places s.words k.held k.control k.cells lock_at k.words;
         slots = k.slots;
-        reached = goes places (first_limits room terms) now (with_pen now id (after_catch_up p t.0)) (MovesUp id) k.reached (p, t.0, at ∙ ap some is, t.1, refl);
+        reached = goes places (first_limits room terms) now (with_pen now id (after_catch_up p t.0)) (MovesUp id) k.reached moved;
         meets = t.3;
         duties = acts_on s.views id p (after_catch_up p t.0) k.duties (at ∙ ap some is) refl refl;
         weight = (let same = weighs_on places s.views id p (after_catch_up p t.0) (at ∙ ap some is) refl refl in let within = k.weight in omega (arith, same, within));
         memory = k.memory;
       },
+      moved,
       (t.0, subst (λ r. Knows r p t.0) (sym (k.meets.2.pens id p (at ∙ ap some is)).told) t.2, refl),
     )
 
-pub writing_allowed : (wide : Bool) (roomy : ℕ → Type 0) → MovesReach → WritingKeeps → WritingAllowed wide roomy
+pub writing_allowed : (wide : Bool) (roomy : ℕ → Type 0) → MovesReach → WritingKeeps → WritingAllowedBy CutAsMove wide roomy
 writing_allowed wide roomy goes kept room terms places slots id m is s k at =
     let p = pen_at m in
     let now = d wide roomy room terms places s k in
@@ -70,11 +73,14 @@ writing_allowed wide roomy goes kept room terms places slots id m is s k at =
     let same = weighs_on places s.views id p (after_writing p) (at ∙ ap some is) refl refl in
     let more = weighs_more places writer (Note p.known) in
     let within = k.weight in
-    viewed wide roomy room terms places s k views (goes places (first_limits room terms) now (record now { views = views }) (Writes id) k.reached (p, at ∙ ap some is, refl)) (kept (d wide roomy room terms places s k) id p k.meets (at ∙ ap some is))
-    (quiet_more writer (Note p.known) (acts_on s.views id p (after_writing p) k.duties (at ∙ ap some is) refl refl) (note_quiet p.known))
-    (omega (arith, same, more, within))
+    let moved : StepsWrite now id (record now { views = views }) = (p, at ∙ ap some is, refl) in (
+      viewed wide roomy room terms places s k views (goes places (first_limits room terms) now (record now { views = views }) (Writes id) k.reached moved) (kept now id p k.meets (at ∙ ap some is))
+          (quiet_more writer (Note p.known) (acts_on s.views id p (after_writing p) k.duties (at ∙ ap some is) refl refl) (note_quiet p.known))
+          (omega (arith, same, more, within)),
+      moved,
+    )
 
-pub hearing_allowed : (wide : Bool) (roomy : ℕ → Type 0) → MovesReach → HearingKeeps → HearingAllowed wide roomy
+pub hearing_allowed : (wide : Bool) (roomy : ℕ → Type 0) → MovesReach → HearingKeeps → HearingAllowedBy JoinAsMove wide roomy
 hearing_allowed wide roomy goes kept room terms places slots id m is other note it s k at ne there =
     let p = pen_at m in
     let told = told_of note in
@@ -86,15 +92,18 @@ hearing_allowed wide roomy goes kept room terms places slots id m is other note 
     let same = weighs_on places s.views id p (while_hearing p told) here refl refl in
     let spent = weighs_set places (set s.views id w) other (Note told) (Note []) (there ∙ ap some it) in
     let within = k.weight in
-    let heard : Desk = record now { views = set (set s.views id (Holder (after_hearing p told))) other (Note []) } in
-    viewed wide roomy room terms places s k (set (set s.views id w) other (Note []))
-    (subst (λ known. IsReached places (first_limits room terms) (record now { views = set (set s.views id (Holder (record (after_hearing p told) { known = known }))) other (Note []) })) (sym longer)
-    (goes places (first_limits room terms) now heard (Hears id other) k.reached (p, told, here, was, refl)))
-    (subst (λ known. MeetsRule (record now { views = set (set s.views id (Holder (record (after_hearing p told) { known = known }))) other (Note []) })) (sym longer)
-    (kept now id p k.meets here other told was))
-    (quiet_set (set s.views id w) other (Note told) (Note []) (acts_on s.views id p (while_hearing p told) k.duties here refl refl)
-    (there ∙ ap some it) (note_quiet told) (note_quiet []))
-    (omega (arith, same, spent, within))
+    let heard : List Line → Desk =
+    λ known. record now { views = set (set s.views id (Holder (record (after_hearing p told) { known = known }))) other (Note []) } in
+    let moved : StepsHear now id other (heard (while_hearing p told).known) =
+    subst (λ known. StepsHear now id other (heard known)) (sym longer) (p, told, here, was, refl) in (
+      viewed wide roomy room terms places s k (set (set s.views id w) other (Note []))
+          (goes places (first_limits room terms) now (heard (while_hearing p told).known) (Hears id other) k.reached moved)
+          (subst (λ known. MeetsRule (heard known)) (sym longer) (kept now id p k.meets here other told was))
+          (quiet_set (set s.views id w) other (Note told) (Note []) (acts_on s.views id p (while_hearing p told) k.duties here refl refl)
+          (there ∙ ap some it) (note_quiet told) (note_quiet []))
+          (omega (arith, same, spent, within)),
+      moved,
+    )
 
 all_at : (P : Call → Type 0) (xs ys : List Call) → ((i : ℕ) (c : Call) → slice_get (xs ++ ys) i ≡ Some c → P c) → AllByRecursion P xs
 all_at P [] ys f = tt

@@ -5,13 +5,14 @@ use lib.ListN.{get_elem?}
 use Rattle.atomic_table.proofs.Lists.{set_else}
 use Rattle.desk_core.specs.Dealing.{Sleeps, Wakes, ReachedMeetRule, MovesReach}
 use Rattle.desk_core.specs.Pen.{new_pen}
-use Rattle.desk_core.specs.Testimonies.{after_sleeping, after_waking}
+use Rattle.desk_core.specs.Testimonies.{after_sleeping, after_waking, StepsSleep, StepsWake}
 use Rattle.desk_core.specs.declared.model.PenState.{PenState}
 use Rattle.desk_core.specs.declared.model.View.{View}
 use Rattle.desk_core.specs.declared.model.View.TheVariants.{Holder, Testimony}
 use Rattle.announce_board.specs.Slots.{first_limits}
 use Rattle.announce_board.specs.Rule.{desk_of, pen_of}
-use Rattle.announce_board.specs.Sleeping.{SleepAllowed, WakeAllowed}
+use Rattle.announce_board.specs.Allowed.{CutAsMove, JoinAsMove}
+use Rattle.announce_board.specs.Sleeping.{SleepAllowedBy, WakeAllowedBy}
 use Rattle.announce_board.specs.Steps.{pen_at}
 use Rattle.announce_board.specs.Testimonies.{IsTestimony, pens_in, licences_in}
 use Rattle.announce_board.specs.Tokens.{pen_in}
@@ -23,7 +24,7 @@ use Rattle.announce_board.proofs.Weights.{weighs_asleep, weighs_woken}
 pub licence_quiet : (n : ℕ) → IsQuiet (Testimony [] n)
 licence_quiet n = testimony_quiet [] n (λ k p at gone. cc at)
 
-pub sleep_allowed : (wide : Bool) (roomy : ℕ → Type 0) → ReachedMeetRule → MovesReach → SleepAllowed wide roomy
+pub sleep_allowed : (wide : Bool) (roomy : ℕ → Type 0) → ReachedMeetRule → MovesReach → SleepAllowedBy CutAsMove wide roomy
 sleep_allowed wide roomy meet goes room terms places slots id m is new s k at =
     let p = pen_at m in
     let w = after_sleeping p in
@@ -32,14 +33,17 @@ sleep_allowed wide roomy meet goes room terms places slots id m is new s k at =
     let views = set s.views id (Holder w) ++ Testimony [] 1 ∷ [] in
     let same = weighs_asleep places s.views id p has refl in
     let within = k.weight in
-    viewed wide roomy meet room terms places s k views
-    (goes places (first_limits room terms) now (record now { views = views }) (Sleeps id) k.reached (p, has, ap (λ (x : PenState). x.leading) new, refl))
-    (quiet_more (set s.views id (Holder w)) (Testimony [] 1)
-    (quiet_set s.views id (Holder p) (Holder w) k.duties has (pen_quiet p refl) (sleeper_quiet p new))
-    (licence_quiet 1))
-    (omega (arith, same, within))
+    let moved : StepsSleep now id (record now { views = views }) = (p, has, ap (λ (x : PenState). x.leading) new, refl) in (
+      viewed wide roomy meet room terms places s k views
+          (goes places (first_limits room terms) now (record now { views = views }) (Sleeps id) k.reached moved)
+          (quiet_more (set s.views id (Holder w)) (Testimony [] 1)
+          (quiet_set s.views id (Holder p) (Holder w) k.duties has (pen_quiet p refl) (sleeper_quiet p new))
+          (licence_quiet 1))
+          (omega (arith, same, within)),
+      moved,
+    )
 
-pub wake_allowed : (wide : Bool) (roomy : ℕ → Type 0) → ReachedMeetRule → MovesReach → WakeAllowed wide roomy
+pub wake_allowed : (wide : Bool) (roomy : ℕ → Type 0) → ReachedMeetRule → MovesReach → WakeAllowedBy JoinAsMove wide roomy
 wake_allowed wide roomy meet goes room terms places id v other w n is it some_left s k at ne there =
     let p = pen_of v in
     let awake = after_waking p in
@@ -51,14 +55,17 @@ wake_allowed wide roomy meet goes room terms places id v other w n is it some_le
     let less = weighs_woken places s.views id other (Holder sleeper) p n has refl licence ne some_left in
     let within = k.weight in
     let as_new : sleeper ≡ after_sleeping (new_pen p.room p.place) = k.duties.new id sleeper has refl in
-    viewed wide roomy meet room terms places s k views
-    (goes places (first_limits room terms) now (record now { views = views }) (Wakes id other) k.reached (sleeper, n, has, licence, ne, refl))
-    (quiet_set (set s.views id (Holder awake)) other (Testimony [] n) (Testimony [] 0)
-    (quiet_set s.views id (Holder sleeper) (Holder awake) k.duties has
-    (sleeper_quiet p (ap after_waking as_new))
-    (pen_quiet awake refl))
-    (there ∙ ap some it) (licence_quiet n) (licence_quiet 0))
-    (omega (arith, less, within))
+    let moved : StepsWake now id other (record now { views = views }) = (sleeper, n, has, licence, ne, refl) in (
+      viewed wide roomy meet room terms places s k views
+          (goes places (first_limits room terms) now (record now { views = views }) (Wakes id other) k.reached moved)
+          (quiet_set (set s.views id (Holder awake)) other (Testimony [] n) (Testimony [] 0)
+          (quiet_set s.views id (Holder sleeper) (Holder awake) k.duties has
+          (sleeper_quiet p (ap after_waking as_new))
+          (pen_quiet awake refl))
+          (there ∙ ap some it) (licence_quiet n) (licence_quiet 0))
+          (omega (arith, less, within)),
+      moved,
+    )
 
 -- the view of a badge that is a licence's is a testimony of no pen
 pub licence_is : (views : List View) (v : View) → IsTestimony views → views ≡ v ∷ [] → pens_in views ≡ [] → v ≡ Testimony [] (licences_in views)

@@ -7,25 +7,25 @@ use Rattle.atomic_table.proofs.Lists.{set_else, set_again}
 use Rattle.announce_board.specs.declared.terms.Terms.{Terms}
 use Rattle.announce_board.specs.Slots.{Slotted, first_limits}
 use Rattle.desk_core.specs.Dealing.{IsReached, Testifies, Retires, Gathers, ReachedMeetRule, MovesReach}
-use Rattle.desk_core.specs.Desk.{Desk}
 use Rattle.desk_core.specs.Layout.{lock_at, Loaded}
 use Rattle.desk_core.specs.Rule.{MeetsRule}
 use Rattle.desk_core.specs.Duties.{DutiesAreKept, weight_of}
-use Rattle.desk_core.specs.Testimonies.{after_retiring}
+use Rattle.desk_core.specs.Testimonies.{after_retiring, StepsTestify, StepsRetire, StepsGather}
 use Rattle.desk_core.specs.Witnessed.{TestimoniesAreTrue}
 use Rattle.desk_core.specs.declared.model.Duty.TheVariants.{Active, Retired}
 use Rattle.desk_core.specs.declared.model.PenState.{PenState}
 use Rattle.desk_core.specs.declared.model.View.{View}
 use Rattle.desk_core.specs.declared.model.View.TheVariants.{Holder, Testimony}
+use Rattle.announce_board.specs.Allowed.{AsNothing, CutAsMove, JoinAsMove}
 use Rattle.announce_board.specs.Rule.{Keeps, desk_of}
 use Rattle.announce_board.specs.Steps.{pen_at}
-use Rattle.announce_board.specs.Testimonies.{pens_of, pens_in, licences_of, licences_in, testimony_at, IsTestimony, both_testify, TestifyAllowed, RetireAllowed, GatherAllowed, CompareAllowed}
+use Rattle.announce_board.specs.Testimonies.{pens_of, pens_in, licences_of, licences_in, testimony_at, IsTestimony, both_testify, TestifyAllowedBy, RetireAllowedBy, GatherAllowedBy, CompareAllowedBy}
 use Rattle.announce_board.proofs.Duties.{IsQuiet, testimony_quiet, quiet_more, retires, gathers}
 use Rattle.announce_board.proofs.Retiring.{one_alone}
 use Rattle.announce_board.proofs.Weights.{weighs_more, weighs_all_active, weighs_retired, weighs_gathered}
 
 -- the views alone have changed
-pub viewed : (wide : Bool) (roomy : ℕ → Type 0) → ReachedMeetRule → (room : ℕ) (terms : Terms) (places : ℕ) (s : State Slotted View) (k : Keeps wide roomy room terms places s) (views : List View)
+abbrev pub viewed : (wide : Bool) (roomy : ℕ → Type 0) → ReachedMeetRule → (room : ℕ) (terms : Terms) (places : ℕ) (s : State Slotted View) (k : Keeps wide roomy room terms places s) (views : List View)
     → IsReached places (first_limits room terms) (record (desk_of room places k.held k.control k.cells s.homes s.views) { views = views }) → DutiesAreKept views → weight_of places views ≤ places
     → Keeps wide roomy room terms places record { words = s.words; homes = s.homes; views = views }
 viewed wide roomy meet room terms places s k views reached duties weight =
@@ -51,26 +51,28 @@ active_testimony p active =
     let f : Active ≡ Retired = sym active ∙ (ap (λ (x : PenState). x.duty) same ∙ gone) in
     cc))
 
-pub testify_allowed : (wide : Bool) (roomy : ℕ → Type 0) → ReachedMeetRule → MovesReach → TestifyAllowed wide roomy
+pub testify_allowed : (wide : Bool) (roomy : ℕ → Type 0) → ReachedMeetRule → MovesReach → TestifyAllowedBy CutAsMove wide roomy
 testify_allowed wide roomy meet goes room terms places slots id m is s k at =
     let p = pen_at m in
     let has = at ∙ ap some is in
     let now = desk_of room places k.held k.control k.cells s.homes s.views in
     let last : View = Testimony (p ∷ []) 0 in
-    let given : Desk = record now { views = set s.views id (Holder p) ++ last ∷ [] } in
     let more = weighs_more places (set s.views id m.0) last in
     let none = weighs_all_active p refl in
     let within = k.weight in
     let same : set s.views id m.0 ≡ s.views = set_again s.views id m.0 at in
     let as_before : weight_of places (set s.views id m.0) ≡ weight_of places s.views = ap (weight_of places) same in
-    viewed wide roomy meet room terms places s k (set s.views id m.0 ++ last ∷ [])
-    (subst (λ (v : View). IsReached places (first_limits room terms) (record now { views = set s.views id v ++ last ∷ [] })) (sym is)
-    (goes places (first_limits room terms) now given (Testifies id) k.reached (p, has, refl)))
-    (quiet_more (set s.views id m.0) last (subst DutiesAreKept (sym same) k.duties) (active_testimony p refl))
-    (omega (arith, more, none, within, as_before))
+    let moved : StepsTestify now id (record now { views = set s.views id m.0 ++ last ∷ [] }) =
+    subst (λ (v : View). StepsTestify now id (record now { views = set s.views id v ++ last ∷ [] })) (sym is) (p, has, refl) in (
+      viewed wide roomy meet room terms places s k (set s.views id m.0 ++ last ∷ [])
+          (goes places (first_limits room terms) now (record now { views = set s.views id m.0 ++ last ∷ [] }) (Testifies id) k.reached moved)
+          (quiet_more (set s.views id m.0) last (subst DutiesAreKept (sym same) k.duties) (active_testimony p refl))
+          (omega (arith, more, none, within, as_before)),
+      moved,
+    )
 
 -- a pen may retire that does not lead
-pub retire_allowed : (wide : Bool) (roomy : ℕ → Type 0) → ReachedMeetRule → MovesReach → RetireAllowed wide roomy
+pub retire_allowed : (wide : Bool) (roomy : ℕ → Type 0) → ReachedMeetRule → MovesReach → RetireAllowedBy CutAsMove wide roomy
 retire_allowed wide roomy meet goes room terms places slots id m is idle s k at =
     let p = pen_at m in
     let w = after_retiring p in
@@ -79,12 +81,15 @@ retire_allowed wide roomy meet goes room terms places slots id m is idle s k at 
     let views = set s.views id (Holder w) ++ Testimony (w ∷ []) 0 ∷ [] in
     let same = weighs_retired places s.views id p has refl in
     let within = k.weight in
-    viewed wide roomy meet room terms places s k views
-    (goes places (first_limits room terms) now (record now { views = views }) (Retires id) k.reached (p, has, idle, refl))
-    (retires s.views id p k.duties has refl idle (λ seat q there here. k.meets.2.seated.apart seat id q p there has here))
-    (omega (arith, same, within))
+    let moved : StepsRetire now id (record now { views = views }) = (p, has, idle, refl) in (
+      viewed wide roomy meet room terms places s k views
+          (goes places (first_limits room terms) now (record now { views = views }) (Retires id) k.reached moved)
+          (retires s.views id p k.duties has refl idle (λ seat q there here. k.meets.2.seated.apart seat id q p there has here))
+          (omega (arith, same, within)),
+      moved,
+    )
 
-pub gather_allowed : (wide : Bool) (roomy : ℕ → Type 0) → ReachedMeetRule → MovesReach → GatherAllowed wide roomy
+pub gather_allowed : (wide : Bool) (roomy : ℕ → Type 0) → ReachedMeetRule → MovesReach → GatherAllowedBy JoinAsMove wide roomy
 gather_allowed wide roomy meet goes room terms places id v other w is it s k at ne there =
     let now = desk_of room places k.held k.control k.cells s.homes s.views in
     let both = both_testify v w in
@@ -93,13 +98,16 @@ gather_allowed wide roomy meet goes room terms places id v other w is it s k at 
     let second : get_elem? s.views other ≡ some (testimony_at w) = sym (set_else s.views id other both ne) ∙ (there ∙ ap some it) in
     let same = weighs_gathered places s.views id other (pens_of v) (pens_of w) (licences_of v) (licences_of w) here second ne in
     let within = k.weight in
-    viewed wide roomy meet room terms places s k views
-    (goes places (first_limits room terms) now (record now { views = views }) (Gathers id other) k.reached
-    (pens_of v, pens_of w, licences_of v, licences_of w, here, second, ne, refl))
-    (gathers s.views id other (pens_of v) (pens_of w) (licences_of v) (licences_of w) k.duties here second ne)
-    (omega (arith, same, within))
+    let moved : StepsGather now id other (record now { views = views }) =
+    (pens_of v, pens_of w, licences_of v, licences_of w, here, second, ne, refl) in (
+      viewed wide roomy meet room terms places s k views
+          (goes places (first_limits room terms) now (record now { views = views }) (Gathers id other) k.reached moved)
+          (gathers s.views id other (pens_of v) (pens_of w) (licences_of v) (licences_of w) k.duties here second ne)
+          (omega (arith, same, within)),
+      moved,
+    )
 
-pub compare_allowed : (wide : Bool) (roomy : ℕ → Type 0) → TestimoniesAreTrue → Loaded → CompareAllowed wide roomy
+pub compare_allowed : (wide : Bool) (roomy : ℕ → Type 0) → TestimoniesAreTrue → Loaded → CompareAllowedBy AsNothing wide roomy
 compare_allowed wide roomy truth loaded room terms places slots id m is s k long at small =
     let same : set s.views id m.0 ≡ s.views = set_again s.views id m.0 at in (
       m.0,
@@ -117,6 +125,7 @@ compare_allowed wide roomy truth loaded room terms places slots id m is s k long
         weight = subst (λ v. weight_of places v ≤ places) (sym same) k.weight;
         memory = k.memory;
       },
+      ap (λ v. desk_of room places k.held k.control k.cells s.homes v) same,
       (
         refl,
         (

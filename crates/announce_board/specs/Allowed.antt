@@ -1,11 +1,11 @@
 -- Each step keeps the rule of the table, and so may be taken: one statement for each kind, of the
 -- index and the word of the step. What `roomy` says stands at `Keeps`.
-use Rattle.std.specs.Prelude.{◌≡◌, ◌≢◌, ℕ, ◌+◌, ◌<◌, ◌==◌, ◌⊎◌, Bool, true, List, [], ◌∷◌, length, slice_index, Option, Some, None}
+use Rattle.std.specs.Prelude.{◌≡◌, ◌≢◌, ℕ, ◌+◌, ◌<◌, ◌==◌, ◌⊎◌, Bool, true, List, [], ◌∷◌, ◌++◌, length, slice_index, slice_set, Option, Some, None}
 use mathlib.Core.Option as home
 use mathlib.Core.Option.{some, none}
 use lib.ListN.{get_elem?}
 use prog.Atomic.{either}
-use Rattle.atomic_table.specs.Table.{State, Act, Valid, stepped, carried_after, Allows, step}
+use Rattle.atomic_table.specs.Table.{State, Act, Valid, stepped, carried_after, Allows, Splits, Joins, step}
 use Rattle.pq_types.specs.Item.{Item, IsItemOf}
 use Rattle.pq_types.specs.Asked.{Request, Operation}
 use Rattle.pq_types.specs.Entry.{IsProperOperationOf}
@@ -21,6 +21,7 @@ use Rattle.pq_types.specs.History.{MayDo, MayAnswer}
 use Rattle.pq_types.specs.Mail.{control_word}
 use Rattle.wait_list.specs.Waiters.{Change}
 use Rattle.pq_book.specs.Stock.{settled_book}
+use Rattle.desk_core.specs.Dealing.{Move, CatchesUp, Happens}
 use Rattle.desk_core.specs.Desk.{Desk}
 use Rattle.desk_core.specs.Looking.{Looked, sights_of}
 use Rattle.desk_core.specs.Steps.{Event, Releases, actor, Step}
@@ -52,28 +53,78 @@ abbrev pub desk_in : {wide : Bool} {roomy : ℕ → Type 0} {room : ℕ} {terms 
     → Keeps wide roomy room terms places s → Desk
 desk_in {wide} {roomy} {room} {places} {s} k = desk_of room places k.held k.control k.cells s.homes s.views
 
--- As the table asks, and the step is one of the machine, by the pen at this seat: it leads from the desk as which the table
--- stood to the one as which it stands then; or it changes nothing of that desk.
-abbrev pub AsMove : Form
-AsMove wide roomy room terms places slots id m i f then =
+-- As the table asks, and this holds of the seat, of what it knows, of the desk as which the table stood, and of the one as which it
+-- stands then.
+abbrev pub AsTo : (ℕ → Seated → Desk → Desk → Type 0) → Form
+AsTo R wide roomy room terms places slots id m i f then =
     (s : State Slotted View) (k : Keeps wide roomy room terms places s) → length s.homes ≡ slots
     → get_elem? s.views id ≡ some m.0 → slice_index s.words i < 18446744073709551616
     → (w : View) × (a : Act Slotted) × Valid s.homes m.1 a
     × (k' : Keeps wide roomy room terms places (stepped s i (f (slice_index s.words i)) id m.1 w a))
-    × (((e : Event) × (actor e ≡ id) × Step (desk_in k) e (desk_in k')) ⊎ (desk_in k' ≡ desk_in k))
+    × R id m (desk_in k) (desk_in k')
     × then (slice_index s.words i) (w, carried_after m.1 a)
 
--- As the table asks, and the step is a look without a request by the pen at this seat: the machine's release, of which it is seen
--- that the pen of this place finds the journal in its hand.
+-- The step is one of the machine, by the pen at this seat; or it changes nothing of the desk.
+abbrev pub StepsOrStays : ℕ → Seated → Desk → Desk → Type 0
+StepsOrStays id m d d' = ((e : Event) × (actor e ≡ id) × Step d e d') ⊎ (d' ≡ d)
+
+-- The step is a look without a request by the pen at this seat: the machine's release, of which it is seen that the pen of this place
+-- finds the journal in its hand.
+abbrev pub LooksInHand : ℕ → Seated → Desk → Desk → Type 0
+LooksInHand id m d d' =
+    (step : Step d (Releases id) d') × (sights_of d (Releases id) d' step ≡ Looked (pen_at m).place (pen_at m).hand ∷ [])
+
+-- The pen at this seat catches up with the journal.
+abbrev pub CatchesUpThere : ℕ → Seated → Desk → Desk → Type 0
+CatchesUpThere id m d d' = Happens d (CatchesUp id) d'
+
+-- Nothing of the desk changes.
+abbrev pub Stays : ℕ → Seated → Desk → Desk → Type 0
+Stays id m d d' = d' ≡ d
+
+abbrev pub AsMove : Form
+AsMove = AsTo StepsOrStays
+
 abbrev pub AsLook : Form
-AsLook wide roomy room terms places slots id m i f then =
-    (s : State Slotted View) (k : Keeps wide roomy room terms places s) → length s.homes ≡ slots
-    → get_elem? s.views id ≡ some m.0 → slice_index s.words i < 18446744073709551616
-    → (w : View) × (a : Act Slotted) × Valid s.homes m.1 a
-    × (k' : Keeps wide roomy room terms places (stepped s i (f (slice_index s.words i)) id m.1 w a))
-    × ((step : Step (desk_in k) (Releases id) (desk_in k'))
-    × (sights_of (desk_in k) (Releases id) (desk_in k') step ≡ Looked (pen_at m).place (pen_at m).hand ∷ []))
-    × then (slice_index s.words i) (w, carried_after m.1 a)
+AsLook = AsTo LooksInHand
+
+abbrev pub AsCatchUp : Form
+AsCatchUp = AsTo CatchesUpThere
+
+abbrev pub AsNothing : Form
+AsNothing = AsTo Stays
+
+-- how it is said that a seat may be cut in two, by this move of the machine
+abbrev pub CutForm : Type 1
+CutForm = Move → Bool → (ℕ → Type 0) → (room : ℕ) (terms : Terms) (places id : ℕ) → View → View → View → Type 0
+
+-- as the table asks
+abbrev pub CutPlainly : CutForm
+CutPlainly x wide roomy room terms places id v left right = Splits (Keeps wide roomy room terms places) id v left right
+
+-- as the table asks, and the move leads from the desk as which the table stood to the one as which it stands then
+abbrev pub CutAsMove : CutForm
+CutAsMove x wide roomy room terms places id v left right =
+    (s : State Slotted View) (k : Keeps wide roomy room terms places s) → get_elem? s.views id ≡ some v
+    → (k' : Keeps wide roomy room terms places record { words = s.words; homes = s.homes; views = slice_set s.views id left ++ right ∷ [] })
+    × Happens (desk_in k) x (desk_in k')
+
+-- how it is said that a seat may take in what another one has, by this move of the machine
+abbrev pub JoinForm : Type 1
+JoinForm = Move → Bool → (ℕ → Type 0) → (room : ℕ) (terms : Terms) (places id : ℕ) → View → (other : ℕ) → View → View → View → Type 0
+
+-- as the table asks
+abbrev pub JoinPlainly : JoinForm
+JoinPlainly x wide roomy room terms places id v other w both spent = Joins (Keeps wide roomy room terms places) id v other w both spent
+
+-- as the table asks, and the move leads from the desk as which the table stood to the one as which it stands then
+abbrev pub JoinAsMove : JoinForm
+JoinAsMove x wide roomy room terms places id v other w both spent =
+    (s : State Slotted View) (k : Keeps wide roomy room terms places s) → get_elem? s.views id ≡ some v → ¬ (other ≡ id)
+    → get_elem? (slice_set s.views id both) other ≡ some w
+    → (k' : Keeps wide roomy room terms places
+    record { words = s.words; homes = s.homes; views = slice_set (slice_set s.views id both) other spent })
+    × Happens (desk_in k) x (desk_in k')
 
 -- what follows holds of every desk, and of each seat of it that is a pen's
 abbrev pub AtEachPen : (ℕ → Terms → ℕ → ℕ → ℕ → Seated → Type 0) → Type 0

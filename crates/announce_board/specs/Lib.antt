@@ -17,3 +17,4 @@ pub mod Notes
 pub mod Running
 pub mod Testimonies
 pub mod Sleeping
+pub mod Traces

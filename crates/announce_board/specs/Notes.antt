@@ -4,19 +4,20 @@ use Rattle.std.specs.Prelude.{◌≡◌, ℕ, Bool, List, [], ◌∷◌}
 use mathlib.Core.Option.{none}
 use Rattle.std.specs.List.{AllByRecursion}
 use Rattle.atomic_table.specs.Seated.{TableId}
-use Rattle.atomic_table.specs.Table.{Step, Allows, Splits, Joins, step}
+use Rattle.atomic_table.specs.Table.{Step, step}
 use Rattle.pq_types.specs.Asked.{Line}
 use Rattle.announce_board.specs.Slots.{Slotted}
 use Rattle.desk_core.specs.CallLines.{IsLineOf}
+use Rattle.desk_core.specs.Dealing.{Writes, Hears}
 use Rattle.desk_core.specs.Knows.{Knows}
 use Rattle.desk_core.specs.Layout.{lock_at}
 use Rattle.desk_core.specs.Notes.{after_catch_up, after_writing, after_hearing}
 use Rattle.desk_core.specs.declared.model.PenState.{PenState}
 use Rattle.desk_core.specs.declared.model.View.{View}
 use Rattle.desk_core.specs.declared.model.View.TheVariants.{Dealer, Holder, Note, Testimony}
-use Rattle.announce_board.specs.Allowed.{AtEachPen}
+use Rattle.announce_board.specs.Allowed.{Form, Plainly, CutForm, CutPlainly, JoinForm, JoinPlainly, AtEachPen}
 use Rattle.announce_board.specs.InCommon.{in_common}
-use Rattle.announce_board.specs.Rule.{Keeps, Seated, pen_of}
+use Rattle.announce_board.specs.Rule.{Seated, pen_of}
 use Rattle.announce_board.specs.Steps.{pen_at, Becomes}
 
 -- a note: the table of its desk, and the journal that it tells
@@ -77,18 +78,28 @@ after_hearing_all p told journal = after_catch_up (after_hearing p told) journal
 abbrev pub HasItsCalls : PenState → List Line → Type 0
 HasItsCalls p journal = AllByRecursion (λ c. IsLineOf journal p.place c) p.mine
 
--- each pen may catch up, write a note, and hear any note; and each note may be copied
+-- each pen may catch up, write a note, and hear any note
+abbrev pub CatchUpAllowedBy : Form → Bool → (ℕ → Type 0) → Type 0
+CatchUpAllowedBy A wide roomy = AtEachPen (λ room terms places slots id m.
+    A wide roomy room terms places slots id m lock_at (λ n. n) (CaughtUp (step slots lock_at 0 0 none) m))
+
+abbrev pub WritingAllowedBy : CutForm → Bool → (ℕ → Type 0) → Type 0
+WritingAllowedBy A wide roomy = AtEachPen (λ room terms places slots id m.
+    A (Writes id) wide roomy room terms places id m.0 (writer m.0) (note_of m.0))
+
+abbrev pub HearingAllowedBy : JoinForm → Bool → (ℕ → Type 0) → Type 0
+HearingAllowedBy A wide roomy = AtEachPen (λ room terms places slots id m. (other : ℕ) (note : View) → note ≡ Note (told_of note)
+    → A (Hears id other) wide roomy room terms places id m.0 other note (hearer m.0 note) (Note []))
+
+-- each of them, as the table asks
 abbrev pub CatchUpAllowed : Bool → (ℕ → Type 0) → Type 0
-CatchUpAllowed wide roomy = AtEachPen (λ room terms places slots id m.
-    Allows (Keeps wide roomy room terms places) slots id m lock_at (λ n. n) (CaughtUp (step slots lock_at 0 0 none) m))
+CatchUpAllowed = CatchUpAllowedBy Plainly
 
 abbrev pub WritingAllowed : Bool → (ℕ → Type 0) → Type 0
-WritingAllowed wide roomy = AtEachPen (λ room terms places slots id m.
-    Splits (Keeps wide roomy room terms places) id m.0 (writer m.0) (note_of m.0))
+WritingAllowed = WritingAllowedBy CutPlainly
 
 abbrev pub HearingAllowed : Bool → (ℕ → Type 0) → Type 0
-HearingAllowed wide roomy = AtEachPen (λ room terms places slots id m. (other : ℕ) (note : View) → note ≡ Note (told_of note)
-    → Joins (Keeps wide roomy room terms places) id m.0 other note (hearer m.0 note) (Note []))
+HearingAllowed = HearingAllowedBy JoinPlainly
 
 -- a pen finds all its calls in a journal that it knows
 abbrev pub CallsAreFound : Type 0

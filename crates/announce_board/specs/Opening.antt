@@ -4,14 +4,14 @@ use Rattle.std.specs.Prelude.{length, replicate, slice_get, slice_index, Some}
 use mathlib.Core.Option.{some}
 use lib.ListN.{get_elem?}
 use Rattle.std.specs.List.{All}
-use Rattle.atomic_table.specs.Table.{State, Splits, opening}
+use Rattle.atomic_table.specs.Table.{State, opening}
 use Rattle.atomic_table.specs.Seated.{TableId}
 use Rattle.pq_types.specs.declared.journal.TheConstants.{GREATEST_NUMBER}
 use Rattle.pq_types.specs.Asked.{Line}
 use Rattle.pq_book.specs.Book.{Volume}
 use Rattle.desk_core.specs.Pen.{new_pen}
-use Rattle.desk_core.specs.Dealing.{IsReached}
-use Rattle.desk_core.specs.Desk.{Desk, Has}
+use Rattle.desk_core.specs.Dealing.{IsReached, Deals}
+use Rattle.desk_core.specs.Desk.{Desk, Has, dealer_opening}
 use Rattle.desk_core.specs.Knows.{Knows}
 use Rattle.desk_core.specs.Layout.{lock_at, word_count}
 use Rattle.desk_core.specs.Rule.{MeetsRule}
@@ -21,6 +21,7 @@ use Rattle.desk_core.specs.declared.model.View.{View}
 use Rattle.desk_core.specs.declared.model.View.TheVariants.{Dealer, Holder, Testimony}
 use Rattle.announce_board.specs.declared.error.DeskError.{DeskError}
 use Rattle.announce_board.specs.declared.error.DeskError.TheVariants.{LinesOutOfRange, NoMemory}
+use Rattle.announce_board.specs.Allowed.{CutForm, CutPlainly, desk_in}
 use Rattle.announce_board.specs.Rule.{Keeps, Seated, dealt_one, pen_dealt}
 use Rattle.announce_board.specs.declared.terms.Terms.{Terms}
 use Rattle.announce_board.specs.Slots.{MeetsTerms, Slotted, with_book, terms_of, first_limits}
@@ -137,11 +138,24 @@ OpeningKept wide roomy =
     → terms ≡ terms_of book
     → Keeps wide roomy room terms places (opening (replicate (word_count places) 0) (with_book book ∷ []) (Dealer 0 room))
 
+-- the same, and it stands as the desk of the machine's opening with a dealer
+abbrev pub OpeningIsTheDealers : Bool → (ℕ → Type 0) → Type 0
+OpeningIsTheDealers wide roomy =
+    (room : ℕ) (terms : Terms) (places : ℕ) (book : Volume) → room ≤ GREATEST_NUMBER → book.room ≡ room → book.journal ≡ []
+    → book.waiters ≡ []
+    → terms ≡ terms_of book
+    → (k : Keeps wide roomy room terms places (opening (replicate (word_count places) 0) (with_book book ∷ []) (Dealer 0 room)))
+    × (desk_in k ≡ dealer_opening places (first_limits room terms))
+
 -- the dealer may give out the pen of its next place
-abbrev pub DealingAllowed : Bool → (ℕ → Type 0) → Type 0
-DealingAllowed wide roomy = (room : ℕ) (terms : Terms) (places id place known : ℕ) → place < places
-    → Splits (Keeps wide roomy room terms places) id (Dealer place known) (dealt_one (Dealer place known))
+abbrev pub DealingAllowedBy : CutForm → Bool → (ℕ → Type 0) → Type 0
+DealingAllowedBy A wide roomy = (room : ℕ) (terms : Terms) (places id place known : ℕ) → place < places
+    → A (Deals id) wide roomy room terms places id (Dealer place known) (dealt_one (Dealer place known))
     (pen_dealt (Dealer place known))
+
+-- as the table asks
+abbrev pub DealingAllowed : Bool → (ℕ → Type 0) → Type 0
+DealingAllowed = DealingAllowedBy CutPlainly
 
 -- What the words and the slot of a table say at its end. A lock word 0: the Book is in its slot,
 -- lawful, and meets the desk's terms; and each pen knows its journal and does not lead. Any other: the lock is held, and where

@@ -2,17 +2,18 @@
 use Rattle.std.specs.Prelude.{◌≡◌, ℕ, ◌+◌, Bool, false, List, [], ◌∷◌, ◌++◌}
 use mathlib.Core.Option.{none}
 use Rattle.atomic_table.specs.Seated.{TableId}
-use Rattle.atomic_table.specs.Table.{Step, Allows, Splits, Joins, step}
+use Rattle.atomic_table.specs.Table.{Step, step}
 use Rattle.announce_board.specs.declared.terms.Terms.{Terms}
 use Rattle.announce_board.specs.Slots.{Slotted}
+use Rattle.desk_core.specs.Dealing.{Testifies, Retires, Gathers}
 use Rattle.desk_core.specs.Layout.{lock_at}
 use Rattle.desk_core.specs.Testimonies.{after_retiring}
 use Rattle.desk_core.specs.Witnessed.{AreLinearized}
 use Rattle.desk_core.specs.declared.model.PenState.{PenState}
 use Rattle.desk_core.specs.declared.model.View.{View}
 use Rattle.desk_core.specs.declared.model.View.TheVariants.{Dealer, Holder, Note, Testimony}
-use Rattle.announce_board.specs.Allowed.{AtEachPen}
-use Rattle.announce_board.specs.Rule.{Keeps, Seated, pen_of}
+use Rattle.announce_board.specs.Allowed.{Form, Plainly, CutForm, CutPlainly, JoinForm, JoinPlainly, AtEachPen}
+use Rattle.announce_board.specs.Rule.{Seated, pen_of}
 use Rattle.announce_board.specs.Steps.{pen_at}
 
 -- a testimony: the table of its desk, the pens that gave it, as they were then, and how many sleeping pens may be woken by it
@@ -73,22 +74,35 @@ abbrev pub Compared : Step Slotted → Seated → ℕ → Seated → Type 0
 Compared st before word after = (◌≡◌ {A = Seated} after before) × ((room : ℕ) × AreLinearized room (pens_of before.0))
 
 -- each pen may give testimony
-abbrev pub TestifyAllowed : Bool → (ℕ → Type 0) → Type 0
-TestifyAllowed wide roomy = AtEachPen (λ room terms places slots id m.
-    Splits (Keeps wide roomy room terms places) id m.0 m.0 (testimony_of m.0))
+abbrev pub TestifyAllowedBy : CutForm → Bool → (ℕ → Type 0) → Type 0
+TestifyAllowedBy A wide roomy = AtEachPen (λ room terms places slots id m.
+    A (Testifies id) wide roomy room terms places id m.0 m.0 (testimony_of m.0))
 
 -- and each that does not lead may retire
-abbrev pub RetireAllowed : Bool → (ℕ → Type 0) → Type 0
-RetireAllowed wide roomy = AtEachPen (λ room terms places slots id m. (pen_at m).leading ≡ false
-    → Splits (Keeps wide roomy room terms places) id m.0 (retiree m.0) (last_testimony m.0))
+abbrev pub RetireAllowedBy : CutForm → Bool → (ℕ → Type 0) → Type 0
+RetireAllowedBy A wide roomy = AtEachPen (λ room terms places slots id m. (pen_at m).leading ≡ false
+    → A (Retires id) wide roomy room terms places id m.0 (retiree m.0) (last_testimony m.0))
 
 -- any two testimonies may be put together
-abbrev pub GatherAllowed : Bool → (ℕ → Type 0) → Type 0
-GatherAllowed wide roomy = (room : ℕ) (terms : Terms) (places id : ℕ) (v : View) (other : ℕ) (w : View)
+abbrev pub GatherAllowedBy : JoinForm → Bool → (ℕ → Type 0) → Type 0
+GatherAllowedBy A wide roomy = (room : ℕ) (terms : Terms) (places id : ℕ) (v : View) (other : ℕ) (w : View)
     → v ≡ testimony_at v → w ≡ testimony_at w
-    → Joins (Keeps wide roomy room terms places) id v other w (both_testify v w) (Testimony [] 0)
+    → A (Gathers id other) wide roomy room terms places id v other w (both_testify v w) (Testimony [] 0)
 
 -- and the pens of each may be compared
+abbrev pub CompareAllowedBy : Form → Bool → (ℕ → Type 0) → Type 0
+CompareAllowedBy A wide roomy = (room : ℕ) (terms : Terms) (places slots id : ℕ) (m : Seated) → m.0 ≡ testimony_at m.0
+    → A wide roomy room terms places slots id m lock_at (λ n. n) (Compared (step slots lock_at 0 0 none) m)
+
+-- each of them, as the table asks
+abbrev pub TestifyAllowed : Bool → (ℕ → Type 0) → Type 0
+TestifyAllowed = TestifyAllowedBy CutPlainly
+
+abbrev pub RetireAllowed : Bool → (ℕ → Type 0) → Type 0
+RetireAllowed = RetireAllowedBy CutPlainly
+
+abbrev pub GatherAllowed : Bool → (ℕ → Type 0) → Type 0
+GatherAllowed = GatherAllowedBy JoinPlainly
+
 abbrev pub CompareAllowed : Bool → (ℕ → Type 0) → Type 0
-CompareAllowed wide roomy = (room : ℕ) (terms : Terms) (places slots id : ℕ) (m : Seated) → m.0 ≡ testimony_at m.0
-    → Allows (Keeps wide roomy room terms places) slots id m lock_at (λ n. n) (Compared (step slots lock_at 0 0 none) m)
+CompareAllowed = CompareAllowedBy Plainly

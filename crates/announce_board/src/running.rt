@@ -5,12 +5,19 @@ ghost use Rattle.announce_board.specs.Allowed.{AsMove, AsLook, DraftAllowedBy, P
 ghost use Rattle.announce_board.specs.Allowed.{MailReadAllowedBy, ItemReadAllowedBy, ItemLaidAllowedBy, AnswerAllowedBy};
 ghost use Rattle.announce_board.specs.Allowed.{ReleaseAllowedBy, ReleaseWithAllowedBy, LookAllowedBy, SeeAllowedBy, TakeAllowedBy, ApplyAllowedBy};
 ghost use Rattle.announce_board.specs.Allowed.{ArchiveAllowedBy, ChangeAllowedBy, HandOutAllowedBy};
+ghost use Rattle.announce_board.specs.Allowed.{AsCatchUp, AsNothing, CutAsMove, JoinAsMove};
+ghost use Rattle.announce_board.specs.Notes.{CatchUpAllowedBy, WritingAllowedBy, HearingAllowedBy};
+ghost use Rattle.announce_board.specs.Opening.{OpeningIsTheDealers, DealingAllowedBy};
 ghost use Rattle.announce_board.specs.Running.{TablesAreLinearized, TablesForcePositions};
+ghost use Rattle.announce_board.specs.Sleeping.{SleepAllowedBy, WakeAllowedBy};
+ghost use Rattle.announce_board.specs.Testimonies.{TestifyAllowedBy, RetireAllowedBy, GatherAllowedBy, CompareAllowedBy};
+ghost use Rattle.announce_board.specs.Traces.{EachTraceIsARun, EachJournalGrows};
 
 use desk_core::laws::{
-    law_archiving, law_desk_runs, law_each_step_keeps_the_rule, law_lines_are_beyond,
-    law_looks_are_within, law_nobody_sleeps_beside_an_item, law_pens_know,
-    law_positions_are_forced, law_reached_desks, law_times, law_words_show_the_desk,
+    law_archiving, law_dealt_runs_are_linearizable, law_desk_runs, law_each_step_keeps_the_rule,
+    law_lines_are_beyond, law_looks_are_within, law_nobody_sleeps_beside_an_item,
+    law_notes_keep_the_rule, law_pens_know, law_positions_are_forced, law_reached_desks,
+    law_testimonies, law_times, law_words_show_the_desk,
 };
 use leftist_heap::Store;
 use pq_book::Entry;
@@ -65,4 +72,41 @@ pub fn law_steps_are_moves<S: Store<Entry<P>>, P: Part>()
     law_reached_desks();
     law_archiving();
     law_nobody_sleeps_beside_an_item();
+}
+
+/// So is each other thing that threads do at the table. A pen catches up with the journal. The pens of a testimony are compared, which
+/// changes nothing. The dealer gives out a pen. Pens write notes and hear them, give testimony, retire, fall asleep and are woken, and
+/// testimonies are put together.
+pub fn law_cuts_and_joins_are_moves<S: Store<Entry<P>>, P: Part>()
+    ensures catch_up { CatchUpAllowedBy AsCatchUp P.wide (AllHaveRoom S.room) }
+    ensures compare { CompareAllowedBy AsNothing P.wide (AllHaveRoom S.room) }
+    ensures deals { DealingAllowedBy CutAsMove P.wide (AllHaveRoom S.room) }
+    ensures writing { WritingAllowedBy CutAsMove P.wide (AllHaveRoom S.room) }
+    ensures hearing { HearingAllowedBy JoinAsMove P.wide (AllHaveRoom S.room) }
+    ensures testify { TestifyAllowedBy CutAsMove P.wide (AllHaveRoom S.room) }
+    ensures retire { RetireAllowedBy CutAsMove P.wide (AllHaveRoom S.room) }
+    ensures gather { GatherAllowedBy JoinAsMove P.wide (AllHaveRoom S.room) }
+    ensures sleep { SleepAllowedBy CutAsMove P.wide (AllHaveRoom S.room) }
+    ensures wake { WakeAllowedBy JoinAsMove P.wide (AllHaveRoom S.room) }
+{
+    law_notes_keep_the_rule();
+    law_reached_desks();
+    law_words_show_the_desk();
+    law_testimonies();
+    law_desk_runs();
+}
+
+/// A table opens as the desk of the machine's opening with a dealer. Whatever steps its threads take from then on, one behind another,
+/// each a move of the machine by its own seat or one that changes nothing: together they are one run of the machine. Its journal
+/// linearizes the calls of all threads with all their looks, in the order of these steps, and only grows at its end.
+pub fn law_traces_are_runs<S: Store<Entry<P>>, P: Part>()
+    ensures opens { OpeningIsTheDealers P.wide (AllHaveRoom S.room) }
+    ensures runs { EachTraceIsARun P.wide (AllHaveRoom S.room) }
+    ensures grows { EachJournalGrows P.wide (AllHaveRoom S.room) }
+{
+    law_desk_runs();
+    law_words_show_the_desk();
+    law_looks_are_within();
+    law_times();
+    law_dealt_runs_are_linearizable();
 }

@@ -1,6 +1,6 @@
 // The hint that somebody has posted, where one posts while another sweeps.
-use crate::common::wait_for;
-use flat_queue::{Newcomer, Queue};
+use crate::common::{item, opened, wait_for};
+use flat_queue::{Newcomer, Queue, Wanted};
 use leftist_heap::{Leftist, Store};
 use pq_book::Entry;
 use pq_types::Request;
@@ -109,5 +109,40 @@ fn posted_during_a_sweep<R: Abort + Threads + Sync>(rt: &R, alloc: Global, follo
 fn a_post_during_a_sweep_leaves_the_hint_set(rt: HostRuntime) -> Result<(), Fail> {
     posted_during_a_sweep(&rt, rt.alloc(), false);
     posted_during_a_sweep(&rt, rt.alloc(), true);
+    Ok(())
+}
+
+// Whoever had posted before a lead began, and so set the hint, has its answer when that ends, whatever the leader does.
+#[test]
+fn each_lead_answers_who_had_posted(rt: HostRuntime) -> Result<(), Fail> {
+    let (queue, mut newcomers) = opened(&rt, rt.alloc(), &[1, 2]);
+    let mut member = queue.join(newcomers.pop().expect(&rt, "there is one"));
+    let mut other = queue.join(newcomers.pop().expect(&rt, "there is one"));
+    for kind in 0..6 {
+        queue.post(&mut other, Request::Push(item(3, 1)));
+        let led = match kind {
+            0 => queue.try_call(&mut member, Request::Least).is_some(),
+            1 => queue.take_first(&mut member, Wanted::Nothing).is_some(),
+            2 => queue.count_items(&mut member).is_some(),
+            3 => queue.peek(&mut member).is_some(),
+            4 => queue.carry_out_pushes(&mut member, &[item(4, 1)]).is_some(),
+            _ => queue.try_trail_round(&mut member).is_some(),
+        };
+        assert!(&rt; led && queue.look(&mut other).is_some());
+    }
+    Ok(())
+}
+
+// The lead under way when somebody posts may leave that request; the next one answers it.
+#[test]
+fn one_lead_at_most_leaves_a_post(rt: HostRuntime) -> Result<(), Fail> {
+    let (queue, mut newcomers) = opened(&rt, rt.alloc(), &[1, 2]);
+    let mut member = queue.join(newcomers.pop().expect(&rt, "there is one"));
+    let mut other = queue.join(newcomers.pop().expect(&rt, "there is one"));
+    let lead = queue.lead(&mut member).expect(&rt, "the lock is free");
+    queue.post(&mut other, Request::Pop);
+    queue.release(&mut member, lead);
+    assert!(&rt; queue.look(&mut other).is_none());
+    assert!(&rt; queue.count_items(&mut member).is_some() && queue.look(&mut other).is_some());
     Ok(())
 }

@@ -141,14 +141,14 @@ PQ_CHECKED pq_code pq_close(pq_queue *queue, pq_journal **journal);
 void pq_free(pq_queue *queue, void (*left)(void *context, pq_item item), void *context);
 
 /* The calling thread's own member, as a pointer that all threads may share. A thread gets its member at its first call, and gives it back when
-   it ends. If all members are taken, a call takes over one whose thread is in no call, or waits for one until its `until`. A thread that
+   it ends. If all members are in use, a call takes over one whose thread is in no call, or waits for one until its `until`. A thread that
    waits for an item or for room, or listens, holds none meanwhile. So any number of threads may call, and wait. */
 pq_member *pq_own(pq_queue *queue);
 
 /* Gives the calling thread's own member back now, if the thread has one, and ends its listening. */
 void pq_leave(pq_queue *queue);
 
-/* Joins the queue. If all members are taken, it takes over one whose thread is in no call (pq_own). Else it waits until `until` for one that is
+/* Joins the queue. If all members are in use, it takes over one whose thread is in no call (pq_own). Else it waits until `until` for one that is
    given back. The member may move between threads. PQ_OK; PQ_ALL_JOINED, PQ_NO_MEMBER, PQ_NO_MEMORY, PQ_CLOSED, PQ_FORKED: *member is NULL. */
 PQ_CHECKED pq_code pq_join(pq_queue *queue, uint64_t until, pq_member **member);
 
@@ -209,10 +209,10 @@ PQ_CHECKED pq_code pq_remove(pq_member *member, uint64_t ticket, pq_item *item, 
 PQ_CHECKED pq_code pq_reschedule(pq_member *member, uint64_t ticket, uint64_t priority, uint64_t until, uint64_t *number);
 
 /* For event loops and futures. A member listens for one thing at a time: a call to listen for another ends that. It may push, pop and peek
-   meanwhile. 32 may listen at once, and up to 58 while few threads wait. If all other members are joined and wait or
-   listen, the last one may not listen. A call that may not listen returns PQ_ALL_JOINED.
+   meanwhile. 32 may listen at once, and up to 26 more: one fewer for each thread that waits for an item or for room. Of two or more members a
+   joined one may not listen if all others are joined, and wait or listen. A call that may not listen returns PQ_ALL_JOINED.
    An item wakes one thread in pq_take. If no thread waits there, as many listeners of pq_take_or_listen are notified as there are items that
-   they can take, first come first served. If no thread in pq_take was woken, one in pq_take_due is. None is if one there wakes in time by itself. */
+   they can take, first come first served. If no thread in pq_take was woken, one in pq_take_due is, unless one there wakes in time by itself. */
 
 /* Takes the first item out if it is due (pq_take_due); else the member listens by `timer`, a timerfd of CLOCK_MONOTONIC that no other member has. It
    is readable once the first item is due, when an earlier one comes, on a shut, or sometimes for nothing. Then call again, while this returns PQ_OK.
@@ -226,8 +226,8 @@ PQ_CHECKED pq_code pq_take_due_or_listen(pq_member *member, int timer, pq_item *
    PQ_OK; PQ_EMPTY: it listens; PQ_NOT_DUE: it listens, and *item is the first item, and stays; PQ_SHUT; or a refusal. After PQ_NOT_DUE call
    again once *item is within the bound: nothing notifies of that. While the member listens, notify(context) is called at most once, after a
    push, move or shut, or for nothing. Any thread that calls the queue may call it. If others still have the lock, or all members, this call itself
-   calls notify, and returns PQ_EMPTY although items may be there. After notify call again. notify must not wait or call this library. If a
-   new first item precedes the one that the listeners saw, one is notified, even if the item is above each bound. */
+   calls notify, and returns PQ_EMPTY although items may be there. After notify call again. notify must not wait or call this library. If a new
+   first item precedes the one that listeners saw, one is notified, even if the item is above each bound. So all pass the current time, or none. */
 PQ_CHECKED pq_code pq_take_or_listen(pq_member *member, uint64_t priority, pq_item *item, uint64_t *number,
                                      void (*notify)(void *context), void *context);
 

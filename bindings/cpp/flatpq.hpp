@@ -230,12 +230,12 @@ public:
         return why == code::ok ? result<std::uint64_t>(peak) : why;
     }
 
-    /// Takes all items out, or those whose keys are at most this one: `for (auto &item : queue.drain())`. A drain is a range that std::views
-    /// take, by its name too: `queue.drain() | std::views::take(3)`.
+    /// Takes all items out, or those whose keys are at most this one: `for (auto &item : queue.drain())`. Each is a call of its own, so the loop
+    /// may not end while others push. A drain is a range that std::views take, by its name too: `queue.drain() | std::views::take(3)`.
     [[nodiscard]] auto drain() & noexcept { return drained<next_due>(next_due{this, UINT64_MAX}); }
     [[nodiscard]] auto drain(const key &bound) & noexcept { return drained<next_due>(next_due{this, key_order<key>::number(bound)}); }
 
-    /// Takes all items out, drops them, and returns how many there were.
+    /// Takes all items out as a drain does, drops them, and returns how many there were.
     result<std::size_t> clear() noexcept {
         auto all = drain();
         const auto count = static_cast<std::size_t>(std::distance(all.begin(), all.end()));
@@ -534,11 +534,11 @@ public:
         std::swap(queue_, moved.queue_);
         return *this;
     }
-    /// No thread that waits is woken: shut the queue first. The payloads that are left are dropped once the last joined member has ended. Those
-    /// that are dropped here may call the queue: code::closed.
+    /// No thread that waits is woken: shut the queue first. The payloads that are left are dropped once the last joined member has ended. A
+    /// payload's destructor that runs here and calls the queue gets code::closed.
     ~basic_queue() { pq_free(queue_, Items::drops, nullptr); }
 
-    /// Joins the queue. If all members are in use it takes over an idle one, or waits until then for one given back: code::all_joined.
+    /// Joins the queue. If all members are in use it takes over an idle one, or waits until `until` for one that is given back: code::all_joined.
     result<member> join(deadline until = {}) noexcept {
         pq_member *joined = nullptr;
         const auto why = queue_ != nullptr ? static_cast<code>(pq_join(queue_, until.at(), &joined)) : code::no_member;
@@ -569,8 +569,8 @@ public:
         }
     }
 
-    /// Shuts the queue down for good: each push is refused. Threads that wait for an item take what is left, and then return code::shut. It waits
-    /// for nothing.
+    /// Shuts the queue down for good, as pq_shut does: each push is refused. Threads that wait for an item take what is left, and then return
+    /// code::shut. It waits for nothing.
     code shut() noexcept { return queue_ != nullptr ? static_cast<code>(pq_shut(queue_)) : code::no_member; }
     /// Whether that was done: each push that begins from now on is refused.
     [[nodiscard]] bool is_shut() const noexcept { return queue_ != nullptr && pq_is_shut(queue_) != 0; }

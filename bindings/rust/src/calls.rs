@@ -277,7 +277,7 @@ macro_rules! calls {
             }
 
             /// Takes the first payload out, with its key, if there is one: of the smallest key the payload that was pushed or
-            /// moved there first. It doesn't wait for one.
+            /// moved there first. It doesn't wait for one. If there is none, it has a journal entry all the same; `try_take` has none.
             ///
             /// # Errors
             ///
@@ -287,7 +287,7 @@ macro_rules! calls {
             }
 
             /// Removes the payload with this ticket, and returns it with its key. The ticket is what [`Self::push`] returned. `None` if no
-            /// payload waits under it.
+            /// payload waits under it; that has a journal entry too.
             ///
             /// # Errors
             ///
@@ -410,8 +410,9 @@ macro_rules! calls {
                 self.call().push_many(payloads)
             }
 
-            /// Takes the first payloads out whose keys are at most this one, and at most `most` of them. Up to 64 are taken under one lock if
-            /// a payload has at most 1 KiB. A member's [`number`](crate::TaskMember::number) is then that of the first one's journal entry.
+            /// Takes the first payloads out whose keys are at most this one, and at most `most` of them; `usize::MAX` sets no limit, as room is
+            /// asked for in parts. Up to 64 are taken under one lock if a payload has at most 1 KiB. A member's
+            /// [`number`](crate::TaskMember::number) is then that of the first one's journal entry.
             ///
             /// # Errors
             ///

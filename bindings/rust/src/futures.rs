@@ -86,7 +86,7 @@ impl<K: Key, T: Send> TaskMember<K, T> {
     /// # Errors
     ///
     /// Those of [`TaskMember::take`], and [`Error::NoMemory`] if that thread can't start. [`Error::AllJoined`] if as many listen as may: 32, and up
-    /// to 58 while few threads wait. So too if all other members are joined and wait or listen: calls need the last one.
+    /// to 26 more, one fewer for each thread that waits. So too if all other members are joined, and wait or listen: calls need the last one.
     ///
     /// ```
     /// use std::future::Future;
@@ -180,6 +180,9 @@ impl<K: Key, T: Send> TaskMember<K, T> {
     /// Takes the first payload out if its key is at most this one. Else the context's task is woken once a payload comes that may be for it, or
     /// the queue is shut. After [`Due::Later`] the program calls it again once that key is within its bound: nothing wakes for that.
     ///
+    /// At one queue pass fixed bounds in all such calls, or the current time in all; `take_due_async` passes the current time. Else a payload that
+    /// isn't due yet may wake only one with a fixed bound, which leaves it there. It may then stay in the queue once it is due.
+    ///
     /// # Errors
     ///
     /// Those of [`TaskMember::take_async`].
@@ -250,15 +253,18 @@ impl<K: Key, T: Send> TaskQueue<K, T> {
     /// woken, poll or drop a future promptly: later ones wait for it. If a task takes in a loop, join once and await by that member: each
     /// take then takes half the time.
     ///
+    /// Futures of one kind (for any payload, for what is due, for room) need one member. So open the queue with one for each kind, besides those
+    /// for the threads that call at once. Pending futures hold up to 58 members, and leave at least one for calls.
+    ///
     /// # Errors
     ///
-    /// Those of [`TaskMember::take_async`], but [`Error::AllJoined`] only if no other such future has a member.
+    /// Those of [`TaskMember::take_async`], except that [`Error::AllJoined`] comes only if no other such future has a member.
     pub fn take_async(&self) -> Take<'_, K, T> {
         Take(Taker::by_queue(self, &self.shared.lines.any))
     }
 
     /// Puts a payload in, and waits by a future while the queue has no room, as [`TaskMember::push_async`] does. It joins only if there
-    /// is none, and then waits for its turn as [`TaskQueue::take_async`] does.
+    /// is none, and then waits for its turn as [`TaskQueue::take_async`] does. Unlike `push` it never blocks the thread, also without a bound.
     ///
     /// # Errors
     ///
@@ -305,6 +311,10 @@ impl<K: Key, T: Send> TaskQueue<K, T> {
 impl<K, T> TaskQueue<K, T> {
     /// Waits by a future until an archive has counted the entry of this number as archived, as [`TaskQueue::wait_archived`] does. The archive
     /// wakes, in its thread.
+    ///
+    /// # Errors
+    ///
+    /// [`Error::Forked`].
     pub fn wait_archived_async(&self, number: u64) -> WaitArchived<'_, T> {
         let own = self.shared.archives.1.fetch_add(1, Ordering::Relaxed);
         WaitArchived(&self.shared, (number, own))

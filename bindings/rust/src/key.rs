@@ -51,7 +51,7 @@ pub trait Key: Copy {
     /// The number of the key: of a smaller key a smaller number.
     fn to_number(self) -> u64;
 
-    /// The key of a number that `to_number` returned. A [`TickKey`] has one of `u64::MAX` too.
+    /// The key of a number that `to_number` returned. Of a [`TickKey`] it may also be called with `u64::MAX`.
     fn from_number(number: u64) -> Self;
 }
 

@@ -21,32 +21,38 @@
 //! ```
 //!
 //! - Calls: [`push`](TaskQueue::push), [`pop`](TaskQueue::pop), [`peek`](TaskQueue::peek), and [`pop_due`](TaskQueue::pop_due), up to a key.
+//!   [`drain`](TaskQueue::drain) and [`clear`](TaskQueue::clear) take all.
 //! - [`take`](TaskQueue::take) waits for a payload; [`try_take`](TaskQueue::try_take) never waits. If keys are times,
 //!   [`take_due`](TaskQueue::take_due) and [`try_take_due`](TaskQueue::try_take_due) do the same for what is due.
 //! - Batches, up to 64 requests under one lock: [`push_many`](TaskQueue::push_many) and [`pop_due_many`](TaskQueue::pop_due_many).
 //! - Tickets, by which a payload is removed or moved wherever it waits: [`remove`](TaskQueue::remove), [`reschedule`](TaskQueue::reschedule).
 //! - [`len`](TaskQueue::len) is exact, and so is [`peak_len`](TaskQueue::peak_len), the most that it has been. A queue may have a bound, at
 //!   which pushes wait for room ([`Options::most_items`]).
-//! - All these calls but the two `try_` wait for other threads as long as it takes. [`until`](TaskQueue::until) limits that:
-//!   `queue.until(deadline).take()`.
-//! - A [`TaskMember`] moves between threads; a thread that calls the queue itself has one of its own.
-//! - A task of an executor awaits [`take_async`](TaskQueue::take_async), and an event loop has a [`Listener`], or a [`DueListener`] for what is
-//!   due.
-//! - Each request that takes effect has an entry in the queue's [`Journal`]. Memory keeps the last ones, which
-//!   [`archive`](TaskQueue::archive) copies, and [`close`](TaskQueue::close).
-//! - After [`shut`](TaskQueue::shut) pushes are refused; takes return what is left, and then [`Error::Shut`].
-//! - A program that writes archives to a file survives a crash: [`wait_archived`](TaskQueue::wait_archived) waits until it has stored a push,
-//!   and [`read_from`](TaskJournal::read_from) reads the file back. A journal has payloads as numbers, so that is for numbers alone.
+//! - The two `try_` calls never wait. All others above wait for other threads as long as it takes. [`until`](TaskQueue::until) limits that of
+//!   each except `drain` and `clear`: `queue.until(deadline).take()`.
+//! - A [`TaskMember`] moves between threads. A thread that calls the queue itself has a member of its own, which [`leave`](TaskQueue::leave) gives
+//!   back early.
+//! - A task of an executor awaits [`take_async`](TaskQueue::take_async), [`take_due_async`](TaskQueue::take_due_async) or
+//!   [`push_async`](TaskQueue::push_async). An event loop has a [`Listener`], or a [`DueListener`] for what is due.
+//! - Each request that takes effect has an entry in the queue's [`Journal`], and so has a pop, a removal or a move that found nothing. Memory
+//!   keeps the last ones, which [`archive`](TaskQueue::archive) copies, and [`close`](TaskQueue::close).
+//! - After [`shut`](TaskQueue::shut) pushes are refused; takes return what is left, and then [`Error::Shut`]. [`is_shut`](TaskQueue::is_shut) asks
+//!   whether that was done.
+//! - A program that writes archives to a file survives a crash: [`wait_archived`](TaskQueue::wait_archived) waits until it has stored a push's
+//!   entry, and [`read_from`](TaskJournal::read_from) reads the file back, of a [`Queue`] alone. So push ids, and store payloads yourself.
 //! - A [`Queue`] is one of integers.
+//!
+//! The queue is linearizable and lock-based. While other threads call without pause, each call but a `push` or `pop` without a deadline may starve.
+//! Of n payloads a push, a pop or a take costs O(log n).
 //!
 //! All that a thread does before it pushes or moves a payload happens before whatever a thread does after a call that returned this payload.
 //!
-//! In a forked child of a process that has opened a queue calls, but of journals, are refused ([`Error::Forked`]) or do nothing, and payloads
-//! are not dropped.
+//! In a forked child of a process that has opened a queue, calls except those of journals are refused ([`Error::Forked`]) or do nothing, and
+//! payloads are not dropped.
 //!
-//! The crate links the static library in the folder `FLATPQ_LIB_DIR`. Without that it takes the first that is there: of the package that holds
-//! the crate, of `out/` in its clone, of `pkg-config`. If `FLATPQ_DYNAMIC` is 1, it links the shared library of `pkg-config`. It compares
-//! versions only where it asks `pkg-config`; else compare [`library_version`].
+//! The crate needs Rust 1.63, and has no dependencies and no features. It links the static library in the folder `FLATPQ_LIB_DIR`. Without that
+//! it looks in this order: in the package that holds the crate; in `out/` of its clone; by `pkg-config`. If `FLATPQ_DYNAMIC` is 1, it links the
+//! shared library of `pkg-config`. It compares versions only where it asks `pkg-config`; else compare [`library_version`].
 #![deny(missing_docs)]
 #![deny(missing_debug_implementations)]
 #![deny(unsafe_op_in_unsafe_fn)]

@@ -94,7 +94,8 @@ impl<K: Key, T: Send> Listener<K, T> {
     }
 
     /// The same, of a payload whose key is at most this one. After [`Due::Later`] the event loop calls it again once that key is within its
-    /// bound: the descriptor doesn't say that.
+    /// bound: the descriptor doesn't say that. At one queue pass fixed bounds in all such calls, or the current time in all
+    /// ([`TaskMember::take_or_listen`]).
     ///
     /// # Errors
     ///

@@ -69,9 +69,9 @@ impl<T> Drop for Shared<T> {
 /// A priority queue of payloads of any type, each by a [`Key`], which threads share. The smallest key comes out first, and payloads of
 /// equal keys in the order in which they were pushed or moved there.
 ///
-/// Any number of threads may call the queue itself. Each gets a member of its own at its first call. It has that until it ends, or until a call
-/// of another thread takes the idle member over. If all members are in calls, a call waits for one. A thread that waits for a payload or for
-/// room holds none meanwhile. A program that wants to move a member between threads joins one ([`TaskQueue::join`]).
+/// Any number of threads may call the queue itself. Each gets a member of its own at its first call. A thread keeps its member until the thread
+/// ends, or until another thread's call takes it over while it is idle. If all members are in calls, a call waits for one. A thread that waits
+/// for a payload or for room holds none meanwhile. A program that wants to move a member between threads joins one ([`TaskQueue::join`]).
 ///
 /// A payload of at most eight bytes, as a number or a `Box<u32>`, lies in its item. Any other, as a `Box<dyn FnOnce()>`, has memory of its own.
 /// Those that are left are dropped with the last of the queue and its members, or with the journal if the queue was closed. Box a payload
@@ -93,7 +93,7 @@ impl<T> Drop for Shared<T> {
 /// # Ok::<(), flatpq::Error>(())
 /// ```
 ///
-/// Payloads may borrow from what outlives the queue and its members:
+/// What a payload borrows has to outlive the queue and its members. So this doesn't compile:
 ///
 /// ```compile_fail,E0505
 /// let text = String::from("one two");
@@ -167,7 +167,8 @@ impl<K: Key, T: Send> TaskQueue<K, T> {
         })
     }
 
-    /// Joins the queue by a free member, or by an idle one that it takes over. Leave one unjoined: else calls by the queue itself wait.
+    /// Joins the queue by a free member, or by an idle one that it takes over. Don't join all: calls by the queue itself need one, and wait until
+    /// it is given back.
     ///
     /// # Errors
     ///
@@ -192,7 +193,8 @@ impl<K: Key, T: Send> TaskQueue<K, T> {
         })
     }
 
-    /// Takes all payloads out, in order, until there is none or a call is refused.
+    /// Takes all payloads out, in order, until there is none or a call is refused. Each is a call of its own, so this may not end while others
+    /// push.
     ///
     /// ```
     /// let queue = flatpq::TaskQueue::new()?;
@@ -208,8 +210,8 @@ impl<K: Key, T: Send> TaskQueue<K, T> {
         Drain(Some(self))
     }
 
-    /// Takes all payloads out, drops them, and returns how many there were. A payload that holds a [`TaskMember`] of this queue keeps it alive:
-    /// shut the queue and clear it to free both.
+    /// Takes all payloads out as a drain does, drops them, and returns how many there were. A payload that holds a [`TaskMember`] of this queue
+    /// keeps it alive: shut the queue and clear it to free both.
     ///
     /// # Errors
     ///
@@ -236,6 +238,9 @@ impl<K: Key, T: Send> TaskQueue<K, T> {
 impl<K, T> TaskQueue<K, T> {
     /// Shuts the queue down for good: each push that begins from now on is refused. Threads that wait for a payload take what is left, and then
     /// return [`Error::Shut`]. The call waits for nothing, and the queue stays, until [`TaskQueue::close`] ends it.
+    ///
+    /// With [`Keeping::Refuses`](crate::Keeping::Refuses) the journal may lack room for the shut. The call returns `Ok` all the same. Until more is
+    /// archived, each push, take, pop, removal or move returns [`Error::Unarchived`]; then the shut takes effect.
     ///
     /// # Errors
     ///
@@ -410,8 +415,8 @@ impl<K, T> TaskMember<K, T> {
         }
     }
 
-    /// Ends the listening, and drops the waker. Returns whether the member listened, and no call had begun to wake its task since it listened
-    /// last. A wake that had begun may still come.
+    /// Ends the listening, and drops the waker. Returns `true` if the member was listening and nothing had begun to wake its task. A wake that had
+    /// begun may still come.
     pub fn unlisten(&mut self) -> bool {
         // SAFETY: the member is there, and in this call alone.
         let listened = after::calling(|| unsafe { raw::pq_unlisten(self.raw.inside()) } == 1);

@@ -4,7 +4,7 @@ use Rattle.readme_examples.proofs.Numbered.{numbered_more}
 use Rattle.readme_examples.proofs.lockers.lockers.Goals as goal
 
 pub loop-number-preserved : goal.loop-number-preserved
-loop-number-preserved g c = record {
+loop-number-preserved c = record {
   count = search rules fits 300;
   numbered = λ place locker is.
       numbered_more c.loop-number.lockers.items (record { number = c.loop-number.number }) c.loop-number.invariant.numbered (sym c.loop-number.invariant.count) place locker

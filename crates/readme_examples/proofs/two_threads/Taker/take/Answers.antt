@@ -13,6 +13,6 @@ invariant_of-self-in-Some g c =
 
 pub invariant_of-self-in_default : goal.invariant_of-self-in_default
 invariant_of-self-in_default g c =
-    let before : (same) = search rules fits 300 in
+    let before : c.reserve.new.self.items ≡ taken_out c.self.inside.handle.pen.mine = search rules fits 300 in
     let called : IsCalled c.self.inside.handle Pop c.in_ok-number.number (popped None) c.pop.new.self = search rules fits 300 in
     before ∙ sym (after_empty_pop called)

@@ -81,13 +81,18 @@ private:
         }
     }
 
-    // Where the item was taken, or the other thread moves it at this moment, the node is pushed once more.
-    bool decreases(node &it, std::uint64_t far) {
-        const auto moved = open_.reschedule(it.ticket, far);
-        if (moved) {
+    // Where the item was taken, or the other thread moves it at this moment, the node is pushed once more. Where that one has reached the node for
+    // less, and has moved the item already, this has moved it back: then it is moved there again.
+    bool decreases(node &it, std::uint64_t &far) {
+        while (const auto moved = open_.reschedule(it.ticket, far)) {
             it.ticket = *moved;
+            const auto now = it.far.load();
+            if (now == far) {
+                return true;
+            }
+            far = now;
         }
-        return moved.has_value();
+        return false;
     }
 
     const graph &graph_;

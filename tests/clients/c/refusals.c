@@ -1,4 +1,4 @@
-/* Each refusal comes where the header says, and changes nothing. Others are in fills.c, archived.c, deadlines.c, journal.c,
+/* Each refusal comes where the header says, and changes nothing. Others are in fills.c, archived.c, clock.c, journal.c,
    no_memory.c, forked.c and old_processor.c. */
 #include "refused.h"
 

@@ -4,6 +4,7 @@ mod executor;
 
 use executor::run;
 use flatpq::{Error, Options, Queue, TaskQueue, Until};
+use std::sync::atomic::{AtomicBool, Ordering};
 use std::thread;
 use std::time::{Duration, Instant};
 
@@ -102,6 +103,27 @@ fn a_push_waits_for_room() {
         );
     });
     assert_eq!(queue.len(), Ok(1));
+}
+
+/// A push that may wait for room is tried at once at first. Where another thread has the lock then, it waits for it.
+#[test]
+fn a_push_waits_for_the_lock() {
+    const BATCH: u64 = 1000;
+    let queue: Queue = bounded(100 * BATCH);
+    let is_over = AtomicBool::new(false);
+    thread::scope(|scope| {
+        scope.spawn(|| {
+            while !is_over.load(Ordering::Relaxed) {
+                queue.push_many((0..BATCH).map(|it| (it, it))).unwrap();
+                queue.clear().unwrap();
+            }
+        });
+        let end = Instant::now() + Duration::from_millis(200);
+        let pushed = (0..).take_while(|_| Instant::now() < end);
+        let refused = pushed.map(|it| queue.push(it, it)).find(Result::is_err);
+        is_over.store(true, Ordering::Relaxed);
+        assert_eq!(refused, None);
+    });
 }
 
 /// A producer that waits for room may be the one that has a future woken.

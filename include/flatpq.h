@@ -122,9 +122,9 @@ PQ_CHECKED pq_code pq_open(const pq_options *options, pq_queue **queue);
 /* Shuts the queue down for good: each push that begins from now on is refused (PQ_SHUT), and so are those that wait for room. Threads that wait
    for an item take what is left, and return PQ_SHUT once nothing is left; no item comes after that. The shut has an entry (PQ_SHUTS). A full
    journal gets none, and refuses pushes as before. The call waits for nothing. If it finds all members in use, or the lock held, the next call by
-   a member makes the shut first, with that call's deadline. If the shut's entry could make memory forget an unarchived one, it is added as
-   soon as more has been archived. Until then each request, also a push, is refused (PQ_UNARCHIVED). It may be called again.
-   PQ_OK; PQ_CLOSED, PQ_FORKED. */
+   a member makes the shut first, with that call's deadline; all threads that wait are woken to call so. If the shut's entry could make memory
+   forget an unarchived one, it is added as soon as more has been archived. Until then each request, also a push, is refused (PQ_UNARCHIVED). It
+   may be called again. PQ_OK; PQ_CLOSED, PQ_FORKED. */
 pq_code pq_shut(pq_queue *queue);
 
 /* 1: the queue is shut, so each push that begins from now on is refused. 0: it was not shut when the call began; or in a forked child. */
@@ -224,7 +224,7 @@ PQ_CHECKED pq_code pq_take_due_or_listen(pq_member *member, int timer, pq_item *
 
 /* Takes the first item out if its priority is at most this one; else the member listens. It tries the lock some times, and does not sleep for it.
    PQ_OK; PQ_EMPTY: it listens; PQ_NOT_DUE: it listens, and *item is the first item, and stays; PQ_SHUT; or a refusal. After PQ_NOT_DUE call
-   again once *item is within the bound: nothing notifies of that. While the member listens, notify(context) is called at most once, after a
+   again yourself once *item is within the bound: nothing notifies of that. While the member listens, notify(context) is called at most once, after a
    push, move or shut, or for nothing. Any thread that calls the queue may call it. If others still have the lock, or all members, this call itself
    calls notify, and returns PQ_EMPTY although items may be there. After notify call again. notify must not wait or call this library. If a new
    first item precedes the one that listeners saw, one is notified, even if the item is above each bound. So all pass the current time, or none. */
@@ -236,7 +236,8 @@ PQ_CHECKED pq_code pq_take_or_listen(pq_member *member, uint64_t priority, pq_it
    may be room. PQ_OK; PQ_FULL: it listens; PQ_SHUT, PQ_NO_MEMORY; or a refusal. */
 PQ_CHECKED pq_code pq_push_or_listen(pq_member *member, pq_item item, uint64_t *number, void (*notify)(void *context), void *context);
 
-/* Ends the listening, as a take or a refused call does: notify neither runs nor is called again. 1: the member listened, and was not notified. */
+/* Ends the listening: notify neither runs nor is called again. A take ends it too, and so does a call to listen that is refused.
+   1: the member listened, and was not notified. */
 int pq_unlisten(pq_member *member);
 
 /* A notify that writes to an eventfd. context is its number: pq_notify_fd, (void *)(intptr_t)fd. Before the event loop first waits, and
@@ -286,8 +287,8 @@ size_t pq_text(const pq_entry *entry, char text[PQ_TEXT_ROOM]);
 PQ_CHECKED pq_code pq_write(const pq_journal *journal, int file);
 
 /* Reads a journal back from a file descriptor, to the end of the file. The text is what pq_write writes, of a journal from entry 1 on. Each line
-   is checked: its checksum, that its number is the next one, and that its reply follows from the entries before. A text of an earlier version
-   has no checksums. The journal is as that of a closed queue, and keeps the last 65536 entries. line and bytes may be NULL. Else *line is how many
+   is checked: its checksum, that its number is the next one, and that its reply follows from the entries before. A text of version 0.7 has no
+   checksums. The journal is as that of a closed queue, and keeps the last 65536 entries. line and bytes may be NULL. Else *line is how many
    lines are read, and *bytes the length of those before a torn or refused one. PQ_OK; PQ_TORN: the last line has no line feed, and is left out.
    *journal is NULL after PQ_NOT_LAWFUL (line *line is refused), PQ_NOT_READ, PQ_NO_MEMORY and PQ_PROCESSOR. */
 PQ_CHECKED pq_code pq_journal_read(int file, pq_journal **journal, uint64_t *line, uint64_t *bytes);

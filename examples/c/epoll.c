@@ -32,7 +32,7 @@ static pq_code run_due(int timer) {
     pq_item item;
     pq_code code;
     while ((code = pq_take_due_or_listen(pq_own(queue), timer, &item, NULL)) == PQ_OK) {
-        printf("%d ms are over%s\n", (int)item.value, pq_now() < item.priority ? ", too early" : "");
+        printf("%d ms are over\n", (int)item.value);
     }
     return code;
 }

@@ -18,8 +18,8 @@ services    a pipeline whose number of items is bounded, beside condition variab
         (librust-crossbeam-channel-dev); sizes, a journal that is read back, and pushes that are on disk when they end
 cancels     a million timers, nine of ten of which are cancelled: removed by their tickets, marked in the queue, or erased from a std::set
         under a std::mutex: time of processors, memory, and how late the others run
-programs    a simulation in time steps, a scheduler most of whose timers are cancelled, and Dijkstra's and A*'s searches of a grid, over
-        the queue and over a std::mutex around std::priority_queue: how long each takes
+programs    workers that share tasks, a simulation in time steps, a scheduler most of whose timers are cancelled, and Dijkstra's and A*'s
+        searches of a grid, over the queue and over a std::mutex around std::priority_queue: how long each takes
 
 Kinds of means: of queue_bench, which are the proved calls for Rattle, array, a queue whose journal is all in memory; array-lasting, one
 that forgets; array-posts, where each call posts; mutex-book, a lock round a Book. Of the archive: c-queue, by members that have joined;

@@ -55,6 +55,7 @@ PROGRAMS = {
     "pipeline_channel": Program((*RUST, "-o"), ("pipeline.rs",), registered="crossbeam-channel"),
     "services": Program(CPP, ("services.cpp", ARCHIVE)),
     "cancels": Program(CPP, ("cancels.cpp", ARCHIVE)),
+    "workers": Program(CPP, ("workers.cpp", ARCHIVE)),
     "simulation": Program(CPP, ("simulation.cpp", ARCHIVE)),
     "timers": Program(CPP, ("timers.cpp", ARCHIVE)),
     "dijkstra": Program(CPP, ("dijkstra.cpp", ARCHIVE)),

@@ -3,9 +3,9 @@ from bench_runs import Trial, median, table
 
 TABLES = ("programs",)
 # The programs are the kinds, each with its name and how much it has to do.
-COUNTS = {"simulation": 10000, "timers": 200000, "dijkstra": 700, "astar": 700}
+COUNTS = {"workers": 100000, "simulation": 10000, "timers": 200000, "dijkstra": 700, "astar": 700}
 KINDS = {it: it for it in COUNTS}
-WORKERS = [1, 4]
+WORKERS = [1, 2, 4]
 OVER = ("queue", "mutex")
 # Where the nanoseconds of a run stand in its line.
 TOOK = 2

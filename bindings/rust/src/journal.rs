@@ -19,8 +19,8 @@ use std::{fmt, io};
 pub struct Item {
     /// The number of the key. If [`Options::times`](crate::Options::times) counts from a moment it may be by some number greater.
     pub priority: u64,
-    /// The payload if it is an unsigned integer. Of other payloads a token: an address, which is used again, or the payload's own bytes. Bytes
-    /// that it doesn't have are what memory had there.
+    /// The payload if it is an unsigned integer, and of a signed one its bits. Of other payloads a token: an address, which is used again, or
+    /// the payload's own bytes. Bytes that it doesn't have are what memory had there.
     pub value: u64,
 }
 

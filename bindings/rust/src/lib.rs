@@ -28,8 +28,8 @@
 //! - Tickets, by which a payload is removed or moved wherever it waits: [`remove`](TaskQueue::remove), [`reschedule`](TaskQueue::reschedule).
 //! - [`len`](TaskQueue::len) is exact, and so is [`peak_len`](TaskQueue::peak_len), the most that it has been. A queue may have a bound, at
 //!   which pushes wait for room ([`Options::most_items`]).
-//! - The two `try_` calls never wait. All others above wait for other threads as long as it takes. [`until`](TaskQueue::until) limits that of
-//!   each except `drain` and `clear`: `queue.until(deadline).take()`.
+//! - The two `try_` calls never wait. Every other call above may wait without limit; [`until`](TaskQueue::until) sets one, except for `drain`
+//!   and `clear`: `queue.until(deadline).take()`.
 //! - A [`TaskMember`] moves between threads. A thread that calls the queue itself has a member of its own, which [`leave`](TaskQueue::leave) gives
 //!   back early.
 //! - A task of an executor awaits [`take_async`](TaskQueue::take_async), [`take_due_async`](TaskQueue::take_due_async) or

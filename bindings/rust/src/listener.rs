@@ -87,7 +87,7 @@ impl<K: Key, T: Send> Listener<K, T> {
     /// # Errors
     ///
     /// [`Error::Shut`] if the queue is shut and empty. [`Error::AllJoined`] as of [`TaskMember::take_async`]. Those of [each
-    /// call](TaskQueue#errors).
+    /// call](TaskQueue#errors), but for [`Error::TimedOut`]: then it returns `None`, and the descriptor is readable.
     pub fn try_take(&mut self) -> Result<Option<(K, T)>, Error> {
         let found = self.found(u64::MAX)?;
         Ok(self.member.shared.keyed(found).got())

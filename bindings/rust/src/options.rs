@@ -43,8 +43,8 @@ impl Options {
     }
 
     /// Keys are times: the key 0 is due at `start`, and each next key one unit later. A unit has 1 to 2^64 - 1 nanoseconds. The clock counts whole
-    /// units, so items are due less than a unit later than that. Only a [`TickKey`] counts so: an [`Instant`] is a moment by itself. The greatest
-    /// unsigned keys count as one: if the machine had run for `uptime` at `start`, all above `u64::MAX - uptime / unit` count as `u64::MAX`.
+    /// units, so items are due less than a unit later than that. Only a [`TickKey`] counts so: an [`Instant`] is a moment by itself. Keys above
+    /// `u64::MAX - uptime / unit` count as `u64::MAX`, where the machine had run for `uptime` at `start`.
     ///
     /// ```
     /// use flatpq::Options;

@@ -117,7 +117,7 @@ pub struct TaskQueue<K, T> {
 }
 
 /// A queue of integers by keys: as any [`TaskQueue`], and with calls that return numbers. Its journal has the values as they were
-/// pushed, if they are unsigned.
+/// pushed, of signed ones their bits; what it leaves has both as they were.
 pub type Queue<K = u64, V = u64> = TaskQueue<K, V>;
 
 /// A member of a [`Queue`].

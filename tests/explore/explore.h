@@ -147,6 +147,7 @@ int is_journal_full(void);
 void end_observing(void);
 void journal_begin(void);
 uint64_t journal_kept(void); /* how many entries archives had */
+int journal_has_shut(void); /* whether one of these is that of the shut */
 void check_archive(const pq_journal *journal);
 void check_journal(const pq_journal *journal, const done *all, int count, int heard_end);
 uint64_t journal_shut(void); /* the entry that shut the queue; 0: none did */

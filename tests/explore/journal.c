@@ -43,6 +43,16 @@ void check_archive(const pq_journal *journal) {
     }
 }
 
+/* Whether the shut's entry is one that an archive had. */
+int journal_has_shut(void) {
+    for (size_t i = 0; i < entry_count; i++) {
+        if (entries[i].request == PQ_SHUTS) {
+            return 1;
+        }
+    }
+    return 0;
+}
+
 static int comes_before(size_t one, size_t other) {
     const uint64_t key = model[one].item.priority, than = model[other].item.priority;
     return key < than || (key == than && model[one].ticket < model[other].ticket);

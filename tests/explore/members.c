@@ -45,11 +45,15 @@ static void leave(int which, const uint64_t *numbers) {
 }
 
 static void archive(int which, const uint64_t *numbers) {
+    const int is_shut = queue->is_shut != 0 && !waits_for_archive;
     pq_journal *journal;
     pq_code code = pq_archive(used[which], numbers[0], PQ_FOREVER, &journal);
     if (code == PQ_OK) {
         check_archive(journal);
         pq_journal_free(journal);
+        if (is_shut && !journal_has_shut()) {
+            fail("an archive of a shut queue has no entry of the shut");
+        }
     } else if (code != PQ_CLOSED && (code != PQ_BAD_OPTION || numbers[0] <= journal_kept())) {
         fail("an archive returns %s", pq_code_text(code));
     }

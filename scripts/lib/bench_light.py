@@ -7,6 +7,7 @@ KINDS = {
     "c-queue": "light",
     "c-own": "light",
     "rust-crate": "light_rust",
+    "rust-own": "light_rust",
     "std-mutex": "light",
     "adaptive-mutex": "light",
     "rust-mutex": "light_rust",

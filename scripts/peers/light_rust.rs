@@ -36,6 +36,7 @@ pub struct Worker {
 
 enum By {
     Member(Member),
+    Queue(*const Queue),
     Lock(&'static Mutex<Heap>),
 }
 
@@ -52,8 +53,13 @@ pub extern "C" fn shared_open(is_crate: bool) -> *mut Shared {
 ///
 /// Opened, and not closed yet.
 #[no_mangle]
-pub unsafe extern "C" fn shared_join(shared: *const Shared, place: u32) -> *mut Worker {
+pub unsafe extern "C" fn shared_join(
+    shared: *const Shared,
+    place: u32,
+    is_own: bool,
+) -> *mut Worker {
     let by = match unsafe { &*shared } {
+        Shared::Crate(queue) if is_own => By::Queue(queue),
         Shared::Crate(queue) => By::Member(queue.join().expect("each worker has a place")),
         Shared::Locked(heap) => By::Lock(heap),
     };
@@ -72,6 +78,11 @@ pub unsafe extern "C" fn worker_push(worker: *mut Worker, item: Item) {
                 .push(item.priority, item.value)
                 .expect("the queue takes all"),
         ),
+        By::Queue(queue) => drop(
+            unsafe { &**queue }
+                .push(item.priority, item.value)
+                .expect("the queue takes all"),
+        ),
         By::Lock(heap) => locked(heap).push(*place, item),
     }
 }
@@ -87,6 +98,10 @@ pub unsafe extern "C" fn worker_pop(worker: *mut Worker, first: &mut Item) -> bo
     let found = match by {
         By::Member(member) => {
             let first = member.pop().expect("the queue refuses no pop");
+            first.map(|(priority, value)| Item { priority, value })
+        }
+        By::Queue(queue) => {
+            let first = unsafe { &**queue }.pop().expect("the queue refuses no pop");
             first.map(|(priority, value)| Item { priority, value })
         }
         By::Lock(heap) => locked(heap).pop(*place),

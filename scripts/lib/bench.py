@@ -24,13 +24,12 @@ programs    workers that share tasks, a simulation in time steps, a scheduler mo
 Kinds of means: of queue_bench, which are the proved calls for Rattle, array, a queue whose journal is all in memory; array-lasting, one
 that forgets; array-posts, where each call posts; mutex-book, a lock round a Book. Of the archive: c-queue, by members that have joined;
 c-own, by pq_own. Peers: cpp-book and cpp-heap, a std::mutex round std::priority_queue with a journal and without; rust-book and rust-heap,
-a Mutex round BinaryHeap likewise; tbb, oneTBB's concurrent_priority_queue (libtbb-dev); java, PriorityBlockingQueue. Of queues of
-functions, each of which is called once it is popped: cpp-tasks and rust-tasks, those of the library; cpp-functions, a std::mutex round
-std::priority_queue, and rust-closures, a Mutex round BinaryHeap. Of light: c-queue and c-own; rust-crate and rust-own, the same queue by
-the crate for Rust; std-mutex and adaptive-mutex, such mutexes around std::priority_queue and the last 1,024 lines; rust-mutex, the same in
-Rust, and rust-parking-lot, that by a mutex of parking_lot (librust-parking-lot-dev); tbb. Of hold: c-queue, and a std::mutex and such
-lines around std-heap, std::priority_queue, four-heap, a 4-ary heap, and hole-heap, a binary one with holes. What isn't there is told, and
-has no rows.
+a Mutex round BinaryHeap likewise; tbb, oneTBB's concurrent_priority_queue (libtbb-dev). Of queues of functions, each of which is called
+once it is popped: cpp-tasks and rust-tasks, those of the library; cpp-functions, a std::mutex round std::priority_queue, and
+rust-closures, a Mutex round BinaryHeap. Of light: c-queue and c-own; rust-crate and rust-own, the same queue by the crate for Rust;
+std-mutex and adaptive-mutex, such mutexes around std::priority_queue and the last 1,024 lines; rust-mutex, the same in Rust, and
+rust-parking-lot, that by a mutex of parking_lot (librust-parking-lot-dev); tbb. Of hold: c-queue, and a std::mutex and such lines around
+std-heap, std::priority_queue, four-heap, a 4-ary heap, and hole-heap, a binary one with holes. What isn't there is told, and has no rows.
 
 Above each table stands how many processors other processes took while it was measured: where that is more than one, the figures are
 not called quiet. The programs are built over the archive FILE, or out/libflatpq.a, which is built first where it has to be.
@@ -63,7 +62,6 @@ PROGRAM_OF = {
     "rust-book": ("rust_mutex", ["book"]),
     "rust-heap": ("rust_mutex", ["heap"]),
     "tbb": ("tbb_queue", []),
-    "java": ("JavaQueue", []),
     "cpp-tasks": ("cpp_tasks", ["queue"]),
     "cpp-functions": ("cpp_tasks", ["mutex"]),
     "rust-tasks": ("rust_tasks", ["queue"]),
@@ -80,7 +78,7 @@ AUDITED = re.compile(r"([\w-]+),(\d+),(\d+),(\d+),audit ok\n")
 # What stands behind the means: calls for Rattle beside a lock round a heap and a journal, a lasting queue beside one whose journal is kept
 # whole (the two differ where there are more calls than the 65,536 lines to which it writes over and over), and calls for C beside peers.
 COMPARED = [("array", "mutex-book"), ("array-posts", "mutex-book"), ("array-lasting", "array"), ("c-queue", "array-lasting")]
-COMPARED += [("c-own", "c-queue"), *(("c-queue", it) for it in ("cpp-book", "cpp-heap", "rust-book", "rust-heap", "tbb", "java"))]
+COMPARED += [("c-own", "c-queue"), *(("c-queue", it) for it in ("cpp-book", "cpp-heap", "rust-book", "rust-heap", "tbb"))]
 COMPARED += [("cpp-tasks", "cpp-functions"), ("rust-tasks", "rust-closures")]
 
 

@@ -44,7 +44,6 @@ PROGRAMS = {
     "rust_mutex": Program((*RUST, "-o"), ("rust_mutex.rs",)),
     "rust_tasks": Program((*RUST, "-o"), ("rust_tasks.rs",), has_crate=True),
     "tbb_queue": Program(CPP, ("tbb_queue.cpp",), *TBB),
-    "JavaQueue": Program(("javac", "-d"), ("JavaQueue.java",)),
     "light": Program(CPP, ("light.cpp", ARCHIVE)),
     "light_rust": Program(CPP, ("light_rust.cpp",), rust_part="light_rust.rs"),
     "light_parked": Program(CPP, ("light_rust.cpp",), rust_part="light_rust.rs", registered="parking_lot"),
@@ -142,15 +141,14 @@ def built_other(folder, name, asked):
         print(f"bench: no {lacks}, so no rows of {name}", file=sys.stderr)
         return None
     files = [asked.library or archive() if it == ARCHIVE else f"{PEERS}/{it}" for it in program.sources]
-    is_java = program.builds[0] == "javac"
-    to = folder if is_java else f"{folder}/{name}"
+    to = f"{folder}/{name}"
     links = [*program.links, *(built_crate(folder, asked.library or archive()) if program.has_crate else [])]
     if program.rust_part:
         links.append(built_part(folder, program, asked.library or archive()))
     elif program.registered:
         links += built_registered(folder, program.registered)
     built(files[0], [*program.builds, to, *files, *links])
-    return ["java", "-cp", folder, name] if is_java else [to]
+    return [to]
 
 
 def build(folder, names, asked):

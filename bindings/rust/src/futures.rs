@@ -263,8 +263,8 @@ impl<K: Key, T: Send> TaskQueue<K, T> {
         Take(Taker::by_queue(self, &self.shared.lines.any))
     }
 
-    /// Puts a payload in, and waits by a future while the queue has no room, as [`TaskMember::push_async`] does. It joins only if there
-    /// is none, and then waits for its turn as [`TaskQueue::take_async`] does. Unlike `push` it never blocks the thread, also without a bound.
+    /// Puts a payload in, and waits by a future while the queue has no room, as [`TaskMember::push_async`] does. It joins only if the
+    /// queue has no room, and then waits for its turn as [`TaskQueue::take_async`] does. Unlike `push` it never blocks the thread, also without a bound.
     ///
     /// # Errors
     ///

@@ -38,8 +38,8 @@
 //!   keeps the last ones, which [`archive`](TaskQueue::archive) copies, and [`close`](TaskQueue::close).
 //! - After [`shut`](TaskQueue::shut) pushes are refused; takes return what is left, and then [`Error::Shut`]. [`is_shut`](TaskQueue::is_shut) asks
 //!   whether that was done.
-//! - A program that writes archives to a file survives a crash: [`wait_archived`](TaskQueue::wait_archived) waits until it has stored a push's
-//!   entry, and [`read_from`](TaskJournal::read_from) reads the file back, of a [`Queue`] alone. So push ids, and store payloads yourself.
+//! - A program that writes archives to a file survives a crash: [`wait_archived`](TaskQueue::wait_archived) waits until the program has stored a
+//!   push's entry, and [`read_from`](TaskJournal::read_from) reads the file back, of a [`Queue`] alone. So push ids, and store payloads yourself.
 //! - A [`Queue`] is one of integers.
 //!
 //! The queue is linearizable and lock-based. While other threads call without pause, each call but a `push` or `pop` without a deadline may starve.

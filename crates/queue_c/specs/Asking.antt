@@ -8,7 +8,7 @@ use Rattle.flat_queue.specs.Members.{Joined}
 use Rattle.flat_queue.specs.declared.counting.Counts.{Counts}
 use Rattle.flat_queue.specs.declared.looking.Wanted.{Wanted}
 use Rattle.queue_c.specs.Handles.{member_in, owner_in}
-use Rattle.queue_c.specs.Calls.{IsOneOf, Posting, Missing}
+use Rattle.queue_c.specs.Calls.{IsOneOf, Posting, Missing, SaysOwed}
 use Rattle.queue_c.specs.Looking.{PoppingOrLooking}
 use Rattle.queue_c.specs.Counting.{Counting}
 use Rattle.queue_c.specs.declared.codes.TheConstants.{LOCK_HELD, NO_HANDLE, OK, POSTS_SPENT}
@@ -28,10 +28,12 @@ pub record PostAnswers (before : Option Contents) (request : Option Request) (co
   pub spent : code ≡ POSTS_SPENT → IfSome (member_in before) (λ m. most_posts m.queue.room ≤ m.pen.posts)
   pub owner : owner_in after ≡ owner_in before
 
--- a call that the member carries out itself: what it has done where it found the lock free, with the answer that is told
+-- a call that the member carries out itself: what it has done where it found the lock free, with the answer that is told, and
+-- whether a wake is owed
 pub record OwnAnswers (Done : Option Joined → PlainAnswer → Option Joined → Type 0) (before : Option Contents) (code : ℕ)
     (told : PlainAnswer) (after : Option Contents) : Type 0 where
   pub carried_out : code ≡ OK → Done (member_in before) told (member_in after)
+  pub owes : code ≡ OK → SaysOwed told.owes_wake (member_in after)
   pub misses : code ≡ LOCK_HELD → Missing (member_in before) (member_in after)
   pub refused : code ≢ OK → code ≢ LOCK_HELD → after ≡ before
   pub codes : IsOneOf code (OK ∷ LOCK_HELD ∷ POSTS_SPENT ∷ NO_HANDLE ∷ WAITS ∷ [])
@@ -46,7 +48,8 @@ LooksAnswers before wants = OwnAnswers (λ was told is. PoppingOrLooking was wan
 
 -- a count of the items, with the numbers that are told, and whether a wake is owed
 pub record CountAnswers (before : Option Contents) (code : ℕ) (counts : Counts) (owes : ℕ) (after : Option Contents) : Type 0 where
-  pub counted : code ≡ OK → Counting (member_in before) counts (member_in after) × (owes ≤ 1)
+  pub counted : code ≡ OK → Counting (member_in before) counts (member_in after)
+  pub owed : code ≡ OK → SaysOwed owes (member_in after)
   pub misses : code ≡ LOCK_HELD → Missing (member_in before) (member_in after)
   pub refused : code ≢ OK → code ≢ LOCK_HELD → after ≡ before
   pub codes : IsOneOf code (OK ∷ LOCK_HELD ∷ NO_HANDLE ∷ WAITS ∷ [])

@@ -12,7 +12,7 @@ use Rattle.flat_queue.specs.declared.error.CallError.{CallError}
 use Rattle.queue_pool.specs.Shared.{TriesPushesBy, TriesPopsBy}
 use Rattle.queue_pool.specs.declared.shared.Undone.{Undone}
 use Rattle.queue_c.specs.Handles.{member_in, owner_in}
-use Rattle.queue_c.specs.Calls.{IsOneOf, Missing, words_of_item}
+use Rattle.queue_c.specs.Calls.{IsOneOf, Missing, SaysOwed, words_of_item}
 use Rattle.queue_c.specs.Looking.{told_as}
 use Rattle.queue_c.specs.Plain.{plain_item, told_item, told_answer}
 use Rattle.queue_c.specs.declared.buffers.TheConstants.{MOST_MANY}
@@ -75,10 +75,12 @@ abbrev pub GivesOutTried : List Item → Result (Popped Item) Undone → List Pl
 GivesOutTried slots (Err why) was items = items ≡ was
 GivesOutTried slots (Ok popped) was items = GivesOut slots popped.batch.done was items
 
--- a batch that the member carries out itself: what it has done where it found the lock free, with what is told of it
-pub record BatchAnswers {Told : Type 0} (Done : Option Joined → Told → Option Joined → Type 0) (before : Option Contents)
-    (code : ℕ) (told : Told) (after : Option Contents) : Type 0 where
+-- a batch that the member carries out itself: what it has done where it found the lock free, with what is told of it, and whether
+-- a wake is owed
+pub record BatchAnswers {Told : Type 0} (Done : Option Joined → Told → Option Joined → Type 0) (wake : Told → ℕ)
+    (before : Option Contents) (code : ℕ) (told : Told) (after : Option Contents) : Type 0 where
   pub carried_out : code ≡ OK → Done (member_in before) told (member_in after)
+  pub owes : code ≡ OK → SaysOwed (wake told) (member_in after)
   pub misses : code ≡ LOCK_HELD → Missing (member_in before) (member_in after)
   pub refused : code ≢ OK → code ≢ LOCK_HELD → after ≡ before
   pub codes : IsOneOf code (OK ∷ LOCK_HELD ∷ NO_HANDLE ∷ WAITS ∷ [])
@@ -88,8 +90,8 @@ pub record BatchAnswers {Told : Type 0} (Done : Option Joined → Told → Optio
 
 -- of pushes of these items
 abbrev pub PushManyAnswers : List PlainItem → Option Contents → ℕ → PlainBatch → Option Contents → Type 0
-PushManyAnswers items = BatchAnswers (λ was told is. PushingMany items was told is)
+PushManyAnswers items = BatchAnswers (λ was told is. PushingMany items was told is) (λ told. told.owes_wake)
 
 -- of pops up to this bound, by which the buffer, which had the first items, has the second
 abbrev pub PopManyAnswers : ℕ → List PlainItem → List PlainItem → Option Contents → ℕ → PlainPopped → Option Contents → Type 0
-PopManyAnswers bound from into = BatchAnswers (λ was told is. PoppingMany bound from into was told is)
+PopManyAnswers bound from into = BatchAnswers (λ was told is. PoppingMany bound from into was told is) (λ told. told.batch.owes_wake)

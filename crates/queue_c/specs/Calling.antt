@@ -9,7 +9,7 @@ use Rattle.flat_queue.specs.Members.{Joined}
 use Rattle.queue_pool.specs.declared.shared.Undone.{Undone}
 use Rattle.queue_pool.specs.declared.shared.Undone.TheVariants.{Waits, Spent}
 use Rattle.queue_pool.specs.Calling.{LeadsBehindLookBy, MissesBehindLookBy}
-use Rattle.queue_c.specs.Calls.{IsOneOf, CarryingOut, Looking, Missing, words_of_item}
+use Rattle.queue_c.specs.Calls.{IsOneOf, CarryingOut, SaysOwed, Looking, Missing, words_of_item}
 use Rattle.queue_c.specs.Handles.{member_in, owner_in}
 use Rattle.queue_c.specs.Plain.{Tells}
 use Rattle.queue_c.specs.declared.codes.TheConstants.{IDLE, LOCK_HELD, NO_HANDLE, OK, POSTS_SPENT}
@@ -34,11 +34,14 @@ IsTold (Err Waits) code told = code ≡ WAITS
 IsTold (Err Spent) code told = code ≡ POSTS_SPENT
 IsTold (Err why) code told = code ≡ LOCK_HELD
 
--- A call that carries this request out: its line has this reply, and its number alone is told; or the whole answer is told.
+-- A call that carries this request out: its line has this reply, its number alone is told, and no wake is owed; or the whole answer
+-- is told, and whether one is.
 pub record TryCallAnswers (before : Option Contents) (request : Request) (reply : Reply) (code : ℕ) (told : PlainAnswer)
     (after : Option Contents) : Type 0 where
   pub entered : code ≡ OK → CarryingOut (member_in before) request (λ answer. answer ≡ Entered told.line reply) (member_in after)
   pub answered : code ≡ TOLD → CarryingOut (member_in before) request (Tells told) (member_in after)
+  pub settled : code ≡ OK → SaysOwed 0 (member_in after)
+  pub owes : code ≡ TOLD → SaysOwed told.owes_wake (member_in after)
   pub misses : code ≡ LOCK_HELD → Missing (member_in before) (member_in after)
   pub refused : code ≢ OK → code ≢ TOLD → code ≢ LOCK_HELD → after ≡ before
   pub codes : IsOneOf code (OK ∷ TOLD ∷ LOCK_HELD ∷ POSTS_SPENT ∷ NO_HANDLE ∷ WAITS ∷ [])

@@ -1,5 +1,5 @@
 -- What the calls for C make of what their handles hold.
-use Rattle.std.specs.Prelude.{◌≡◌, ℕ, ◌+◌, ◌<◌, ◌⊎◌, true, List, [], ◌∷◌}
+use Rattle.std.specs.Prelude.{◌≡◌, ℕ, ◌+◌, ◌<◌, ◌≤◌, ◌↔◌, ◌⊎◌, true, List, [], ◌∷◌}
 use Rattle.std.specs.Prelude.{length, slice_get, Option, Some, None, Result, Ok, Err}
 use Rattle.std.specs.Option.{MatchOption}
 use Rattle.pq_types.specs.Asked.{Request}
@@ -12,6 +12,7 @@ use Rattle.split_core.specs.Ids.{OpenGrid}
 use Rattle.desk_core.specs.Pen.{after_miss}
 use Rattle.desk_core.specs.Words.{word_number}
 use Rattle.announce_board.specs.Tokens.{is_idle}
+use Rattle.announce_board.specs.Waking.{owes_any}
 use Rattle.announce_board.specs.Asking.{asked_by, LooksBy}
 use Rattle.flat_queue.specs.Limits.{most_posts}
 use Rattle.flat_queue.specs.OwnRequest.{CarriesOutBy}
@@ -70,6 +71,11 @@ CarryingOut (Some before) request tells (Some after) =
     (is_idle before.pen.standing ≡ true) × (before.pen.posts < most_posts before.queue.room)
     × ((answer : Answer) × CarriesOutBy words_of_item before request answer after × tells answer)
 CarryingOut before request tells after = ⊥
+
+-- this word, 1 or 0, says whether the member owes a wake
+abbrev pub SaysOwed : ℕ → Option Joined → Type 0
+SaysOwed wake None = ⊥
+SaysOwed wake (Some member) = (wake ≤ 1) × ((wake ≡ 1) ↔ (owes_any member.pen.owed ≡ true))
 
 -- the waiting member has looked at its record, and found the answer that is told; by that it owes no wake
 abbrev pub Looking : Option Joined → PlainAnswer → Option Joined → Type 0

@@ -9,7 +9,7 @@ use Rattle.announce_board.specs.Tokens.{is_idle}
 use Rattle.flat_queue.specs.Members.{Joined}
 use Rattle.flat_queue.specs.Peeking.{PeeksBy}
 use Rattle.flat_queue.specs.declared.peeking.Peeked.{Peeked}
-use Rattle.queue_c.specs.Calls.{IsOneOf, Missing, words_of_item}
+use Rattle.queue_c.specs.Calls.{IsOneOf, Missing, SaysOwed, words_of_item}
 use Rattle.queue_c.specs.Handles.{member_in, owner_in}
 use Rattle.queue_c.specs.Plain.{Tells}
 use Rattle.queue_c.specs.declared.codes.TheConstants.{LOCK_HELD, NO_HANDLE, OK, TOLD, WAITS}
@@ -34,10 +34,12 @@ abbrev pub Peeking : Option Joined → Peeked Item → Option Joined → Type 0
 Peeking (Some before) seen (Some after) = (is_idle before.pen.standing ≡ true) × PeeksBy words_of_item before seen after
 Peeking before seen after = ⊥
 
--- A peek: its item is told, and how many lines the journal had, alone; or all that it saw, and whether a wake is owed.
+-- A peek: its item is told, and how many lines the journal had, alone, and no wake is owed; or all that it saw, and whether one is.
 pub record PeekAnswers (before : Option Contents) (code : ℕ) (first : Item) (told : PlainAnswer) (after : Option Contents) : Type 0 where
   pub peeked : code ≡ OK → Peeking (member_in before) (seen_first first told.line) (member_in after)
   pub answered : code ≡ TOLD → (seen : Peeked Item) × Peeking (member_in before) seen (member_in after) × Tells told (seen_as seen)
+  pub settled : code ≡ OK → SaysOwed 0 (member_in after)
+  pub owes : code ≡ TOLD → SaysOwed told.owes_wake (member_in after)
   pub misses : code ≡ LOCK_HELD → Missing (member_in before) (member_in after)
   pub refused : code ≢ OK → code ≢ TOLD → code ≢ LOCK_HELD → after ≡ before
   pub codes : IsOneOf code (OK ∷ TOLD ∷ LOCK_HELD ∷ NO_HANDLE ∷ WAITS ∷ [])

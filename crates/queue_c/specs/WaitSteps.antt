@@ -7,7 +7,7 @@ use Rattle.pq_types.specs.Asked.{Answer}
 use Rattle.pq_types.specs.declared.answer.Answer.TheVariants.{Refused}
 use Rattle.pq_types.specs.declared.answer.Refusal.TheVariants.{Full}
 use Rattle.desk_core.specs.Pen.{after_hand_out}
-use Rattle.announce_board.specs.Waking.{IsMaskOf, owes_any}
+use Rattle.announce_board.specs.Waking.{IsMaskOf}
 use Rattle.announce_board.specs.Tokens.{is_idle}
 use Rattle.flat_queue.specs.Limits.{most_posts}
 use Rattle.flat_queue.specs.Looking.{Looked}
@@ -22,7 +22,7 @@ use Rattle.flat_queue.specs.declared.wait_steps.PushedOr.TheVariants as pushed
 use Rattle.flat_queue.specs.declared.wait_steps.RoomWait.{RoomWait}
 use Rattle.flat_queue.specs.declared.wait_steps.RoomWait.TheVariants.{Sleeps, Listens}
 use Rattle.queue_pool.specs.Shared.{MayCall}
-use Rattle.queue_c.specs.Calls.{IsOneOf, Missing, words_of_item}
+use Rattle.queue_c.specs.Calls.{IsOneOf, Missing, SaysOwed, words_of_item}
 use Rattle.queue_c.specs.Handles.{member_in, owner_in}
 use Rattle.queue_c.specs.Looking.{told_as}
 use Rattle.queue_c.specs.Plain.{Tells}
@@ -58,17 +58,13 @@ wait_of number wants priority = both (number_of number) (patience_of wants prior
 abbrev pub room_wait : ℕ → RoomWait
 room_wait listens = if listens == 0 then Sleeps else Listens
 
--- this is the answer for C, and says that a wake is owed where the member owes one
-abbrev pub TellsAll : PlainAnswer → Answer → Joined → Type 0
-TellsAll told answer after = Tells told answer × (owes_any after.pen.owed ≡ true → told.owes_wake ≡ 1)
-
 -- The idle member has found the lock free, and taken the first item out up to this priority, or waits under this number, where it
 -- has such patience. It stands so then, and what it looked at is told.
 abbrev pub TakingOrWaiting : Option Joined → ℕ → Option (ℕ × Patience) → Entry → PlainAnswer → Option Joined → Type 0
 TakingOrWaiting (Some before) bound (Some wait) stands told (Some after) =
     MayCall before
     × ((seen : Looked) × TakesOrWaitsBy words_of_item wait.0 (UpTo bound) wait.1 before seen stands after
-    × TellsAll told (told_as seen) after)
+    × Tells told (told_as seen))
 TakingOrWaiting before bound wait stands told after = ⊥
 
 -- The idle member has found the lock free, and carried the push of this item out, with the answer that is told, which is not that
@@ -77,13 +73,13 @@ abbrev pub Pushing : Option Joined → Option ℕ → Item → RoomWait → Plai
 Pushing (Some before) (Some number) x wait told (Some after) =
     MayCall before
     × ((answer : Answer) × PushesOrWaitsBy words_of_item number x wait before (pushed.Answered answer) after
-    × (answer ≢ Refused Full) × TellsAll told answer after)
+    × (answer ≢ Refused Full) × Tells told answer)
 Pushing before number x wait told after = ⊥
 
 -- the idle member has found the lock free, and waits for room under this number, and it is told that the queue is full
 abbrev pub WaitingForRoom : Option Joined → Option ℕ → Item → RoomWait → PlainAnswer → Option Joined → Type 0
 WaitingForRoom (Some before) (Some number) x wait told (Some after) =
-    MayCall before × PushesOrWaitsBy words_of_item number x wait before pushed.Waits after × TellsAll told (Refused Full) after
+    MayCall before × PushesOrWaitsBy words_of_item number x wait before pushed.Waits after × Tells told (Refused Full)
 WaitingForRoom before number x wait told after = ⊥
 
 -- the member has found the lock free, and those of the mask are among those who wait no more
@@ -103,6 +99,7 @@ pub record TakeOrWaitAnswers (before : Option Contents) (bound : ℕ) (wait : Op
   pub out : code ≡ OK → TakingOrWaiting (member_in before) bound wait entry.Out told (member_in after)
   pub entered : code ≡ ENTERED → TakingOrWaiting (member_in before) bound wait entry.Waits told (member_in after)
   pub watches : code ≡ WATCHES → TakingOrWaiting (member_in before) bound wait entry.Watches told (member_in after)
+  pub owes : IsOneOf code (OK ∷ ENTERED ∷ WATCHES ∷ []) → SaysOwed told.owes_wake (member_in after)
   pub misses : code ≡ LOCK_HELD → Missing (member_in before) (member_in after)
   pub refused : code ≢ OK → code ≢ ENTERED → code ≢ WATCHES → code ≢ LOCK_HELD → after ≡ before
   pub codes : IsOneOf code (OK ∷ ENTERED ∷ WATCHES ∷ LOCK_HELD ∷ POSTS_SPENT ∷ NO_HANDLE ∷ WAITS ∷ UNKNOWN ∷ [])
@@ -117,6 +114,7 @@ pub record PushOrWaitAnswers (before : Option Contents) (number : Option ℕ) (x
     (told : PlainAnswer) (after : Option Contents) : Type 0 where
   pub out : code ≡ OK → Pushing (member_in before) number x wait told (member_in after)
   pub entered : code ≡ ENTERED → WaitingForRoom (member_in before) number x wait told (member_in after)
+  pub owes : IsOneOf code (OK ∷ ENTERED ∷ []) → SaysOwed told.owes_wake (member_in after)
   pub misses : code ≡ LOCK_HELD → Missing (member_in before) (member_in after)
   pub refused : code ≢ OK → code ≢ ENTERED → code ≢ LOCK_HELD → after ≡ before
   pub codes : IsOneOf code (OK ∷ ENTERED ∷ LOCK_HELD ∷ POSTS_SPENT ∷ NO_HANDLE ∷ WAITS ∷ UNKNOWN ∷ [])

@@ -5,6 +5,7 @@ ghost use Rattle.pq_types.specs.Item.{item};
 ghost use Rattle.pq_types.specs.declared.answer.Answer.TheVariants.{Entered};
 ghost use Rattle.pq_types.specs.declared.answer.Reply.TheVariants.{Pushed, Got};
 ghost use Rattle.pq_types.specs.declared.request.Request.TheVariants.{Push, Pop};
+ghost use Rattle.queue_c.specs.Calls.{SaysOwed};
 ghost use Rattle.queue_c.specs.Plain.{plain_item};
 ghost use Rattle.queue_c.specs.Calling.{IsTold, TryCallAnswers, StepAnswerAnswers};
 ghost use Rattle.queue_c.specs.declared.codes.TheConstants.{OK, TOLD};
@@ -26,6 +27,7 @@ type Tried = Result<Answer<Item<u64>>, Undone>;
 #[inline(never)]
 fn tell(member: &QueueMember, tried: Tried, answer: &mut PlainAnswer) -> u32
     ensures told { IsTold tried result answer.new }
+    ensures owes { result ≡ TOLD → SaysOwed answer.new.owes_wake (Some member.now) }
     ensures untold { result ≢ TOLD → answer.new ≡ answer.old }
 {
     match tried {
@@ -43,6 +45,7 @@ fn tell(member: &QueueMember, tried: Tried, answer: &mut PlainAnswer) -> u32
 #[inline(always)]
 fn tell_other(member: &QueueMember, tried: &Tried, answer: &mut PlainAnswer) -> u32
     ensures told { IsTold tried.now result answer.new }
+    ensures owes { result ≡ TOLD → SaysOwed answer.new.owes_wake (Some member.now) }
     ensures untold { result ≢ TOLD → answer.new ≡ answer.old }
 {
     let other = *tried;

@@ -209,8 +209,8 @@ PQ_CHECKED pq_code pq_remove(pq_member *member, uint64_t ticket, pq_item *item, 
 PQ_CHECKED pq_code pq_reschedule(pq_member *member, uint64_t ticket, uint64_t priority, uint64_t until, uint64_t *number);
 
 /* For event loops and futures. A member listens for one thing at a time: a call to listen for another ends that. It may push, pop and peek
-   meanwhile. 32 may listen at once, and up to 26 more: one fewer for each thread that waits for an item or for room. Of two or more members a
-   joined one may not listen if all others are joined, and wait or listen. A call that may not listen returns PQ_ALL_JOINED.
+   meanwhile. 32 may listen at once, and up to 26 more: one fewer for each thread that waits for an item or for room. If all other
+   members are joined, and wait or listen, the last one may not listen, unless the queue has only one. Who may not gets PQ_ALL_JOINED.
    An item wakes one thread in pq_take. If no thread waits there, as many listeners of pq_take_or_listen are notified as there are items that
    they can take, first come first served. If no thread in pq_take was woken, one in pq_take_due is, unless one there wakes in time by itself. */
 

@@ -42,7 +42,8 @@ errors! {
     AllJoined = 41,
     /// Some of these journal entries are no longer in memory.
     Forgotten = 49,
-    /// To a push: the queue is shut. To a take, a listener or a future: it is shut and empty. Pops and peeks never return it.
+    /// To a push, also `push_async`: the queue is shut. To a take, also by a listener or a future: it is shut and empty. Pops, removals, moves
+    /// and peeks never return it.
     Shut = 51,
     /// The request could make memory forget a journal entry that is not archived.
     Unarchived = 52,

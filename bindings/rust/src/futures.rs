@@ -178,7 +178,8 @@ impl<K: Key, T: Send> TaskMember<K, T> {
     }
 
     /// Takes the first payload out if its key is at most this one. Else the context's task is woken once a payload comes that may be for it, or
-    /// the queue is shut. After [`Due::Later`] the program calls it again once that key is within its bound: nothing wakes for that.
+    /// the queue is shut. After [`Due::Later`] the program calls it again once that key is within its bound: nothing wakes for that. While other
+    /// threads have the lock it returns [`Due::Empty`], and the task is woken again.
     ///
     /// At one queue pass fixed bounds in all such calls, or the current time in all; `take_due_async` passes the current time. Else a payload that
     /// isn't due yet may wake only one with a fixed bound, which leaves it there. It may then stay in the queue once it is due.

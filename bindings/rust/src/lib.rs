@@ -42,8 +42,8 @@
 //!   push's entry, and [`read_from`](TaskJournal::read_from) reads the file back, of a [`Queue`] alone. So push ids, and store payloads yourself.
 //! - A [`Queue`] is one of integers.
 //!
-//! The queue is linearizable and lock-based. While other threads call without pause, each call but a `push` or `pop` without a deadline may starve.
-//! Of n payloads a push, a pop or a take costs O(log n).
+//! The queue is linearizable and lock-based. While other threads call without pause, calls may starve, except `shut`, and a `push` or `pop`
+//! without a deadline. Of n payloads a push, a pop or a take costs O(log n).
 //!
 //! All that a thread does before it pushes or moves a payload happens before whatever a thread does after a call that returned this payload.
 //!

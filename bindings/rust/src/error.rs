@@ -42,8 +42,8 @@ errors! {
     AllJoined = 41,
     /// Some of these journal entries are no longer in memory.
     Forgotten = 49,
-    /// To a push, also `push_async`: the queue is shut. To a take, also by a listener or a future: it is shut and empty. Pops, removals, moves
-    /// and peeks never return it.
+    /// To a push, also `push_async`: the queue is shut. To a take, a future, or any call of a listener, also its
+    /// `pop_due`: it is shut and empty. Other pops, removals, moves and peeks never return it.
     Shut = 51,
     /// The request could make memory forget a journal entry that is not archived.
     Unarchived = 52,
@@ -204,7 +204,7 @@ pub enum Due<K, T> {
     Got(K, T),
     /// The first payload has this key, and stays.
     Later(K),
-    /// There is none; of a listener also: other threads had the lock, or all members.
+    /// There is none; of a listener or `take_or_listen` also: other threads had the lock, or all members.
     Empty,
 }
 

@@ -265,7 +265,7 @@ impl<K: Key, T: Send> TaskQueue<K, T> {
     }
 
     /// Puts a payload in, and waits by a future while the queue has no room, as [`TaskMember::push_async`] does. It joins only if the
-    /// queue has no room, and then waits for its turn as [`TaskQueue::take_async`] does. Unlike `push` it never blocks the thread, also without a bound.
+    /// queue has no room, or other threads have the lock or all members, and then waits for its turn as [`TaskQueue::take_async`] does. Unlike `push` it never blocks the thread, also without a bound.
     ///
     /// # Errors
     ///

@@ -33,7 +33,7 @@ static void *wait_by_timer(void *unused) {
     (void)unused;
     timer.fd = timerfd_create(CLOCK_MONOTONIC, 0);
     while ((code = pq_take_due_or_listen(pq_own(timers), timer.fd, &item, NULL)) != PQ_OK) {
-        CHECK(code == PQ_NOT_DUE && poll(&timer, 1, -1) == 1);
+        CHECK((code == PQ_NOT_DUE || code == PQ_EMPTY) && poll(&timer, 1, -1) == 1); /* PQ_EMPTY: others have the lock */
     }
     CHECK(item.priority == 0 && close(timer.fd) == 0);
     return NULL;
